@@ -1,0 +1,35 @@
+-- An automaton by its parts, its walks, and the words that it accepts (document 01, "Opening and the compiled form").
+-- Letters are numbered from 1; 0 stands for 'no letter yet'. Assumes nothing.
+use Prim.Native.Nat.{ℕ, _≤_, _<_}
+use mathlib.Core.Path.{_≡_, refl}
+use mathlib.Core.Bool.{Bool, true, false}
+use mathlib.Core.List.{List, [], _∷_, map}
+
+-- how many letters; the label of a letter; whether a letter may stand behind another, behind 0 if it may be first; whether a word may
+-- end behind a letter, behind 0 if the empty word is accepted
+pub record Automaton : Type 0 where
+  pub letters : ℕ
+  pub label : ℕ → ℕ
+  pub follow : ℕ → ℕ → Bool
+  pub ends : ℕ → Bool
+
+-- the letters, one behind another from letter i on, are a walk to a place where a word may end
+abbrev pub Walk : Automaton → ℕ → List ℕ → Type 0
+Walk A i [] = A .ends i ≡ true
+Walk A i (j ∷ js) = (A .follow i j ≡ true) × Walk A j js
+
+-- what a list of letters spells
+abbrev pub spelt : Automaton → List ℕ → List ℕ
+spelt A js = map (A .label) js
+
+-- a walk that spells the word behind letter i
+abbrev pub Spells : Automaton → ℕ → List ℕ → Type 0
+Spells A i w = (js : List ℕ) × Walk A i js × (spelt A js ≡ w)
+
+abbrev pub Accepts : Automaton → List ℕ → Type 0
+Accepts A w = Spells A 0 w
+
+-- arcs lead to letters, and letters have labels 1 to k
+pub record Proper (k : ℕ) (A : Automaton) : Type 0 where
+  pub target : (i j : ℕ) → A .follow i j ≡ true → (1 ≤ j) × (j ≤ A .letters)
+  pub labelled : (j : ℕ) → 1 ≤ j → j ≤ A .letters → (1 ≤ A .label j) × (A .label j ≤ k)

@@ -1,0 +1,1 @@
+// Automata by their parts, the words that they accept, and the compiled form as their encoding: see specs/.

@@ -1,0 +1,1 @@
+// Collapse and spread of connectionist temporal classification (CTC), as definitions and laws: see specs/.

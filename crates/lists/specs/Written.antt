@@ -1,0 +1,87 @@
+-- Lent memory of which a beginning was written: what every promise says of a lent list, and the loop that writes it from the front.
+-- Assumes nothing.
+use Prim.Native.Nat.{ℕ, zero, suc, _+_, _-_, _<_, _≤_}
+use mathlib.Core.Path.{_≡_, refl, sym, ap, ap₂, _∙_, subst}
+use mathlib.Core.List.{List, [], _∷_, _++_, append-assoc, append-nil}
+use native.Mathlib.Numerals.{add-one}
+use native.Mathlib.Omega.{arith}
+use lib.ListN.{length, getD, take, drop, set, length-append, length-take, length-drop}
+use lib.Seq.{drop-cons, take-suc, set-at, sets, length-take-le, take-length, drop-drop, take-all}
+
+module _ {A : Type 0} where
+  -- the list in front, and behind it the memory as it was
+  unfoldable pub written : List A → List A → List A
+  written w m = w ++ drop (length w) m
+
+  pub written-none : (m : List A) → written [] m ≡ m
+  unfolding written
+  written-none m = refl
+
+  pub length-written : (w m : List A) → length w ≤ length m → length (written w m) ≡ length m
+  unfolding written
+  length-written w m h = simp (length-append, length-drop) (omega arith)
+
+  -- one more element
+  pub written-more : (w m : List A) (n : ℕ) (a : A) → length w ≡ n → n < length m → set (written w m) n a ≡ written (w ++ (a ∷ [])) m
+  unfolding written
+  written-more w m n a e h =
+      let size : suc n ≡ length (w ++ (a ∷ [])) = simp length-append (omega arith) in
+      ap (λ l. set (w ++ l) n a) (ap (λ k. drop k m) e ∙ drop-cons m n a h)
+      ∙ set-at w (getD m n a) (drop (suc n) m) a n e
+      ∙ sym (append-assoc w (a ∷ []) (drop (suc n) m))
+      ∙ ap (λ k. (w ++ (a ∷ [])) ++ drop k m) size
+
+  -- In a loop that writes `whole` from the front of `memory`: n elements are written, and `todo` is still to come.
+  pub record Filling (whole memory : List A) (present todo : List A) (n : ℕ) : Type 0 where
+    pub room : length whole ≤ length memory
+    pub within : n ≤ length whole
+    pub left : drop n whole ≡ todo
+    pub so-far : present ≡ written (take n whole) memory
+
+  module _ (whole memory : List A) where
+    pub filling-none : length whole ≤ length memory → Filling whole memory memory whole 0
+    filling-none h = record { room = h; within = omega arith; left = refl; so-far = sym (written-none memory) }
+
+    shorter : (todo : List A) (n : ℕ) (x : A) → drop n whole ≡ x ∷ todo → n < length whole
+    shorter todo n x e = let l = ap length e in omega (arith, length-drop n whole)
+
+    pub filling-more :
+        (present todo : List A) (n : ℕ) (x : A) → Filling whole memory present (x ∷ todo) n → Filling whole memory (set present n x) todo (n + 1)
+    filling-more present todo n x f =
+        let h : n < length whole = shorter todo n x (f .left) in
+        let r : length whole ≤ length memory = f .room in
+        let both : getD whole n x ∷ drop (suc n) whole ≡ x ∷ todo = sym (drop-cons whole n x h) ∙ f .left in
+        let one : getD whole n x ≡ x = cc in
+        let size : length (take n whole) ≡ n = length-take-le n whole (f .within) in
+        record {
+          room = r;
+          within = omega arith;
+          left = ap (λ k. drop k whole) (add-one n) ∙ (cc);
+          so-far =
+              ap (λ l. set l n x) (f .so-far)
+              ∙ written-more (take n whole) memory n x size (omega arith)
+              ∙ ap (λ l. written l memory) (ap (λ a. take n whole ++ (a ∷ [])) (sym one) ∙ sym (take-suc whole n x h) ∙ ap (λ k. take k whole) (sym (add-one n)));
+        }
+
+    -- several at once
+    pub filling-some :
+        (c present todo : List A) (n : ℕ) → Filling whole memory present (c ++ todo) n → Filling whole memory (sets present n c) todo (n + length c)
+    filling-some [] present todo n f = subst (Filling whole memory present todo) (omega arith) f
+    filling-some (x ∷ c) present todo n f =
+        subst (Filling whole memory (sets present n (x ∷ c)) todo) (omega arith)
+        (subst (λ k. Filling whole memory (sets (set present n x) k c) todo (k + length c)) (add-one n)
+        (filling-some c (set present n x) todo (n + 1) (filling-more present (c ++ todo) n x f)))
+
+    pub filling-fits : (c present todo : List A) (n : ℕ) → Filling whole memory present (c ++ todo) n → n + length c ≤ length whole
+    filling-fits c present todo n f = let l = ap length (f .left) in let w = f .within in omega (arith, length-drop n whole, length-append c todo)
+
+    pub filling-length : (present todo : List A) (n : ℕ) → Filling whole memory present todo n → length present ≡ length memory
+    filling-length present todo n f =
+        let r = f .room in
+        ap length (f .so-far) ∙ length-written (take n whole) memory (let z = length-take-le n whole (f .within) in omega arith)
+
+    pub filling-all : (present : List A) (n : ℕ) → Filling whole memory present [] n → (n ≡ length whole) × (present ≡ written whole memory)
+    filling-all present n f =
+        let w = f .within in
+        let e : n ≡ length whole = let l = ap length (f .left) in omega (arith, length-drop n whole) in
+        (e, f .so-far ∙ ap (λ l. written l memory) (ap (λ k. take k whole) e ∙ take-length whole))

@@ -1,0 +1,1 @@
+// Facts on lists, booleans, orders and loops, each said once: see specs/.

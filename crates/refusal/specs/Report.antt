@@ -1,0 +1,46 @@
+-- What a call reports: 0 or the refusal's number, the price and the lengths, all of them zero at a refusal; and what a call that
+-- fills one list promises. Assumes nothing.
+use Prim.Native.Nat.{ℕ}
+use mathlib.Core.Path.{_≡_, refl, ap, _∙_}
+use mathlib.Core.List.{List, []}
+use lib.ListN.{length}
+use Rattle.lists.specs.Written.{written}
+use Rattle.refusal.specs.declared.Refusal.{Refusal}
+use Rattle.refusal.specs.declared.Counted.{Counted}
+use Rattle.refusal.specs.declared.Counted.the-variants.{Filled, Refused}
+use Rattle.refusal.specs.Number.{numberOf}
+use Rattle.refusal.specs.Verdict.{Verdict, passed, refused}
+
+pub record Report : Type 0 where
+  pub number : ℕ
+  pub price : ℕ
+  pub filled : ℕ
+  pub form : ℕ
+
+-- a refusal's report
+abbrev pub turned-away : Refusal → Report
+turned-away n = record { number = numberOf n; price = 0; filled = 0; form = 0 }
+
+-- the report of a list filled
+abbrev pub counted : ℕ → Report
+counted n = record { number = 0; price = 0; filled = n; form = 0 }
+
+abbrev pub reported : Counted → Report
+reported (Filled n) = counted n
+reported (Refused n) = turned-away n
+
+module _ {A : Type 0} where
+  abbrev pub report : Verdict (List A) → Report
+  report (passed w) = counted (length w)
+  report (refused n) = turned-away n
+
+  -- what is written of it
+  abbrev pub filling : Verdict (List A) → List A
+  filling (passed w) = w
+  filling (refused n) = []
+
+  -- The promise of a call that fills one list: its report, and the lent memory, which begins with what the verdict gives and is
+  -- otherwise as it was.
+  pub record Fills (verdict : Verdict (List A)) (answer : Report) (before after : List A) : Type 0 where
+    pub answered : answer ≡ report verdict
+    pub memory : after ≡ written (filling verdict) before

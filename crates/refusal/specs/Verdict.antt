@@ -1,0 +1,33 @@
+-- What a call makes of its input: it is turned away by the first test that holds, or passes. The order of the tests is the list's
+-- and never that of the numbers. Assumes nothing.
+use mathlib.Core.Path.{_≡_, refl, sym, ap, _∙_}
+use mathlib.Core.Bool.{Bool, true, false}
+use mathlib.Core.List.{List, [], _∷_}
+use Rattle.refusal.specs.declared.Refusal.{Refusal}
+
+pub data Verdict (A : Type 0) : Type 0 where
+  passed : A → Verdict A
+  refused : Refusal → Verdict A
+
+-- a test on the input, and the row that turns it away where the test holds
+pub data Check : Type 0 where
+  check : Bool → Refusal → Check
+
+-- what the input gets, unless one of the checks holds: then the row of the first that does
+unfoldable pub unless : {A : Type 0} → List Check → A → Verdict A
+unless [] a = passed a
+unless (check true n ∷ cs) a = refused n
+unless (check false n ∷ cs) a = unless cs a
+
+module _ {A : Type 0} (a : A) where
+  pub unless-none : unless [] a ≡ passed a
+  unfolding unless
+  unless-none = refl
+
+  pub unless-holds : (t : Bool) (n : Refusal) (cs : List Check) → t ≡ true → unless (check t n ∷ cs) a ≡ refused n
+  unfolding unless
+  unless-holds t n cs e = rw e
+
+  pub unless-fails : (t : Bool) (n : Refusal) (cs : List Check) → t ≡ false → unless (check t n ∷ cs) a ≡ unless cs a
+  unfolding unless
+  unless-fails t n cs e = rw (e, unless)
