@@ -1,3 +1,5 @@
 pub mod Order
 pub mod Each
 pub mod Written
+pub mod Among
+pub mod Ascending
