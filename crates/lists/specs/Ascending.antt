@@ -8,7 +8,7 @@ use mathlib.Core.List.{List, [], _∷_, _++_, map, flatMap}
 use native.Mathlib.Nat.{le-of-suc-le-suc, not-suc-le-zero}
 use native.Mathlib.Omega.{arith}
 use lib.ListN.{length, getD}
-use Rattle.lists.specs.Each.{Each, each-append}
+use Rattle.lists.specs.Each.{Each, each-append, each-at}
 use Rattle.lists.specs.Order.{eq-or-ne}
 use Rattle.lists.specs.Among.{Among, keep, keeping, keep-among, among-each, each-among, map-among, flat-among}
 
@@ -47,6 +47,12 @@ numbers-among a (suc n) i (inr m) = let r = numbers-among (suc a) n i m in (omeg
 abbrev pub Ascending : List ℕ → Type 0
 Ascending [] = Unit {0}
 Ascending (x ∷ xs) = Each (λ y. x < y) xs × Ascending xs
+
+pub ascending-at : (d : ℕ) (xs : List ℕ) (i j : ℕ) → Ascending xs → i < j → j < length xs → getD xs i d < getD xs j d
+ascending-at d [] i j h l g = absurd (not-suc-le-zero g)
+ascending-at d (x ∷ xs) i zero h l g = absurd (not-suc-le-zero l)
+ascending-at d (x ∷ xs) zero (suc j) h l g = each-at (λ y. x < y) d xs j (le-of-suc-le-suc g) (h .0)
+ascending-at d (x ∷ xs) (suc i) (suc j) h l g = ascending-at d xs i j (h .1) (le-of-suc-le-suc l) (le-of-suc-le-suc g)
 
 pub ascending-numbers : (a n : ℕ) → Ascending (numbers a n)
 unfolding numbers
