@@ -1,3 +1,4 @@
 pub mod Automaton
 pub mod Form
 pub mod Accepted
+pub mod Valid
