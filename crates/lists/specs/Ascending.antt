@@ -22,11 +22,11 @@ unfolding numbers
 length-numbers a zero = refl
 length-numbers a (suc n) = ap suc (length-numbers (suc a) n)
 
-pub numbers-at : (a n i d : ℕ) → i < n → getD (numbers a n) i d ≡ a + i
+pub map-numbers-at : {A : Type 0} (f : ℕ → A) (a n i : ℕ) (d : A) → i < n → getD (map f (numbers a n)) i d ≡ f (a + i)
 unfolding numbers
-numbers-at a zero i d l = absurd (not-suc-le-zero l)
-numbers-at a (suc n) zero d l = omega arith
-numbers-at a (suc n) (suc i) d l = numbers-at (suc a) n i d (le-of-suc-le-suc l) ∙ (omega arith)
+map-numbers-at f a zero i d l = absurd (not-suc-le-zero l)
+map-numbers-at f a (suc n) zero d l = ap f (omega arith)
+map-numbers-at f a (suc n) (suc i) d l = map-numbers-at f (suc a) n i d (le-of-suc-le-suc l) ∙ ap f (omega arith)
 
 pub among-numbers : (a n i : ℕ) → a ≤ i → i < a + n → Among i (numbers a n)
 unfolding numbers
