@@ -2,3 +2,4 @@ pub mod Automaton
 pub mod Form
 pub mod Accepted
 pub mod Valid
+pub mod Encode

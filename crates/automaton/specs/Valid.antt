@@ -106,7 +106,7 @@ before-less l w v a b = by (lt-or-le (source w) (source v)) (eq-or-ne (source w)
     by (inr s) (inl e) (inr t) = rw (le-ltb (source w) (source v) s, eq-eqb (source w) (source v) e, le-ltb (target w) (target v) t, le-ltb w v (omega arith))
     by (inr s) (inr e) t = rw (le-ltb (source w) (source v) s, ne-eqb (source w) (source v) e, le-ltb w v (omega arith))
 
-letter-at : (f : List ℕ) (i : ℕ) → 1 ≤ i → i ≤ lettersOf f → getD (letterWords f) (i - 1) 0 ≡ getD f i 0
+pub letter-at : (f : List ℕ) (i : ℕ) → 1 ≤ i → i ≤ lettersOf f → getD (letterWords f) (i - 1) 0 ≡ getD f i 0
 letter-at f i l h = getD-take (lettersOf f) (drop 1 f) (i - 1) 0 (omega arith) ∙ getD-drop 1 f (i - 1) 0 ∙ ap (λ n. getD f n 0) (omega arith)
 
 arc-at : (f : List ℕ) (n : ℕ) → lettersOf f < n → getD (arcWords f) (n - suc (lettersOf f)) 0 ≡ getD f n 0
@@ -227,17 +227,19 @@ follow-arc f (suc i) j l e =
       to = ap target at ∙ eqb-true (target (r .0)) j (and-right (eqb (source (r .0)) (suc i)) (eqb (target (r .0)) j) (r .2));
     }
 
-pub arc-follow : (f : List ℕ) (i j : ℕ) → 1 ≤ i → ArcAt f i j → followOf f i j ≡ true
+pub arc-among : (f : List ℕ) (n : ℕ) → lettersOf f < n → n < length f → Among (getD f n 0) (arcWords f)
+arc-among f n past inside =
+    subst (λ v. Among v (arcWords f)) (arc-at f n past) (among-at 0 (arcWords f) (n - suc (lettersOf f)) (omega (arith, length-arcWords f)))
+
+pub among-follow : (f : List ℕ) (w i j : ℕ) → 1 ≤ i → source w ≡ i → target w ≡ j → Among w (arcWords f) → followOf f i j ≡ true
 unfolding followOf
-arc-follow f zero j l a = absurd (omega arith)
-arc-follow f (suc i) j l a =
-    let n = a .index in
-    let past = a .past in
-    let inside = a .inside in
-    let w = getD f n 0 in
-    among-any (leads (suc i) j) w (arcWords f)
-    (subst (λ v. Among v (arcWords f)) (arc-at f n past) (among-at 0 (arcWords f) (n - suc (lettersOf f)) (omega (arith, length-arcWords f))))
-    (and-both (eqb (source w) (suc i)) (eqb (target w) j) (eq-eqb (source w) (suc i) (a .from)) (eq-eqb (target w) j (a .to)))
+among-follow f w zero j l s t m = absurd (omega arith)
+among-follow f w (suc i) j l s t m =
+    among-any (leads (suc i) j) w (arcWords f) m
+    (and-both (eqb (source w) (suc i)) (eqb (target w) j) (eq-eqb (source w) (suc i) s) (eq-eqb (target w) j t))
+
+pub arc-follow : (f : List ℕ) (i j : ℕ) → 1 ≤ i → ArcAt f i j → followOf f i j ≡ true
+arc-follow f i j l a = among-follow f (getD f (a .index) 0) i j l (a .from) (a .to) (arc-among f (a .index) (a .past) (a .inside))
 
 -- a letter's bits
 pub may-be-first : (f : List ℕ) (j : ℕ) → 1 ≤ j → j ≤ lettersOf f → followOf f 0 j ≡ bit8 (getD f j 0)
