@@ -3,3 +3,4 @@ pub mod Each
 pub mod Written
 pub mod Among
 pub mod Ascending
+pub mod Marks
