@@ -1,0 +1,3 @@
+pub mod Graph
+pub mod Impossible
+pub mod Togo
