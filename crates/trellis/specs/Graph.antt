@@ -35,5 +35,9 @@ module _ {S : Type 0} (G : Graph S) where
   pub way-split : (s : S) (x : ℕ) (p : List ℕ) → Way s (x ∷ p) → (s′ : S) × G .Step s x s′ × Way s′ p
   way-split s x p w = let l = w .leads in (l .0, l .1, record { end = w .end; leads = l .2; may = w .may })
 
+  -- a way of no label
+  pub way-here : (s : S) → G .Ends s → Way s []
+  way-here s e = record { end = s; leads = refl; may = e }
+
   pub way-none : (s : S) → Way s [] → G .Ends s
   way-none s w = subst (G .Ends) (sym (w .leads)) (w .may)

@@ -1,3 +1,5 @@
 pub mod Graph
 pub mod Impossible
 pub mod Togo
+pub mod Extended
+pub mod Accepted

@@ -7,7 +7,7 @@ use native.Mathlib.Omega.{arith}
 use lib.ListN.{length}
 use Rattle.lists.specs.Least.{Least, least-same, least-through}
 use Rattle.reading.specs.Matrix.{Matrix, cost, priceFrom}
-use Rattle.trellis.specs.Graph.{Graph, Leads, Way, way-step, way-split, way-none}
+use Rattle.trellis.specs.Graph.{Graph, Leads, Way, way-step, way-split, way-here, way-none}
 use Rattle.trellis.specs.Impossible.{TOP, plus}
 
 module _ {S : Type 0} (G : Graph S) (M : Matrix) where
@@ -26,7 +26,7 @@ module _ {S : Type 0} (G : Graph S) (M : Matrix) where
   togo-ends t s e =
       record {
         within = omega arith;
-        met = λ h. record { path = []; long = refl; way = record { end = s; leads = refl; may = e }; paid = refl };
+        met = λ h. record { path = []; long = refl; way = way-here G s e; paid = refl };
         least = λ n w. omega arith;
       }
 
