@@ -3,3 +3,4 @@ pub mod Impossible
 pub mod Togo
 pub mod Extended
 pub mod Accepted
+pub mod Beginning
