@@ -4,3 +4,4 @@ pub mod Togo
 pub mod Extended
 pub mod Accepted
 pub mod Beginning
+pub mod Trace
