@@ -5,3 +5,4 @@ pub mod Extended
 pub mod Accepted
 pub mod Beginning
 pub mod Trace
+pub mod Outcome

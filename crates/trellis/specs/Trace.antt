@@ -14,17 +14,17 @@ use Rattle.trellis.specs.Graph.{Graph, Way, way-step, way-split, way-her
 use Rattle.trellis.specs.Impossible.{TOP, plus}
 use Rattle.trellis.specs.Togo.{WayOf, CostToGo}
 
-module _ {S : Type 0} (G : Graph S) (M : Matrix) where
-  -- p is a way of n labels from a state of the set
-  pub record WayFrom (n : ℕ) (In : S → Type 0) (p : List ℕ) : Type 0 where
-    pub long : length p ≡ n
-    pub from : S
-    pub member : In from
-    pub way : Way G from p
+-- p is a way of n labels from a state of the set
+pub record WayFrom {S : Type 0} (G : Graph S) (n : ℕ) (In : S → Type 0) (p : List ℕ) : Type 0 where
+  pub long : length p ≡ n
+  pub from : S
+  pub member : In from
+  pub way : Way G from p
 
+module _ {S : Type 0} (G : Graph S) (M : Matrix) where
   -- the best of these, the first label in column t
   abbrev pub BestFrom : (t n : ℕ) → (S → Type 0) → List ℕ → Type 0
-  BestFrom t n In = BestOf (WayFrom n In) (priceFrom M t) NotAfter
+  BestFrom t n In = BestOf (WayFrom G n In) (priceFrom M t) NotAfter
 
   -- the states of the set, at least one, share a cost to go below TOP
   pub record Shared (t n : ℕ) (In : S → Type 0) (v : ℕ) : Type 0 where
@@ -40,7 +40,7 @@ module _ {S : Type 0} (G : Graph S) (M : Matrix) where
     pub step : G .Step from x s
     pub keeps : plus (cost M t x) (row s) ≡ v
 
-  way-from : {t n v : ℕ} {In : S → Type 0} (s : S) → In s → (w : WayOf G M t n s v) → WayFrom n In (w .path)
+  way-from : {t n v : ℕ} {In : S → Type 0} (s : S) → In s → (w : WayOf G M t n s v) → WayFrom G n In (w .path)
   way-from s i w = record { long = w .long; from = s; member = i; way = w .way }
 
   -- the best costs what they share
@@ -57,7 +57,7 @@ module _ {S : Type 0} (G : Graph S) (M : Matrix) where
   pub shared-end : {t v : ℕ} {In : S → Type 0} → Shared t 0 In v → BestFrom t 0 In []
   shared-end {t} {v} {In} sh = let w = sh .all (sh .one) (sh .member) .met (sh .below) in record { qualifies = by (w .path) (w .long) (w .way); least = λ a q. omega arith; first = λ a q e. tt }
     where
-      by : (p : List ℕ) → length p ≡ 0 → Way G (sh .one) p → WayFrom 0 In []
+      by : (p : List ℕ) → length p ≡ 0 → Way G (sh .one) p → WayFrom G 0 In []
       by [] e w = record { long = refl; from = sh .one; member = sh .member; way = w }
       by (x ∷ p) e w = absurd (omega arith)
 
@@ -155,7 +155,7 @@ module _ {S : Type 0} (G : Graph S) (M : Matrix) where
               (λ k.
                 let z : y ≡ x = omega arith in
                 let c : cost M t y ≡ cost M t x = ap (cost M t) z in
-                let rest : WayFrom n In′ q =
+                let rest : WayFrom G n In′ q =
                       record { long = omega arith; from = g .0; member = all (g .0) (subst (λ l. Tight t row In v l (g .0)) z h); way = g .2 } in
                 inr (sym z, b .first q rest (let k = pays in omega arith)))
               (lt-or-le x y)
