@@ -26,14 +26,6 @@ module _ {top : ℕ} where
   pub least-same : {P : ℕ → Type 0} {v : ℕ} (Q : ℕ → Type 0) → ((n : ℕ) → P n → Q n) → ((n : ℕ) → Q n → P n) → Least top P v → Least top Q v
   least-same {v = v} Q to from l = record { within = l .within; met = λ h. to v (l .met h); least = λ n q. l .least n (from n q) }
 
-  pub least-unique : {P : ℕ → Type 0} {v w : ℕ} → Least top P v → Least top P w → v ≡ w
-  least-unique {P} {v} {w} l m = by (lt-or-le v w) (lt-or-le w v)
-    where
-      by : (v < w) ⊎ (w ≤ v) → (w < v) ⊎ (v ≤ w) → v ≡ w
-      by (inl h) k = let i = m .within in let j = m .least v (l .met (omega arith)) in omega arith
-      by (inr h) (inl k) = let i = l .within in let j = l .least w (m .met (omega arith)) in omega arith
-      by (inr h) (inr k) = omega arith
-
   pub least-either : {P Q : ℕ → Type 0} {v w : ℕ} → Least top P v → Least top Q w → Least top (λ n. P n ⊎ Q n) (min v w)
   least-either {P} {Q} {v} {w} l m =
       record {
