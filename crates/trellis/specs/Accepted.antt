@@ -9,7 +9,7 @@ use Rattle.lists.specs.Order.{eq-or-ne}
 use Rattle.ctc.specs.Collapse.{collapse, after, after-same, after-blank, after-new, collapse-after}
 use Rattle.automaton.specs.Automaton.{Automaton, Walk, Spells, Accepts, Proper}
 use Rattle.trellis.specs.Graph.{Graph, Way, way-step, way-split, way-here, way-none}
-use Rattle.trellis.specs.Extended.{OnLetter, InBlanks, Step, stay, pass, arc, rest, leave, MayEnd, on-last, after-last, extended}
+use Rattle.trellis.specs.Extended.{OnLetter, InBlanks, Step, stay, pass, arc, rest, leave, AtLetter, may-end, extended}
 
 module _ (A : Automaton) where
   -- what a word says of the letters that spell it, from the left
@@ -44,19 +44,12 @@ module _ (k : ℕ) (A : Automaton) (proper : Proper k A) where
 
   agrees-none : Agrees A []
   unfolding after
-  agrees-none =
-      record {
-        on-letter = λ i s o. (λ w. ([], letter i s o (way-none (extended A) s w), refl), λ h. way-here (extended A) s (on-last i o (spells-none A i h)));
-        in-blanks = λ i s o. (λ w. ([], blanks i s o (way-none (extended A) s w), refl), λ h. way-here (extended A) s (after-last i o (spells-none A i h)));
-      }
+  agrees-none = record { on-letter = λ i s o. ends (A .label i) i s (inl o); in-blanks = λ i s o. ends 0 i s (inr o) }
     where
-      letter : (i s : ℕ) → OnLetter i s → MayEnd A s → A .ends i ≡ true
-      letter i s o (on-last j e h) = let q : i ≡ j = omega arith in rw q h
-      letter i s o (after-last j e h) = absurd (omega arith)
-
-      blanks : (i s : ℕ) → InBlanks i s → MayEnd A s → A .ends i ≡ true
-      blanks i s o (on-last j e h) = absurd (omega arith)
-      blanks i s o (after-last j e h) = let q : i ≡ j = omega arith in rw q h
+      ends : (a i s : ℕ) → AtLetter i s → Way (extended A) s [] ↔ Spells A i (after a [])
+      ends a i s o =
+          let m = may-end A i s o in
+          (λ w. ([], m .0 (way-none (extended A) s w), refl), λ h. way-here (extended A) s (m .1 (spells-none A i h)))
 
   module _ (x : ℕ) (p : List ℕ) (more : Agrees A p) where
     -- a step to letter j

@@ -10,7 +10,7 @@ use Rattle.lists.specs.Least.{Least, least-same, least-through}
 use Rattle.reading.specs.Matrix.{Matrix, cost, priceFrom, price, price-append}
 use Rattle.trellis.specs.Graph.{Graph, Leads, Way, leads-append, leads-split}
 use Rattle.trellis.specs.Impossible.{TOP, plus}
-use Rattle.trellis.specs.Togo.{WayOf, CostToGo}
+use Rattle.trellis.specs.CostToGo.{WayOf, CostToGo}
 
 module _ {S : Type 0} (G : Graph S) (M : Matrix) (start : S) where
   -- v is the price of t labels that lead from the start to state s

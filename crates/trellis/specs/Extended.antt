@@ -1,10 +1,10 @@
 -- The extended states of an automaton (document 01, "Extended states and decoding"): the steps of a path through them, and where it may
 -- end. Assumes nothing.
-use Prim.Native.Nat.{ℕ, zero, suc, _+_, _*_, _≤_, _<_}
+use Prim.Native.Nat.{ℕ, _+_, _*_, _≤_, _<_}
 use mathlib.Core.Path.{_≡_, refl}
 use mathlib.Core.Bool.{Bool, true, false}
 use mathlib.Core.List.{List, [], _∷_}
-use mathlib.Core.Logic.{_⊎_, inl, inr}
+use mathlib.Core.Logic.{_↔_, _⊎_, inl, inr}
 use native.Mathlib.Omega.{arith}
 use Rattle.lists.specs.Each.{Each}
 use Rattle.automaton.specs.Automaton.{Automaton, Proper}
@@ -35,14 +35,22 @@ pub data MayEnd (A : Automaton) (s : ℕ) : Type 0 where
 abbrev pub extended : Automaton → Graph ℕ
 extended A = record { Step = Step A; Ends = MayEnd A }
 
--- a state is in blanks or on a letter
-pub state-of : (s : ℕ) → ((i : ℕ) × InBlanks i s) ⊎ ((i : ℕ) × OnLetter i s)
-state-of zero = inl (0, refl)
-state-of (suc s) = by (state-of s)
+-- letter i is the one that the state is on or behind; 0 if there is none yet
+abbrev pub AtLetter : (i s : ℕ) → Type 0
+AtLetter i s = OnLetter i s ⊎ InBlanks i s
+
+pub may-end : (A : Automaton) (i s : ℕ) → AtLetter i s → MayEnd A s ↔ (A .ends i ≡ true)
+may-end A i s o = (ends o, may o)
   where
-    by : ((i : ℕ) × InBlanks i s) ⊎ ((i : ℕ) × OnLetter i s) → ((i : ℕ) × InBlanks i (suc s)) ⊎ ((i : ℕ) × OnLetter i (suc s))
-    by (inl h) = let e = h .1 in inr (h .0 + 1, omega arith)
-    by (inr h) = let e = h .1 in inl (h .0, omega arith)
+    ends : AtLetter i s → MayEnd A s → A .ends i ≡ true
+    ends (inl o) (on-last j e h) = let q : i ≡ j = omega arith in rw q h
+    ends (inl o) (after-last j e h) = absurd (omega arith)
+    ends (inr o) (on-last j e h) = absurd (omega arith)
+    ends (inr o) (after-last j e h) = let q : i ≡ j = omega arith in rw q h
+
+    may : AtLetter i s → A .ends i ≡ true → MayEnd A s
+    may (inl o) h = on-last i o h
+    may (inr o) h = after-last i o h
 
 module _ (k : ℕ) (A : Automaton) (proper : Proper k A) where
   -- States stay among 0 to 2L, and labels among 0 to k.

@@ -1,8 +1,10 @@
 pub mod Graph
 pub mod Impossible
-pub mod Togo
+pub mod CostToGo
 pub mod Extended
 pub mod Accepted
 pub mod Beginning
 pub mod Trace
 pub mod Outcome
+pub mod Cells
+pub mod Reached

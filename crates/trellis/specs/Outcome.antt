@@ -14,7 +14,7 @@ use Rattle.reading.specs.Matrix.{Matrix, price, CostsPass}
 use Rattle.reading.specs.Reading.{Rival, Best, Outcome}
 use Rattle.trellis.specs.Graph.{Way}
 use Rattle.trellis.specs.Impossible.{TOP, path-below, below-path}
-use Rattle.trellis.specs.Togo.{WayOf, CostToGo}
+use Rattle.trellis.specs.CostToGo.{WayOf, CostToGo}
 use Rattle.trellis.specs.Trace.{WayFrom, BestFrom}
 use Rattle.trellis.specs.Extended.{extended, way-labels}
 use Rattle.trellis.specs.Accepted.{collapse-way}

@@ -12,7 +12,7 @@ use Rattle.reading.specs.Matrix.{Matrix, cost, priceFrom}
 use Rattle.reading.specs.Order.{NotAfter}
 use Rattle.trellis.specs.Graph.{Graph, Way, way-step, way-split, way-here, way-none}
 use Rattle.trellis.specs.Impossible.{TOP, plus}
-use Rattle.trellis.specs.Togo.{WayOf, CostToGo}
+use Rattle.trellis.specs.CostToGo.{WayOf, CostToGo}
 
 -- p is a way of n labels from a state of the set
 pub record WayFrom {S : Type 0} (G : Graph S) (n : ℕ) (In : S → Type 0) (p : List ℕ) : Type 0 where
@@ -39,6 +39,14 @@ module _ {S : Type 0} (G : Graph S) (M : Matrix) where
     pub member : In from
     pub step : G .Step from x s
     pub keeps : plus (cost M t x) (row s) ≡ v
+
+  -- x is the lowest label of a tight step, and the second set has the states that the tight steps by x lead to
+  pub record Chosen (t : ℕ) (row : S → ℕ) (In : S → Type 0) (v x : ℕ) (In′ : S → Type 0) : Type 0 where
+    pub lowest : (y : ℕ) (s : S) → Tight t row In v y s → x ≤ y
+    pub one : S
+    pub by-x : Tight t row In v x one
+    pub hit : (s : S) → In′ s → Tight t row In v x s
+    pub all : (s : S) → Tight t row In v x s → In′ s
 
   way-from : {t n v : ℕ} {In : S → Type 0} (s : S) → In s → (w : WayOf G M t n s v) → WayFrom G n In (w .path)
   way-from s i w = record { long = w .long; from = s; member = i; way = w .way }
@@ -104,23 +112,21 @@ module _ {S : Type 0} (G : Graph S) (M : Matrix) where
             let g = way-split G (sh .one) y q w in
             (y, g .0, way-tight y q (omega arith) (sh .one) (sh .member) (g .0) (g .1) (g .2) e)
 
-    -- The lowest label x of a tight step, and the states that the tight steps by x lead to.
-    module _ (x : ℕ) (lowest : (y : ℕ) (s : S) → Tight t row In v y s → x ≤ y) (one : (s : S) × Tight t row In v x s) (In′ : S → Type 0)
-      (hit : (s : S) → In′ s → Tight t row In v x s) (all : (s : S) → Tight t row In v x s → In′ s) where
+    module _ (x : ℕ) (In′ : S → Type 0) (ch : Chosen t row In v x In′) where
       -- what is left to pay
       tight-left : (s : S) → Tight t row In v x s → cost M t x + row s ≡ v
       tight-left s h = let b = sh .below in let e = h .keeps in omega arith
 
       pub tight-cost : cost M t x ≤ v
-      tight-cost = let e = tight-left (one .0) (one .1) in omega arith
+      tight-cost = let e = tight-left (ch .one) (ch .by-x) in omega arith
 
       pub shared-next : Shared (t + 1) n In′ (v - cost M t x)
       shared-next =
           record {
-            one = one .0;
-            member = all (one .0) (one .1);
+            one = ch .one;
+            member = ch .all (ch .one) (ch .by-x);
             all = λ s i.
-                let h = hit s i in
+                let h = ch .hit s i in
                 let e = tight-left s h in
                 let z : row s ≡ v - cost M t x = omega arith in
                 subst (CostToGo G M (t + 1) n s) z (next (h .from) (h .member) x s (h .step));
@@ -133,7 +139,7 @@ module _ {S : Type 0} (G : Graph S) (M : Matrix) where
           record {
             qualifies =
                 let q = b .qualifies in
-                let h = hit (q .from) (q .member) in
+                let h = ch .hit (q .from) (q .member) in
                 record { long = (let l = q .long in omega arith); from = h .from; member = h .member; way = way-step G (h .step) (q .way) };
             least = λ a q.
                 let l = sh .all (q .from) (q .member) .least (priceFrom M t a) (record { path = a; long = q .long; way = q .way; paid = refl }) in
@@ -150,13 +156,13 @@ module _ {S : Type 0} (G : Graph S) (M : Matrix) where
           first (y ∷ q) l s i w e =
               let g = way-split G s y q w in
               let h : Tight t row In v y (g .0) = way-tight y q (omega arith) s i (g .0) (g .1) (g .2) e in
-              let low = lowest y (g .0) h in
+              let low = ch .lowest y (g .0) h in
               ⊎-elim inl
               (λ k.
                 let z : y ≡ x = omega arith in
                 let c : cost M t y ≡ cost M t x = ap (cost M t) z in
                 let rest : WayFrom G n In′ q =
-                      record { long = omega arith; from = g .0; member = all (g .0) (subst (λ l. Tight t row In v l (g .0)) z h); way = g .2 } in
+                      record { long = omega arith; from = g .0; member = ch .all (g .0) (subst (λ l. Tight t row In v l (g .0)) z h); way = g .2 } in
                 inr (sym z, b .first q rest (let k = pays in omega arith)))
               (lt-or-le x y)
 
