@@ -74,9 +74,12 @@ module _ {S : Type 0} (G : Graph S) (M : Matrix) (start : S) where
 
       -- the last label apart
       snoc : (p : List ℕ) → length p ≡ t + 1 → (q : List ℕ) × (x : ℕ) × (length q ≡ t) × (p ≡ q ++ (x ∷ []))
-      snoc p e =
-          (take t p, getD p t 0, length-take-le t p (omega arith),
-           sym (take-length p) ∙ ap (λ k. take k p) (let z : length p ≡ suc t = omega arith in z) ∙ take-suc p t 0 (omega arith))
+      snoc p e = (
+        take t p,
+        getD p t 0,
+        length-take-le t p (omega arith),
+        sym (take-length p) ∙ ap (λ k. take k p) (let z : length p ≡ suc t = omega arith in z) ∙ take-suc p t 0 (omega arith),
+      )
 
       from : (v : ℕ) → BeginningOf (t + 1) u v → Joined v
       from v b = by (snoc (b .path) (b .long)) (b .leads) (b .paid)

@@ -31,8 +31,8 @@ abbrev pub ByArc : Automaton → (candidate : ℕ → ℕ) → (i barred : ℕ) 
 ByArc A candidate i barred n = (j : ℕ) × (A .follow i j ≡ true) × (A .label j ≡ barred → ⊥) × (n ≡ candidate j)
 
 module _ (k : ℕ) (A : Automaton) (proper : Proper k A) (M : Matrix) (t n : ℕ) (row candidate : ℕ → ℕ)
-  (next : (s : ℕ) → s ≤ 2 * A .letters → CostToGo (extended A) M (t + 1) n s (row s))
-  (candidates : (j : ℕ) → 1 ≤ j → j ≤ A .letters → candidate j ≡ plus (cost M t (A .label j)) (row (2 * j - 1))) where
+    (next : (s : ℕ) → s ≤ 2 * A .letters → CostToGo (extended A) M (t + 1) n s (row s))
+    (candidates : (j : ℕ) → 1 ≤ j → j ≤ A .letters → candidate j ≡ plus (cost M t (A .label j)) (row (2 * j - 1))) where
   same : (v x s y u : ℕ) → v ≡ plus (cost M t x) (row s) → x ≡ y → s ≡ u → v ≡ plus (cost M t y) (row u)
   same v x s y u h e d = h ∙ ap₂ (λ y u. plus (cost M t y) (row u)) e d
 

@@ -2,10 +2,11 @@
 -- end. Assumes nothing.
 use Prim.Native.Nat.{ℕ, _+_, _*_, _≤_, _<_}
 use mathlib.Core.Path.{_≡_, refl}
-use mathlib.Core.Bool.{Bool, true, false}
+use mathlib.Core.Bool.{Bool, true, false, _&&_}
 use mathlib.Core.List.{List, [], _∷_}
 use mathlib.Core.Logic.{_↔_, _⊎_, inl, inr}
 use native.Mathlib.Omega.{arith}
+use lib.Dec.{eqb, ltb}
 use Rattle.lists.specs.Each.{Each}
 use Rattle.automaton.specs.Automaton.{Automaton, Proper}
 use Rattle.trellis.specs.Graph.{Graph, Leads, Way}
@@ -77,3 +78,11 @@ module _ (k : ℕ) (A : Automaton) (proper : Proper k A) where
 
   pub way-labels : (p : List ℕ) → Way (extended A) 0 p → Each (λ x. x < k + 1) p
   way-labels p w = leads-labels 0 (w .end) p (omega arith) (w .leads)
+
+-- two letters of label 1: the path 1 0 1 goes through the blanks after the first
+twice : Automaton
+twice = record { letters = 2; label = λ j. 1; follow = λ i j. eqb j (i + 1) && ltb i 2; ends = λ i. eqb i 2 }
+
+example : Leads (extended twice) 0 (1 ∷ 0 ∷ 1 ∷ []) 3
+unfolding twice
+example = (1, leave 0 1 refl refl refl refl, (2, pass 1 refl refl refl, (3, leave 1 2 refl refl refl refl, refl)))

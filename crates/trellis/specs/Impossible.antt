@@ -23,6 +23,12 @@ pub record Summed (c v : ℕ) : Type 0 where
 pub summed : (c v : ℕ) → v ≤ TOP → Summed c v
 summed c v h = record { fits = omega arith; is = omega arith }
 
+example-sum : plus 3 4 ≡ 7
+example-sum = refl
+
+example-barred : plus 4294967295 0 ≡ TOP
+example-barred = refl
+
 module _ (M : Matrix) (pass : CostsPass M) where
   -- Of a cost of the matrix: it is usable if it is below TOP, and then it is small.
 

@@ -47,9 +47,10 @@ module _ (k : ℕ) (A : Automaton) (proper : Proper k A) (M : Matrix) (wide : M 
 
     -- nothing to read
     pub outcome-none : (v ≡ TOP) ↔ Outcome (Accepts A) M none
-    outcome-none =
-        (λ e p r. let l = cheaper p r in let b = rival-below p r in omega arith,
-         λ f. ⊎-elim (λ b. let m = met b in absurd (f (m .0) (m .1))) (λ h. let w = togo .within in omega arith) (lt-or-le v TOP))
+    outcome-none = (
+      λ e p r. let l = cheaper p r in let b = rival-below p r in omega arith,
+      λ f. ⊎-elim (λ b. let m = met b in absurd (f (m .0) (m .1))) (λ h. let w = togo .within in omega arith) (lt-or-le v TOP),
+    )
 
     -- the best has the price v
     pub outcome-price : (p : List ℕ) → Best (Accepts A) M p → price M p ≡ v

@@ -84,7 +84,7 @@ pub record Picked (A : Automaton) (M : Matrix) (t : ℕ) (row : ℕ → ℕ) (In
   pub all : (u : ℕ) → u ≤ 2 * A .letters → Kept A M t row In v u → entering A u ≡ x → In′ u
 
 module _ (k : ℕ) (A : Automaton) (proper : Proper k A) (M : Matrix) (t n v : ℕ) (row : ℕ → ℕ) (In : ℕ → Type 0)
-  (within : (s : ℕ) → In s → s ≤ 2 * A .letters) where
+    (within : (s : ℕ) → In s → s ≤ 2 * A .letters) where
   tight-kept : (x u : ℕ) → Tight (extended A) M t row In v x u → Kept A M t row In v u × (entering A u ≡ x) × (u ≤ 2 * A .letters)
   tight-kept x u h =
       let e = step-entering A (h .from) x u (h .step) in

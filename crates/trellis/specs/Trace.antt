@@ -10,7 +10,7 @@ use Rattle.lists.specs.Order.{lt-or-le}
 use Rattle.reading.specs.Best.{BestOf, best-same}
 use Rattle.reading.specs.Matrix.{Matrix, cost, priceFrom}
 use Rattle.reading.specs.Order.{NotAfter}
-use Rattle.trellis.specs.Graph.{Graph, Way, way-step, way-split, way-here, way-none}
+use Rattle.trellis.specs.Graph.{Graph, Way, way-step, way-split}
 use Rattle.trellis.specs.Impossible.{TOP, plus}
 use Rattle.trellis.specs.CostToGo.{WayOf, CostToGo}
 
@@ -48,29 +48,34 @@ module _ {S : Type 0} (G : Graph S) (M : Matrix) where
     pub hit : (s : S) → In′ s → Tight t row In v x s
     pub all : (s : S) → Tight t row In v x s → In′ s
 
-  way-from : {t n v : ℕ} {In : S → Type 0} (s : S) → In s → (w : WayOf G M t n s v) → WayFrom G n In (w .path)
-  way-from s i w = record { long = w .long; from = s; member = i; way = w .way }
+  -- a way of the price that they share, and none from the set costs less
+  shared-way : {t n v : ℕ} {In : S → Type 0} (sh : Shared t n In v) → WayOf G M t n (sh .one) v
+  shared-way sh = sh .all (sh .one) (sh .member) .met (sh .below)
 
-  -- the best costs what they share
-  pub shared-price : {t n v : ℕ} {In : S → Type 0} (p : List ℕ) → Shared t n In v → BestFrom t n In p → priceFrom M t p ≡ v
-  shared-price {t} {n} {v} {In} p sh b =
-      let q = b .qualifies in
-      let low = sh .all (q .from) (q .member) .least (priceFrom M t p) (record { path = p; long = q .long; way = q .way; paid = refl }) in
-      let w = sh .all (sh .one) (sh .member) .met (sh .below) in
-      let high = b .least (w .path) (way-from (sh .one) (sh .member) w) in
+  shared-least : {t n v : ℕ} {In : S → Type 0} → Shared t n In v → (p : List ℕ) → WayFrom G n In p → v ≤ priceFrom M t p
+  shared-least {t} sh p w = sh .all (w .from) (w .member) .least (priceFrom M t p) (record { path = p; long = w .long; way = w .way; paid = refl })
+
+  -- so the best costs what they share
+  shared-price : {t n v : ℕ} {In : S → Type 0} (p : List ℕ) → Shared t n In v → BestFrom t n In p → priceFrom M t p ≡ v
+  shared-price p sh b =
+      let w = shared-way sh in
       let e = w .paid in
+      let low = shared-least sh p (b .qualifies) in
+      let high = b .least (w .path) (record { long = w .long; from = sh .one; member = sh .member; way = w .way }) in
       omega arith
 
   -- no column is left
   pub shared-end : {t v : ℕ} {In : S → Type 0} → Shared t 0 In v → BestFrom t 0 In []
-  shared-end {t} {v} {In} sh = let w = sh .all (sh .one) (sh .member) .met (sh .below) in record { qualifies = by (w .path) (w .long) (w .way); least = λ a q. omega arith; first = λ a q e. tt }
+  shared-end {In = In} sh =
+      let w = shared-way sh in
+      record { qualifies = by (w .path) (w .long) (w .way); least = λ a q. omega arith; first = λ a q e. tt }
     where
       by : (p : List ℕ) → length p ≡ 0 → Way G (sh .one) p → WayFrom G 0 In []
       by [] e w = record { long = refl; from = sh .one; member = sh .member; way = w }
       by (x ∷ p) e w = absurd (omega arith)
 
-  -- In a trace of n labels from the start: `done` is written for the columns before t, and the best of the l labels that are left, behind it, is
-  -- the best of all.
+  -- In a trace of n labels from the start: `done` is written for the columns before t, and the best of the l labels that are left, behind
+  -- it, is the best of all.
   pub record Tracing (start : S) (n t l : ℕ) (In : S → Type 0) (v : ℕ) (done : List ℕ) : Type 0 where
     pub shared : Shared t l In v
     pub best : (p : List ℕ) → BestFrom t l In p → BestFrom 0 n (λ s. s ≡ start) (done ++ p)
@@ -90,21 +95,24 @@ module _ {S : Type 0} (G : Graph S) (M : Matrix) where
 
   -- One column: the set, what it shares, and the next row of costs to go.
   module _ (t n v : ℕ) (row : S → ℕ) (In : S → Type 0) (sh : Shared t (n + 1) In v)
-    (next : (s : S) → In s → (x : ℕ) (s′ : S) → G .Step s x s′ → CostToGo G M (t + 1) n s′ (row s′)) where
+      (next : (s : S) → In s → (x : ℕ) (s′ : S) → G .Step s x s′ → CostToGo G M (t + 1) n s′ (row s′)) where
     -- the first step of a cheapest way is tight
-    way-tight : (y : ℕ) (q : List ℕ) → length q ≡ n → (s : S) → In s → (s′ : S) → G .Step s y s′ → Way G s′ q → priceFrom M t (y ∷ q) ≡ v → Tight t row In v y s′
+    way-tight :
+        (y : ℕ) (q : List ℕ) → length q ≡ n → (s : S) → In s → (s′ : S) → G .Step s y s′ → Way G s′ q → priceFrom M t (y ∷ q) ≡ v
+        → Tight t row In v y s′
     way-tight y q l s i s′ st w e =
         let c = next s i y s′ st in
         let b = sh .below in
         let low = c .least (priceFrom M (t + 1) q) (record { path = q; long = l; way = w; paid = refl }) in
         let r = c .met (omega arith) in
         let p = r .paid in
-        let high = sh .all s i .least (priceFrom M t (y ∷ r .path)) (record { path = y ∷ r .path; long = (let k = r .long in omega arith); way = way-step G st (r .way); paid = refl }) in
+        let d = r .long in
+        let high = shared-least sh (y ∷ r .path) (record { long = omega arith; from = s; member = i; way = way-step G st (r .way) }) in
         record { from = s; member = i; step = st; keeps = omega arith }
 
     -- so some step is
     pub some-tight : (x : ℕ) × (s : S) × Tight t row In v x s
-    some-tight = let w = sh .all (sh .one) (sh .member) .met (sh .below) in by (w .path) (w .long) (w .way) (w .paid)
+    some-tight = let w = shared-way sh in by (w .path) (w .long) (w .way) (w .paid)
       where
         by : (p : List ℕ) → length p ≡ n + 1 → Way G (sh .one) p → priceFrom M t p ≡ v → (x : ℕ) × (s : S) × Tight t row In v x s
         by [] l w e = absurd (omega arith)
@@ -141,33 +149,30 @@ module _ {S : Type 0} (G : Graph S) (M : Matrix) where
                 let q = b .qualifies in
                 let h = ch .hit (q .from) (q .member) in
                 record { long = (let l = q .long in omega arith); from = h .from; member = h .member; way = way-step G (h .step) (q .way) };
-            least = λ a q.
-                let l = sh .all (q .from) (q .member) .least (priceFrom M t a) (record { path = a; long = q .long; way = q .way; paid = refl }) in
-                let e = pays in
-                omega arith;
+            least = λ a q. let l = shared-least sh a q in let e = pays in omega arith;
             first = λ a q e. first a (q .long) (q .from) (q .member) (q .way) (let k = pays in omega arith);
           }
         where
           pays : priceFrom M (t + 1) p + cost M t x ≡ v
           pays = let e = shared-price p shared-next b in let c = tight-cost in omega arith
 
+          same : (y : ℕ) (q : List ℕ) (s : S) → length q ≡ n → Tight t row In v y s → Way G s q → priceFrom M t (y ∷ q) ≡ v → x ≡ y → NotAfter p q
+          same y q s l h w e z =
+              let i : In′ s = ch .all s (subst (λ l. Tight t row In v l s) (sym z) h) in
+              let c : cost M t x ≡ cost M t y = ap (cost M t) z in
+              let k = pays in
+              b .first q (record { long = l; from = s; member = i; way = w }) (omega arith)
+
           first : (a : List ℕ) → length a ≡ n + 1 → (s : S) → In s → Way G s a → priceFrom M t a ≡ v → NotAfter (x ∷ p) a
           first [] l s i w e = absurd (omega arith)
           first (y ∷ q) l s i w e =
               let g = way-split G s y q w in
-              let h : Tight t row In v y (g .0) = way-tight y q (omega arith) s i (g .0) (g .1) (g .2) e in
+              let h = way-tight y q (omega arith) s i (g .0) (g .1) (g .2) e in
               let low = ch .lowest y (g .0) h in
-              ⊎-elim inl
-              (λ k.
-                let z : y ≡ x = omega arith in
-                let c : cost M t y ≡ cost M t x = ap (cost M t) z in
-                let rest : WayFrom G n In′ q =
-                      record { long = omega arith; from = g .0; member = ch .all (g .0) (subst (λ l. Tight t row In v l (g .0)) z h); way = g .2 } in
-                inr (sym z, b .first q rest (let k = pays in omega arith)))
-              (lt-or-le x y)
+              ⊎-elim inl (λ k. let z : x ≡ y = omega arith in inr (z, same y q (g .0) (omega arith) h (g .2) e z)) (lt-or-le x y)
 
       pub tracing-more :
-          (start : S) (whole : ℕ) (done : List ℕ) → ((p : List ℕ) → BestFrom t (n + 1) In p → BestFrom 0 whole (λ s. s ≡ start) (done ++ p))
+          (start : S) (whole : ℕ) (done : List ℕ) → Tracing start whole t (n + 1) In v done
           → Tracing start whole (t + 1) n In′ (v - cost M t x) (done ++ (x ∷ []))
-      tracing-more start whole done best =
-          record { shared = shared-next; best = λ p b. rw (append-assoc done (x ∷ []) p) (best (x ∷ p) (best-next p b)) }
+      tracing-more start whole done h =
+          record { shared = shared-next; best = λ p b. rw (append-assoc done (x ∷ []) p) (h .best (x ∷ p) (best-next p b)) }
