@@ -1,7 +1,7 @@
 -- The least of all that is offered, and of a top that stands for 'nothing below is offered'; how a loop over an index finds it.
 -- Assumes nothing.
 use Prim.Native.Nat.{ℕ, _+_, _<_, _≤_, min}
-use mathlib.Core.Path.{_≡_, refl, sym, subst}
+use mathlib.Core.Path.{_≡_, refl, subst}
 use mathlib.Core.Logic.{_⊎_, inl, inr, ⊎-elim}
 use native.Mathlib.Omega.{arith}
 use Rattle.lists.specs.Order.{lt-or-le, eq-or-ne}
