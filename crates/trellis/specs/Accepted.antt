@@ -1,14 +1,14 @@
 -- A path collapses to an accepted word exactly if it leads from state 0 to a state where it may end. Assumes nothing.
-use Prim.Native.Nat.{ℕ, _+_, _*_, _-_, _≤_}
+use Prim.Native.Nat.{ℕ, _*_, _-_, _≤_}
 use mathlib.Core.Path.{_≡_, refl, sym, ap, _∙_, subst}
-use mathlib.Core.Bool.{Bool, true, false}
+use mathlib.Core.Bool.{true}
 use mathlib.Core.List.{List, [], _∷_, map}
 use mathlib.Core.Logic.{_↔_, _⊎_, inl, inr}
 use native.Mathlib.Omega.{arith}
 use Rattle.lists.specs.Order.{eq-or-ne}
 use Rattle.ctc.specs.Collapse.{collapse, after, after-same, after-blank, after-new, collapse-after}
 use Rattle.automaton.specs.Automaton.{Automaton, Walk, Spells, Accepts, Proper}
-use Rattle.trellis.specs.Graph.{Graph, Way, way-step, way-split, way-here, way-none}
+use Rattle.trellis.specs.Graph.{Way, way-step, way-split, way-here, way-none}
 use Rattle.trellis.specs.Extended.{OnLetter, InBlanks, Step, stay, pass, arc, rest, leave, AtLetter, may-end, extended}
 
 module _ (A : Automaton) where

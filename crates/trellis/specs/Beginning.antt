@@ -1,16 +1,16 @@
 -- The cheapest beginning to a state: the least price of all that leads to it from the start over the first columns, TOP where none is
 -- below. The first row, each row from the one before, and the cost to go that the last row gives. Assumes nothing.
-use Prim.Native.Nat.{ℕ, suc, _+_, _≤_, _<_, min}
+use Prim.Native.Nat.{ℕ, suc, _+_}
 use mathlib.Core.Path.{_≡_, refl, sym, ap, _∙_, subst}
 use mathlib.Core.List.{List, [], _∷_, _++_}
 use native.Mathlib.Omega.{arith}
-use lib.ListN.{length, getD, take, drop, length-append}
+use lib.ListN.{length, getD, take, length-append}
 use lib.Seq.{length-take-le, take-suc, take-length}
 use Rattle.lists.specs.Least.{Least, least-same, least-through}
-use Rattle.reading.specs.Matrix.{Matrix, cost, priceFrom, price, price-append}
-use Rattle.trellis.specs.Graph.{Graph, Leads, Way, leads-append, leads-split}
+use Rattle.reading.specs.Matrix.{Matrix, cost, price, price-append}
+use Rattle.trellis.specs.Graph.{Graph, Leads, leads-append, leads-split}
 use Rattle.trellis.specs.Impossible.{TOP, plus}
-use Rattle.trellis.specs.CostToGo.{WayOf, CostToGo}
+use Rattle.trellis.specs.CostToGo.{CostToGo}
 
 module _ {S : Type 0} (G : Graph S) (M : Matrix) (start : S) where
   -- v is the price of t labels that lead from the start to state s

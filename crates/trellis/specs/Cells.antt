@@ -1,7 +1,7 @@
 -- The costs to go of an automaton's extended states, row by row: what the code computes for the states of one letter, by candidates that
 -- are found once a column. Assumes nothing.
-use Prim.Native.Nat.{ℕ, _+_, _*_, _-_, _≤_, _<_, min}
-use mathlib.Core.Path.{_≡_, refl, sym, ap, ap₂, _∙_, subst}
+use Prim.Native.Nat.{ℕ, _+_, _*_, _-_, _≤_, min}
+use mathlib.Core.Path.{_≡_, refl, sym, ap, ap₂, _∙_}
 use mathlib.Core.Bool.{Bool, true, false}
 use mathlib.Core.Logic.{_⊎_, inl, inr, ⊎-elim}
 use native.Mathlib.Omega.{arith}
@@ -11,7 +11,7 @@ use Rattle.automaton.specs.Automaton.{Automaton, Proper}
 use Rattle.reading.specs.Matrix.{Matrix, cost}
 use Rattle.trellis.specs.Impossible.{TOP, plus}
 use Rattle.trellis.specs.CostToGo.{CostToGo, togo-ends, togo-never, Onward, togo-step}
-use Rattle.trellis.specs.Extended.{OnLetter, InBlanks, AtLetter, Step, stay, pass, arc, rest, leave, may-end, extended, step-within}
+use Rattle.trellis.specs.Extended.{OnLetter, AtLetter, Step, stay, pass, arc, rest, leave, may-end, extended, step-within}
 
 -- what there is to pay where no column is left, if a path may end there
 abbrev pub ending : Bool → ℕ

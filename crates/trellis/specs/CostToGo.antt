@@ -1,13 +1,13 @@
 -- The cost to go from a state: the least price of all ways from it over the columns that are left, TOP where none is below. The last
 -- row, and each row from the next. Assumes nothing.
-use Prim.Native.Nat.{ℕ, suc, _+_, _≤_, _<_, min}
-use mathlib.Core.Path.{_≡_, refl, sym, subst}
+use Prim.Native.Nat.{ℕ, _+_}
+use mathlib.Core.Path.{_≡_, refl, sym}
 use mathlib.Core.List.{List, [], _∷_}
 use native.Mathlib.Omega.{arith}
 use lib.ListN.{length}
 use Rattle.lists.specs.Least.{Least, least-same, least-through}
 use Rattle.reading.specs.Matrix.{Matrix, cost, priceFrom}
-use Rattle.trellis.specs.Graph.{Graph, Leads, Way, way-step, way-split, way-here, way-none}
+use Rattle.trellis.specs.Graph.{Graph, Way, way-step, way-split, way-here, way-none}
 use Rattle.trellis.specs.Impossible.{TOP, plus}
 
 module _ {S : Type 0} (G : Graph S) (M : Matrix) where

@@ -1,6 +1,6 @@
 -- One mark for the impossible: a price that no path of usable costs reaches. A sum that stops at it takes a cost above it, hence a
 -- barred one, as impossible. Assumes nothing.
-use Prim.Native.Nat.{ℕ, suc, _+_, _*_, _≤_, _<_, min}
+use Prim.Native.Nat.{ℕ, _+_, _*_, _≤_, _<_, min}
 use mathlib.Core.Path.{_≡_, refl}
 use mathlib.Core.List.{List, [], _∷_}
 use native.Mathlib.Omega.{arith}

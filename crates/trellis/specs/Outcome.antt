@@ -2,7 +2,7 @@
 -- Assumes nothing.
 use Prim.Native.Nat.{ℕ, _+_, _≤_, _<_}
 use mathlib.Core.Path.{_≡_, refl, sym, subst}
-use mathlib.Core.Option.{Option, some, none}
+use mathlib.Core.Option.{some, none}
 use mathlib.Core.List.{List}
 use mathlib.Core.Logic.{_↔_, ⊎-elim}
 use native.Mathlib.Omega.{arith}
@@ -14,7 +14,7 @@ use Rattle.reading.specs.Matrix.{Matrix, price, CostsPass}
 use Rattle.reading.specs.Reading.{Rival, Best, Outcome}
 use Rattle.trellis.specs.Graph.{Way}
 use Rattle.trellis.specs.Impossible.{TOP, path-below, below-path}
-use Rattle.trellis.specs.CostToGo.{WayOf, CostToGo}
+use Rattle.trellis.specs.CostToGo.{CostToGo}
 use Rattle.trellis.specs.Trace.{WayFrom, BestFrom}
 use Rattle.trellis.specs.Extended.{extended, way-labels}
 use Rattle.trellis.specs.Accepted.{collapse-way}

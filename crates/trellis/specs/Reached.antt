@@ -1,15 +1,15 @@
 -- One column of the trace through extended states: the states that a step from the set leads to, those of them that keep to the price,
 -- and the lowest label among these. Assumes nothing.
-use Prim.Native.Nat.{ℕ, _+_, _*_, _-_, _/_, _%_, _≤_, _<_}
+use Prim.Native.Nat.{ℕ, _+_, _*_, _-_, _/_, _%_, _≤_}
 use mathlib.Core.Path.{_≡_, refl, sym, ap, _∙_, subst}
-use mathlib.Core.Bool.{Bool, true, false, cond}
+use mathlib.Core.Bool.{true, cond}
 use mathlib.Core.Logic.{_↔_, _⊎_, inl, inr, ⊎-elim}
 use native.Mathlib.Omega.{arith}
 use lib.Dec.{eqb}
 use borrow.Author.Tests.{eq-eqb, ne-eqb}
 use Rattle.automaton.specs.Automaton.{Automaton, Proper}
 use Rattle.reading.specs.Matrix.{Matrix, cost}
-use Rattle.trellis.specs.Impossible.{TOP, plus}
+use Rattle.trellis.specs.Impossible.{plus}
 use Rattle.trellis.specs.CostToGo.{CostToGo}
 use Rattle.trellis.specs.Trace.{Shared, Tight, Chosen, some-tight}
 use Rattle.trellis.specs.Extended.{OnLetter, InBlanks, Step, stay, pass, arc, rest, leave, extended, step-within, step-label}
