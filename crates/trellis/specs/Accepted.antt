@@ -30,12 +30,13 @@ module _ (A : Automaton) where
   spells-more : (i j x : ℕ) (w : List ℕ) → A .follow i j ≡ true → x ≡ A .label j → Spells A j w → Spells A i (x ∷ w)
   spells-more i j x w a e h = let m = h .2 in (j ∷ h .0, (a, h .1), (cc))
 
--- a way from a state is a path whose rest, read behind what the state stands for, is spelt behind its letter
-pub record Agrees (A : Automaton) (p : List ℕ) : Type 0 where
+-- the path is a way from a state exactly if what it adds to the word is spelt behind the state's letter; on the letter it adds what comes
+-- behind that label, in blanks what comes behind a blank
+record Agrees (A : Automaton) (p : List ℕ) : Type 0 where
   pub on-letter : (i s : ℕ) → OnLetter i s → Way (extended A) s p ↔ Spells A i (after (A .label i) p)
   pub in-blanks : (i s : ℕ) → InBlanks i s → Way (extended A) s p ↔ Spells A i (after 0 p)
 
-module _ (k : ℕ) (A : Automaton) (proper : Proper k A) where
+module _ {k : ℕ} {A : Automaton} (proper : Proper k A) where
   lettered : (i j : ℕ) → A .follow i j ≡ true → 1 ≤ A .label j
   lettered i j a = let t = proper .target i j a in proper .labelled j (t .0) (t .1) .0
 

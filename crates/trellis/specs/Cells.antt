@@ -30,7 +30,7 @@ last-cell A M t i s o = by (A .ends i) refl
 abbrev pub ByArc : Automaton → (candidate : ℕ → ℕ) → (i barred : ℕ) → ℕ → Type 0
 ByArc A candidate i barred n = (j : ℕ) × (A .follow i j ≡ true) × (A .label j ≡ barred → ⊥) × (n ≡ candidate j)
 
-module _ (k : ℕ) (A : Automaton) (proper : Proper k A) (M : Matrix) (t n : ℕ) (row candidate : ℕ → ℕ)
+module _ {k : ℕ} {A : Automaton} (proper : Proper k A) (M : Matrix) (t n : ℕ) (row candidate : ℕ → ℕ)
     (next : (s : ℕ) → s ≤ 2 * A .letters → CostToGo (extended A) M (t + 1) n s (row s))
     (candidates : (j : ℕ) → 1 ≤ j → j ≤ A .letters → candidate j ≡ plus (cost M t (A .label j)) (row (2 * j - 1))) where
   same : (v x s y u : ℕ) → v ≡ plus (cost M t x) (row s) → x ≡ y → s ≡ u → v ≡ plus (cost M t y) (row u)
@@ -46,7 +46,7 @@ module _ (k : ℕ) (A : Automaton) (proper : Proper k A) (M : Matrix) (t n : ℕ
   on-target i j f = let b = proper .target i j f in (omega arith, candidates j (b .0) (b .1), proper .labelled j (b .0) (b .1) .0)
 
   from-row : (s : ℕ) {v : ℕ} → s ≤ 2 * A .letters → Least TOP (Onward (extended A) M t row s) v → CostToGo (extended A) M t (n + 1) s v
-  from-row s h l = togo-step (extended A) M t n row s (λ x s′ st. next s′ (step-within k A proper s x s′ st h)) l
+  from-row s h l = togo-step (extended A) M t n row s (λ x s′ st. next s′ (step-within proper s x s′ st h)) l
 
   -- in the blanks behind letter i, or in state 0
   pub blanks-cell :

@@ -53,7 +53,7 @@ may-end A i s o = (ends o, may o)
     may (inl o) h = on-last i o h
     may (inr o) h = after-last i o h
 
-module _ (k : ℕ) (A : Automaton) (proper : Proper k A) where
+module _ {k : ℕ} {A : Automaton} (proper : Proper k A) where
   -- States stay among 0 to 2L, and labels among 0 to k.
 
   pub step-within : (s x s′ : ℕ) → Step A s x s′ → s ≤ 2 * A .letters → s′ ≤ 2 * A .letters

@@ -19,11 +19,11 @@ use Rattle.trellis.specs.Trace.{WayFrom, BestFrom}
 use Rattle.trellis.specs.Extended.{extended, way-labels}
 use Rattle.trellis.specs.Accepted.{collapse-way}
 
-module _ (k : ℕ) (A : Automaton) (proper : Proper k A) (M : Matrix) (wide : M .width ≡ k + 1) (few : M .count ≤ 255) (pass : CostsPass M) where
+module _ {k : ℕ} {A : Automaton} (proper : Proper k A) (M : Matrix) (wide : M .width ≡ k + 1) (few : M .count ≤ 255) (pass : CostsPass M) where
   -- A rival is a way from state 0, one label for each column, with a price below TOP.
 
   pub rival-way : (p : List ℕ) → Rival (Accepts A) M p → Way (extended A) 0 p
-  rival-way p r = collapse-way k A proper p .0 (r .word)
+  rival-way p r = collapse-way proper p .0 (r .word)
 
   pub rival-below : (p : List ℕ) → Rival (Accepts A) M p → price M p < TOP
   rival-below p r = path-below M pass 0 p (let e = r .path .one-each in omega arith) (r .path .labels)
@@ -31,11 +31,11 @@ module _ (k : ℕ) (A : Automaton) (proper : Proper k A) (M : Matrix) (wide : M 
   pub way-rival : (p : List ℕ) → length p ≡ M .count → Way (extended A) 0 p → price M p < TOP → Rival (Accepts A) M p
   way-rival p l w b =
       record {
-        path = record { one-each = l; labels = below-path M pass 0 p (subst (λ n. Each (λ x. x < n) p) (sym wide) (way-labels k A proper p w)) b };
-        word = collapse-way k A proper p .1 w;
+        path = record { one-each = l; labels = below-path M pass 0 p (subst (λ n. Each (λ x. x < n) p) (sym wide) (way-labels proper p w)) b };
+        word = collapse-way proper p .1 w;
       }
 
-  module _ (v : ℕ) (togo : CostToGo (extended A) M 0 (M .count) 0 v) where
+  module _ {v : ℕ} (togo : CostToGo (extended A) M 0 (M .count) 0 v) where
     cheaper : (p : List ℕ) → Rival (Accepts A) M p → v ≤ price M p
     cheaper p r = togo .least (price M p) (record { path = p; long = r .path .one-each; way = rival-way p r; paid = refl })
 

@@ -43,8 +43,12 @@ Leaves A In i j = In (2 * i) ⊎ ((1 ≤ i) × In (2 * i - 1) × (A .label i ≡
 
 -- blanks are reached from themselves and from their letter
 pub reached-blanks : (A : Automaton) (In : ℕ → Type 0) (i u : ℕ) → InBlanks i u → Reached A In u ↔ (In u ⊎ ((1 ≤ i) × In (2 * i - 1)))
-reached-blanks A In i u o = (λ r. split (r .0) (r .1) (r .2), ⊎-elim (λ h. (u, h, rest i o (entering-blanks A i u o) o)) (λ h. (2 * i - 1, h .1, pass i (let p = h .0 in omega arith) (entering-blanks A i u o) o)))
+reached-blanks A In i u o = (λ r. split (r .0) (r .1) (r .2), go)
   where
+    go : In u ⊎ ((1 ≤ i) × In (2 * i - 1)) → Reached A In u
+    go (inl h) = (u, h, rest i o (entering-blanks A i u o) o)
+    go (inr h) = (2 * i - 1, h .1, pass i (let p = h .0 in omega arith) (entering-blanks A i u o) o)
+
     split : (s : ℕ) → In s → Step A s (entering A u) u → In u ⊎ ((1 ≤ i) × In (2 * i - 1))
     split s h (stay j d e d′) = absurd (omega arith)
     split s h (pass j d e d′) = inr (omega arith, subst In (omega arith) h)
@@ -83,13 +87,13 @@ pub record Picked (A : Automaton) (M : Matrix) (t : ℕ) (row : ℕ → ℕ) (In
   pub hit : (u : ℕ) → In′ u → Kept A M t row In v u × (entering A u ≡ x)
   pub all : (u : ℕ) → u ≤ 2 * A .letters → Kept A M t row In v u → entering A u ≡ x → In′ u
 
-module _ (k : ℕ) (A : Automaton) (proper : Proper k A) (M : Matrix) (t n v : ℕ) (row : ℕ → ℕ) (In : ℕ → Type 0)
+module _ {k : ℕ} {A : Automaton} (proper : Proper k A) (M : Matrix) (t v : ℕ) (row : ℕ → ℕ) (In : ℕ → Type 0)
     (within : (s : ℕ) → In s → s ≤ 2 * A .letters) where
   tight-kept : (x u : ℕ) → Tight (extended A) M t row In v x u → Kept A M t row In v u × (entering A u ≡ x) × (u ≤ 2 * A .letters)
   tight-kept x u h =
       let e = step-entering A (h .from) x u (h .step) in
       let r : Reached A In u = (h .from, h .member, subst (λ y. Step A (h .from) y u) e (h .step)) in
-      ((r, subst (λ y. plus (cost M t y) (row u) ≡ v) e (h .keeps)), sym e, step-within k A proper (h .from) x u (h .step) (within (h .from) (h .member)))
+      ((r, subst (λ y. plus (cost M t y) (row u) ≡ v) e (h .keeps)), sym e, step-within proper (h .from) x u (h .step) (within (h .from) (h .member)))
 
   kept-tight : (x u : ℕ) → Kept A M t row In v u → entering A u ≡ x → Tight (extended A) M t row In v x u
   kept-tight x u h e =
@@ -102,10 +106,10 @@ module _ (k : ℕ) (A : Automaton) (proper : Proper k A) (M : Matrix) (t n v : �
 
   -- the label of a state that is kept is one of the matrix
   pub kept-label : (u : ℕ) → Kept A M t row In v u → entering A u ≤ k
-  kept-label u h = step-label k A proper (h .0 .0) (entering A u) u (h .0 .2) (within (h .0 .0) (h .0 .1))
+  kept-label u h = step-label proper (h .0 .0) (entering A u) u (h .0 .2) (within (h .0 .0) (h .0 .1))
 
-  pub picked-chosen : (x : ℕ) (In′ : ℕ → Type 0) → Picked A M t row In v x In′ → Chosen (extended A) M t row In v x In′
-  picked-chosen x In′ p =
+  pub picked-chosen : {x : ℕ} {In′ : ℕ → Type 0} → Picked A M t row In v x In′ → Chosen (extended A) M t row In v x In′
+  picked-chosen {x} {In′} p =
       record {
         lowest = λ y u h. let d = tight-kept y u h in let e = d .1 in let l = p .lowest u (d .2) (d .0) in omega arith;
         one = p .one;
@@ -114,11 +118,11 @@ module _ (k : ℕ) (A : Automaton) (proper : Proper k A) (M : Matrix) (t n v : �
         all = λ u h. let d = tight-kept x u h in p .all u (d .2) (d .0) (d .1);
       }
 
-  module _ (next : (s : ℕ) → s ≤ 2 * A .letters → CostToGo (extended A) M (t + 1) n s (row s)) where
+  module _ (n : ℕ) (next : (s : ℕ) → s ≤ 2 * A .letters → CostToGo (extended A) M (t + 1) n s (row s)) where
     -- every step from the set leads to a state of the next row
     pub next-row : (s : ℕ) → In s → (x u : ℕ) → Step A s x u → CostToGo (extended A) M (t + 1) n u (row u)
-    next-row s i x u st = next u (step-within k A proper s x u st (within s i))
+    next-row s i x u st = next u (step-within proper s x u st (within s i))
 
     -- some state is kept
     pub some-kept : Shared (extended A) M t (n + 1) In v → (u : ℕ) × (u ≤ 2 * A .letters) × Kept A M t row In v u
-    some-kept sh = let o = some-tight (extended A) M t n v row In sh next-row in let h = tight-kept (o .0) (o .1) (o .2) in (o .1, h .2, h .0)
+    some-kept sh = let o = some-tight (extended A) M n row sh next-row in let h = tight-kept (o .0) (o .1) (o .2) in (o .1, h .2, h .0)

@@ -90,11 +90,11 @@ module _ {S : Type 0} (G : Graph S) (M : Matrix) where
             (λ a w. record { long = w .long; from = w .from; member = subst In (sym (w .member)) i; way = w .way });
       }
 
-  pub tracing-all : {start : S} {n t v : ℕ} {In : S → Type 0} (done : List ℕ) → Tracing start n t 0 In v done → BestFrom 0 n (λ s. s ≡ start) done
-  tracing-all done h = rw (append-nil done) at (h .best [] (shared-end (h .shared)))
+  pub tracing-all : {start : S} {n t v : ℕ} {In : S → Type 0} {done : List ℕ} → Tracing start n t 0 In v done → BestFrom 0 n (λ s. s ≡ start) done
+  tracing-all {done = done} h = rw (append-nil done) at (h .best [] (shared-end (h .shared)))
 
   -- One column: the set, what it shares, and the next row of costs to go.
-  module _ (t n v : ℕ) (row : S → ℕ) (In : S → Type 0) (sh : Shared t (n + 1) In v)
+  module _ {t v : ℕ} {In : S → Type 0} (n : ℕ) (row : S → ℕ) (sh : Shared t (n + 1) In v)
       (next : (s : S) → In s → (x : ℕ) (s′ : S) → G .Step s x s′ → CostToGo G M (t + 1) n s′ (row s′)) where
     -- the first step of a cheapest way is tight
     way-tight :
@@ -120,7 +120,7 @@ module _ {S : Type 0} (G : Graph S) (M : Matrix) where
             let g = way-split G (sh .one) y q w in
             (y, g .0, way-tight y q (omega arith) (sh .one) (sh .member) (g .0) (g .1) (g .2) e)
 
-    module _ (x : ℕ) (In′ : S → Type 0) (ch : Chosen t row In v x In′) where
+    module _ {x : ℕ} {In′ : S → Type 0} (ch : Chosen t row In v x In′) where
       -- what is left to pay
       tight-left : (s : S) → Tight t row In v x s → cost M t x + row s ≡ v
       tight-left s h = let b = sh .below in let e = h .keeps in omega arith
@@ -172,7 +172,7 @@ module _ {S : Type 0} (G : Graph S) (M : Matrix) where
               ⊎-elim inl (λ k. let z : x ≡ y = omega arith in inr (z, same y q (g .0) (omega arith) h (g .2) e z)) (lt-or-le x y)
 
       pub tracing-more :
-          (start : S) (whole : ℕ) (done : List ℕ) → Tracing start whole t (n + 1) In v done
+          {start : S} {whole : ℕ} {done : List ℕ} → Tracing start whole t (n + 1) In v done
           → Tracing start whole (t + 1) n In′ (v - cost M t x) (done ++ (x ∷ []))
-      tracing-more start whole done h =
+      tracing-more {done = done} h =
           record { shared = shared-next; best = λ p b. rw (append-assoc done (x ∷ []) p) (h .best (x ∷ p) (best-next p b)) }
