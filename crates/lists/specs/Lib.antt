@@ -1,3 +1,4 @@
 pub mod Order
 pub mod Each
+pub mod Least
 pub mod Written

@@ -1,0 +1,10 @@
+pub mod Graph
+pub mod Impossible
+pub mod CostToGo
+pub mod Extended
+pub mod Accepted
+pub mod Beginning
+pub mod Trace
+pub mod Outcome
+pub mod Cells
+pub mod Reached
