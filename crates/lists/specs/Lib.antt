@@ -2,3 +2,5 @@ pub mod Order
 pub mod Each
 pub mod Least
 pub mod Written
+pub mod Among
+pub mod Ascending
