@@ -8,3 +8,4 @@ pub mod Trace
 pub mod Outcome
 pub mod Cells
 pub mod Reached
+pub mod Table
