@@ -1,0 +1,112 @@
+-- An opened expression, its set of words, and how the tree of an expression opens (document 01, "Opening and the compiled form").
+-- Assumes nothing.
+use Prim.Native.Nat.{ℕ, zero, suc, _+_, _-_, _*_, _≤_}
+use mathlib.Core.Path.{_≡_, refl}
+use mathlib.Core.Logic.{_⊎_}
+use mathlib.Core.Bool.{Bool, true, false}
+use mathlib.Core.List.{List, [], _∷_, _++_}
+use lib.ListN.{length}
+use Rattle.expression.specs.Tree.{Set, Count, between, onward, Tree, set, group, times, join, either, member, Joined}
+
+-- `empty` has the empty word alone and ends a chain of copies; `never` has no word and ends an alternation of labels. Neither has letters.
+pub data Opened : Type 0 where
+  letter : ℕ → Opened
+  joining : Opened → Opened → Opened
+  alternation : Opened → Opened → Opened
+  optional : Opened → Opened
+  star : Opened → Opened
+  plus : Opened → Opened
+  empty : Opened
+  never : Opened
+
+abbrev pub OpenedWords : Opened → List ℕ → Type 0
+OpenedWords (letter a) w = w ≡ a ∷ []
+OpenedWords (joining r s) w = (u : List ℕ) × (v : List ℕ) × (w ≡ u ++ v) × OpenedWords r u × OpenedWords s v
+OpenedWords (alternation r s) w = OpenedWords r w ⊎ OpenedWords s w
+OpenedWords (optional r) w = (w ≡ []) ⊎ OpenedWords r w
+OpenedWords (star r) w = (k : ℕ) × Joined (OpenedWords r) k w
+OpenedWords (plus r) w = (k : ℕ) × Joined (OpenedWords r) (suc k) w
+OpenedWords empty w = w ≡ []
+OpenedWords never w = ⊥
+
+-- label x in front of the others, if it is taken
+abbrev pub taking : Bool → ℕ → List ℕ → List ℕ
+taking true x l = x ∷ l
+taking false x l = l
+
+-- The labels of a set's characters, ascending: the alphabet's first character is label x.
+unfoldable pub labels-from : ℕ → List ℕ → Set → List ℕ
+labels-from x [] c = []
+labels-from x (b ∷ A) c = taking (member c b) x (labels-from (suc x) A c)
+
+abbrev pub labels-in : List ℕ → Set → List ℕ
+labels-in A c = labels-from 1 A c
+
+-- an alternation of labels
+unfoldable pub any-of : List ℕ → Opened
+any-of [] = never
+any-of (x ∷ l) = alternation (letter x) (any-of l)
+
+-- n copies of r, and then t
+unfoldable pub copies : Opened → ℕ → Opened → Opened
+copies r zero t = t
+copies r (suc n) t = joining r (copies r n t)
+
+-- k nested optionals: (r(r(r)?)?)? for 3
+unfoldable pub nested : Opened → ℕ → Opened
+nested r zero = empty
+nested r (suc k) = optional (joining r (nested r k))
+
+-- `r?` is between 0 1, `r*` onward 0, `r+` onward 1, `r{n}` between n n
+unfoldable pub repeated : Opened → Count → Opened
+repeated r (between n m) = copies r n (nested r (m - n))
+repeated r (onward zero) = star r
+repeated r (onward (suc n)) = copies r n (plus r)
+
+unfoldable pub opened : List ℕ → Tree → Opened
+opened A (set c) = any-of (labels-in A c)
+opened A (group r) = opened A r
+opened A (times r c) = repeated (opened A r) c
+opened A (join r s) = joining (opened A r) (opened A s)
+opened A (either r s) = alternation (opened A r) (opened A s)
+
+-- the labels of the letters, from left to right
+unfoldable pub labels : Opened → List ℕ
+labels (letter a) = a ∷ []
+labels (joining r s) = labels r ++ labels s
+labels (alternation r s) = labels r ++ labels s
+labels (optional r) = labels r
+labels (star r) = labels r
+labels (plus r) = labels r
+labels empty = []
+labels never = []
+
+-- how many letters
+abbrev pub letters : Opened → ℕ
+letters r = length (labels r)
+
+-- The number of letters by the tree: how often a count writes what it repeats, times its letters.
+abbrev pub written-out : Count → ℕ
+written-out (between n m) = m
+written-out (onward zero) = 1
+written-out (onward (suc n)) = suc n
+
+unfoldable pub tree-letters : List ℕ → Tree → ℕ
+tree-letters A (set c) = length (labels-in A c)
+tree-letters A (group r) = tree-letters A r
+tree-letters A (times r c) = written-out c * tree-letters A r
+tree-letters A (join r s) = tree-letters A r + tree-letters A s
+tree-letters A (either r s) = tree-letters A r + tree-letters A s
+
+-- a count's least is not above its most
+abbrev pub InOrder : Count → Type 0
+InOrder (between n m) = n ≤ m
+InOrder (onward n) = Unit {0}
+
+-- so is each count of a tree
+abbrev pub Ordered : Tree → Type 0
+Ordered (set c) = Unit {0}
+Ordered (group r) = Ordered r
+Ordered (times r c) = Ordered r × InOrder c
+Ordered (join r s) = Ordered r × Ordered s
+Ordered (either r s) = Ordered r × Ordered s

@@ -1,0 +1,166 @@
+-- Opening keeps the set of words, and the tree tells the number of letters. Assumes nothing.
+use Prim.Native.Nat.{ℕ, zero, suc, _+_, _-_, _*_, _≤_, _<_}
+use mathlib.Core.Path.{_≡_, refl, sym, ap, subst, _∙_}
+use mathlib.Core.Logic.{_⊎_, inl, inr, _↔_, ⊎-map}
+use mathlib.Core.Bool.{Bool, true, false}
+use mathlib.Core.List.{List, [], _∷_, _++_}
+use native.Mathlib.Nat.{add-mul}
+use native.Mathlib.Omega.{arith}
+use lib.ListN.{length, getD, length-append}
+use Rattle.lists.specs.Order.{eq-or-ne, not-both}
+use Rattle.expression.specs.Tree.{Set, Count, between, onward, Tree, set, group, times, join, either, member, Allows, Joined, Words}
+use Rattle.positions.specs.Opened.{Opened, letter, joining, alternation, optional, star, plus, empty, never, OpenedWords, taking, labels-from, labels-in, any-of, copies, nested, repeated, opened, labels, letters, written-out, tree-letters, InOrder, Ordered}
+
+-- Sets. A label whose character is in the set, where the first character is label y.
+abbrev Named : ℕ → List ℕ → Set → ℕ → Type 0
+Named y A c x = (y ≤ x) × (x < y + length A) × (member c (getD A (x - y) 0) ≡ true)
+
+named-first : (y b : ℕ) (A : List ℕ) (c : Set) → member c b ≡ true → Named y (b ∷ A) c y
+named-first y b A c e = let z : y - y ≡ 0 = omega arith in (omega arith, omega arith, rw z e)
+
+named-later : (y b : ℕ) (A : List ℕ) (c : Set) (x : ℕ) → Named (suc y) A c x → Named y (b ∷ A) c x
+named-later y b A c x h = let z : x - y ≡ suc (x - suc y) = omega arith in (omega arith, omega arith, rw z (h .2))
+
+named-behind : (y b : ℕ) (A : List ℕ) (c : Set) (x : ℕ) → (x ≡ y → ⊥) → Named y (b ∷ A) c x → Named (suc y) A c x
+named-behind y b A c x n h = let z : x - y ≡ suc (x - suc y) = omega arith in (omega arith, omega arith, rw z at (h .2))
+
+set-out : (y : ℕ) (A : List ℕ) (c : Set) (w : List ℕ) → OpenedWords (any-of (labels-from y A c)) w → (x : ℕ) × Named y A c x × (w ≡ x ∷ [])
+unfolding labels-from any-of
+set-out y [] c w h = absurd h
+set-out y (b ∷ A) c w h = by (member c b) refl (set-out (suc y) A c w) h
+  where
+    by : (t : Bool) → member c b ≡ t → (OpenedWords (any-of (labels-from (suc y) A c)) w → (x : ℕ) × Named (suc y) A c x × (w ≡ x ∷ []))
+        → OpenedWords (any-of (taking t y (labels-from (suc y) A c))) w → (x : ℕ) × Named y (b ∷ A) c x × (w ≡ x ∷ [])
+    by true e more (inl k) = (y, named-first y b A c e, k)
+    by true e more (inr k) = let x = more k in (x .0, named-later y b A c (x .0) (x .1), x .2)
+    by false e more k = let x = more k in (x .0, named-later y b A c (x .0) (x .1), x .2)
+
+set-in : (y : ℕ) (A : List ℕ) (c : Set) (x : ℕ) → Named y A c x → OpenedWords (any-of (labels-from y A c)) (x ∷ [])
+unfolding labels-from any-of
+set-in y [] c x h = absurd (omega arith)
+set-in y (b ∷ A) c x h = by (member c b) refl (eq-or-ne x y) (set-in (suc y) A c x)
+  where
+    by : (t : Bool) → member c b ≡ t → (x ≡ y) ⊎ (x ≡ y → ⊥) → (Named (suc y) A c x → OpenedWords (any-of (labels-from (suc y) A c)) (x ∷ []))
+        → OpenedWords (any-of (taking t y (labels-from (suc y) A c))) (x ∷ [])
+    by true e (inl q) more = inl (ap (λ z. z ∷ []) q)
+    by true e (inr n) more = inr (more (named-behind y b A c x n h))
+    by false e (inl q) more = let z : x - y ≡ 0 = omega arith in absurd (not-both (member c b) (rw z at (h .2)) e)
+    by false e (inr n) more = more (named-behind y b A c x n h)
+
+-- Repetitions. Words of one set joined are words of a larger one joined.
+pub joined-map : (P Q : List ℕ → Type 0) → ((w : List ℕ) → P w → Q w) → (k : ℕ) (w : List ℕ) → Joined P k w → Joined Q k w
+joined-map P Q f zero w h = h
+joined-map P Q f (suc k) w h = (h .0, h .1, h .2, f (h .0) (h .3), joined-map P Q f k (h .1) (h .4))
+
+-- If each word of r is in P, each word of a repetition is that number of words of P joined; C tells the numbers that t has.
+module _ (r : Opened) (P : List ℕ → Type 0) (out : (w : List ℕ) → OpenedWords r w → P w) where
+  copies-out :
+      (t : Opened) (C : ℕ → Type 0) → ((v : List ℕ) → OpenedWords t v → (j : ℕ) × C j × Joined P j v)
+      → (n : ℕ) (w : List ℕ) → OpenedWords (copies r n t) w → (k : ℕ) × (j : ℕ) × (k ≡ n + j) × C j × Joined P k w
+  unfolding copies
+  copies-out t C f zero w h = let x = f w h in (x .0, x .0, omega arith, x .1, x .2)
+  copies-out t C f (suc n) w h =
+      let x = copies-out t C f n (h .1) (h .4) in
+      (suc (x .0), x .1, omega (arith, x .2), x .3, (h .0, h .1, h .2, out (h .0) (h .3), x .4))
+
+  nested-out : (m : ℕ) (w : List ℕ) → OpenedWords (nested r m) w → (j : ℕ) × (j ≤ m) × Joined P j w
+  unfolding nested
+  nested-out zero w h = (0, omega arith, h)
+  nested-out (suc m) w (inl h) = (0, omega arith, h)
+  nested-out (suc m) w (inr h) =
+      let x = nested-out m (h .1) (h .4) in (suc (x .0), omega (arith, x .1), (h .0, h .1, h .2, out (h .0) (h .3), x .2))
+
+  plus-out : (w : List ℕ) → OpenedWords (plus r) w → (j : ℕ) × (1 ≤ j) × Joined P j w
+  plus-out w h = (suc (h .0), omega arith, joined-map (OpenedWords r) P out (suc (h .0)) w (h .1))
+
+  repeated-out : (c : Count) (w : List ℕ) → InOrder c → OpenedWords (repeated r c) w → (k : ℕ) × Allows c k × Joined P k w
+  unfolding repeated
+  repeated-out (between n m) w o h =
+      let x = copies-out (nested r (m - n)) (λ j. j ≤ m - n) (nested-out (m - n)) n w h in
+      (x .0, omega (arith, x .2, x .3), x .4)
+  repeated-out (onward zero) w o h = (h .0, omega arith, joined-map (OpenedWords r) P out (h .0) w (h .1))
+  repeated-out (onward (suc n)) w o h =
+      let x = copies-out (plus r) (λ j. 1 ≤ j) plus-out n w h in
+      (x .0, omega (arith, x .2, x .3), x .4)
+
+-- and conversely
+module _ (r : Opened) (P : List ℕ → Type 0) (into : (w : List ℕ) → P w → OpenedWords r w) where
+  copies-in :
+      (t : Opened) (n k : ℕ) → n ≤ k → ((v : List ℕ) → Joined P (k - n) v → OpenedWords t v)
+      → (w : List ℕ) → Joined P k w → OpenedWords (copies r n t) w
+  unfolding copies
+  copies-in t zero k l f w h = f w (let z : k - 0 ≡ k = omega arith in rw z h)
+  copies-in t (suc n) zero l f w h = absurd (omega arith)
+  copies-in t (suc n) (suc k) l f w h =
+      let z : suc k - suc n ≡ k - n = omega arith in
+      (h .0, h .1, h .2, into (h .0) (h .3), copies-in t n k (omega arith) (rw z at f) (h .1) (h .4))
+
+  nested-in : (m j : ℕ) → j ≤ m → (w : List ℕ) → Joined P j w → OpenedWords (nested r m) w
+  unfolding nested
+  nested-in zero zero l w h = h
+  nested-in (suc m) zero l w h = inl h
+  nested-in zero (suc j) l w h = absurd (omega arith)
+  nested-in (suc m) (suc j) l w h = inr (h .0, h .1, h .2, into (h .0) (h .3), nested-in m j (omega arith) (h .1) (h .4))
+
+  plus-in : (j : ℕ) → 1 ≤ j → (w : List ℕ) → Joined P j w → OpenedWords (plus r) w
+  plus-in zero l w h = absurd (omega arith)
+  plus-in (suc j) l w h = (j, joined-map P (OpenedWords r) into (suc j) w h)
+
+  repeated-in : (c : Count) (k : ℕ) → Allows c k → (w : List ℕ) → Joined P k w → OpenedWords (repeated r c) w
+  unfolding repeated
+  repeated-in (between n m) k a w h = copies-in (nested r (m - n)) n k (a .0) (nested-in (m - n) (k - n) (omega arith)) w h
+  repeated-in (onward zero) k a w h = (k, joined-map P (OpenedWords r) into k w h)
+  repeated-in (onward (suc n)) k a w h = copies-in (plus r) n k (omega arith) (plus-in (k - n) (omega arith)) w h
+
+words-opened : (A : List ℕ) (t : Tree) (w : List ℕ) → Words A t w → OpenedWords (opened A t) w
+unfolding opened
+words-opened A (set c) w h = rw (h .4) (set-in 1 A c (h .0) (h .1, omega arith, h .3))
+words-opened A (group r) w h = words-opened A r w h
+words-opened A (times r c) w h = repeated-in (opened A r) (Words A r) (words-opened A r) c (h .0) (h .1) w (h .2)
+words-opened A (join r s) w h = (h .0, h .1, h .2, words-opened A r (h .0) (h .3), words-opened A s (h .1) (h .4))
+words-opened A (either r s) w (inl h) = inl (words-opened A r w h)
+words-opened A (either r s) w (inr h) = inr (words-opened A s w h)
+
+opened-words : (A : List ℕ) (t : Tree) → Ordered t → (w : List ℕ) → OpenedWords (opened A t) w → Words A t w
+unfolding opened
+opened-words A (set c) o w h = let x = set-out 1 A c w h in (x .0, x .1 .0, omega (arith, x .1 .1), x .1 .2, x .2)
+opened-words A (group r) o w h = opened-words A r o w h
+opened-words A (times r c) o w h = repeated-out (opened A r) (Words A r) (opened-words A r (o .0)) c w (o .1) h
+opened-words A (join r s) o w h = (h .0, h .1, h .2, opened-words A r (o .0) (h .0) (h .3), opened-words A s (o .1) (h .1) (h .4))
+opened-words A (either r s) o w (inl h) = inl (opened-words A r (o .0) w h)
+opened-words A (either r s) o w (inr h) = inr (opened-words A s (o .1) w h)
+
+pub opening-keeps-words : (A : List ℕ) (t : Tree) → Ordered t → (w : List ℕ) → Words A t w ↔ OpenedWords (opened A t) w
+opening-keeps-words A t o w = (words-opened A t w, opened-words A t o w)
+
+-- Letters.
+any-of-labels : (l : List ℕ) → labels (any-of l) ≡ l
+unfolding any-of labels
+any-of-labels [] = refl
+any-of-labels (x ∷ l) = ap (λ k. x ∷ k) (any-of-labels l)
+
+copies-letters : (r t : Opened) (n : ℕ) → letters (copies r n t) ≡ n * letters r + letters t
+unfolding copies labels
+copies-letters r t zero = omega arith
+copies-letters r t (suc n) = rw (length-append (labels r) (labels (copies r n t))) (let h = copies-letters r t n in omega arith)
+
+nested-letters : (r : Opened) (k : ℕ) → letters (nested r k) ≡ k * letters r
+unfolding nested labels
+nested-letters r zero = omega arith
+nested-letters r (suc k) = rw (length-append (labels r) (labels (nested r k))) (let h = nested-letters r k in omega arith)
+
+repeated-letters : (r : Opened) (c : Count) → InOrder c → letters (repeated r c) ≡ written-out c * letters r
+unfolding repeated labels
+repeated-letters r (between n m) o =
+    let e : n + (m - n) ≡ m = omega arith in
+    copies-letters r (nested r (m - n)) n ∙ rw nested-letters (sym (add-mul n (m - n) (letters r))) ∙ ap (λ k. k * letters r) e
+repeated-letters r (onward zero) o = omega arith
+repeated-letters r (onward (suc n)) o = let h = copies-letters r (plus r) n in omega arith
+
+pub opened-letters : (A : List ℕ) (t : Tree) → Ordered t → letters (opened A t) ≡ tree-letters A t
+unfolding opened labels tree-letters
+opened-letters A (set c) o = ap length (any-of-labels (labels-in A c))
+opened-letters A (group r) o = opened-letters A r o
+opened-letters A (times r c) o = repeated-letters (opened A r) c (o .1) ∙ ap (λ k. written-out c * k) (opened-letters A r (o .0))
+opened-letters A (join r s) o = rw (length-append (labels (opened A r)) (labels (opened A s)), opened-letters A r (o .0), opened-letters A s (o .1))
+opened-letters A (either r s) o = rw (length-append (labels (opened A r)) (labels (opened A s)), opened-letters A r (o .0), opened-letters A s (o .1))
