@@ -1,6 +1,6 @@
 -- An opened expression, its set of words, and how the tree of an expression opens (document 01, "Opening and the compiled form").
 -- Assumes nothing.
-use Prim.Native.Nat.{ℕ, zero, suc, _+_, _-_, _*_, _≤_}
+use Prim.Native.Nat.{ℕ, zero, suc, _-_, _≤_}
 use mathlib.Core.Path.{_≡_, refl}
 use mathlib.Core.Logic.{_⊎_}
 use mathlib.Core.Bool.{Bool, true, false}
@@ -35,17 +35,17 @@ taking true x l = x ∷ l
 taking false x l = l
 
 -- The labels of a set's characters, ascending: the alphabet's first character is label x.
-unfoldable pub labels-from : ℕ → List ℕ → Set → List ℕ
-labels-from x [] c = []
-labels-from x (b ∷ A) c = taking (member c b) x (labels-from (suc x) A c)
+unfoldable pub labelsFrom : ℕ → List ℕ → Set → List ℕ
+labelsFrom x [] c = []
+labelsFrom x (b ∷ A) c = taking (member c b) x (labelsFrom (suc x) A c)
 
-abbrev pub labels-in : List ℕ → Set → List ℕ
-labels-in A c = labels-from 1 A c
+abbrev pub labelsIn : List ℕ → Set → List ℕ
+labelsIn A c = labelsFrom 1 A c
 
 -- an alternation of labels
-unfoldable pub any-of : List ℕ → Opened
-any-of [] = never
-any-of (x ∷ l) = alternation (letter x) (any-of l)
+unfoldable pub anyOf : List ℕ → Opened
+anyOf [] = never
+anyOf (x ∷ l) = alternation (letter x) (anyOf l)
 
 -- n copies of r, and then t
 unfoldable pub copies : Opened → ℕ → Opened → Opened
@@ -64,7 +64,7 @@ repeated r (onward zero) = star r
 repeated r (onward (suc n)) = copies r n (plus r)
 
 unfoldable pub opened : List ℕ → Tree → Opened
-opened A (set c) = any-of (labels-in A c)
+opened A (set c) = anyOf (labelsIn A c)
 opened A (group r) = opened A r
 opened A (times r c) = repeated (opened A r) c
 opened A (join r s) = joining (opened A r) (opened A s)
@@ -84,19 +84,6 @@ labels never = []
 -- how many letters
 abbrev pub letters : Opened → ℕ
 letters r = length (labels r)
-
--- The number of letters by the tree: how often a count writes what it repeats, times its letters.
-abbrev pub written-out : Count → ℕ
-written-out (between n m) = m
-written-out (onward zero) = 1
-written-out (onward (suc n)) = suc n
-
-unfoldable pub tree-letters : List ℕ → Tree → ℕ
-tree-letters A (set c) = length (labels-in A c)
-tree-letters A (group r) = tree-letters A r
-tree-letters A (times r c) = written-out c * tree-letters A r
-tree-letters A (join r s) = tree-letters A r + tree-letters A s
-tree-letters A (either r s) = tree-letters A r + tree-letters A s
 
 -- a count's least is not above its most
 abbrev pub InOrder : Count → Type 0

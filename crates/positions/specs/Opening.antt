@@ -1,15 +1,14 @@
--- Opening keeps the set of words, and the tree tells the number of letters. Assumes nothing.
-use Prim.Native.Nat.{ℕ, zero, suc, _+_, _-_, _*_, _≤_, _<_}
-use mathlib.Core.Path.{_≡_, refl, sym, ap, subst, _∙_}
-use mathlib.Core.Logic.{_⊎_, inl, inr, _↔_, ⊎-map}
+-- Opening keeps the set of words. Assumes nothing.
+use Prim.Native.Nat.{ℕ, zero, suc, _+_, _-_, _≤_, _<_}
+use mathlib.Core.Path.{_≡_, refl, ap}
+use mathlib.Core.Logic.{_⊎_, inl, inr, _↔_}
 use mathlib.Core.Bool.{Bool, true, false}
 use mathlib.Core.List.{List, [], _∷_, _++_}
-use native.Mathlib.Nat.{add-mul}
 use native.Mathlib.Omega.{arith}
-use lib.ListN.{length, getD, length-append}
+use lib.ListN.{length, getD}
 use Rattle.lists.specs.Order.{eq-or-ne, not-both}
 use Rattle.expression.specs.Tree.{Set, Count, between, onward, Tree, set, group, times, join, either, member, Allows, Joined, Words}
-use Rattle.positions.specs.Opened.{Opened, letter, joining, alternation, optional, star, plus, empty, never, OpenedWords, taking, labels-from, labels-in, any-of, copies, nested, repeated, opened, labels, letters, written-out, tree-letters, InOrder, Ordered}
+use Rattle.positions.specs.Opened.{Opened, letter, joining, alternation, optional, star, plus, empty, never, OpenedWords, taking, labelsFrom, labelsIn, anyOf, copies, nested, repeated, opened, InOrder, Ordered}
 
 -- Sets. A label whose character is in the set, where the first character is label y.
 abbrev Named : ℕ → List ℕ → Set → ℕ → Type 0
@@ -24,24 +23,24 @@ named-later y b A c x h = let z : x - y ≡ suc (x - suc y) = omega arith in (om
 named-behind : (y b : ℕ) (A : List ℕ) (c : Set) (x : ℕ) → (x ≡ y → ⊥) → Named y (b ∷ A) c x → Named (suc y) A c x
 named-behind y b A c x n h = let z : x - y ≡ suc (x - suc y) = omega arith in (omega arith, omega arith, rw z at (h .2))
 
-set-out : (y : ℕ) (A : List ℕ) (c : Set) (w : List ℕ) → OpenedWords (any-of (labels-from y A c)) w → (x : ℕ) × Named y A c x × (w ≡ x ∷ [])
-unfolding labels-from any-of
+set-out : (y : ℕ) (A : List ℕ) (c : Set) (w : List ℕ) → OpenedWords (anyOf (labelsFrom y A c)) w → (x : ℕ) × Named y A c x × (w ≡ x ∷ [])
+unfolding labelsFrom anyOf
 set-out y [] c w h = absurd h
 set-out y (b ∷ A) c w h = by (member c b) refl (set-out (suc y) A c w) h
   where
-    by : (t : Bool) → member c b ≡ t → (OpenedWords (any-of (labels-from (suc y) A c)) w → (x : ℕ) × Named (suc y) A c x × (w ≡ x ∷ []))
-        → OpenedWords (any-of (taking t y (labels-from (suc y) A c))) w → (x : ℕ) × Named y (b ∷ A) c x × (w ≡ x ∷ [])
+    by : (t : Bool) → member c b ≡ t → (OpenedWords (anyOf (labelsFrom (suc y) A c)) w → (x : ℕ) × Named (suc y) A c x × (w ≡ x ∷ []))
+        → OpenedWords (anyOf (taking t y (labelsFrom (suc y) A c))) w → (x : ℕ) × Named y (b ∷ A) c x × (w ≡ x ∷ [])
     by true e more (inl k) = (y, named-first y b A c e, k)
     by true e more (inr k) = let x = more k in (x .0, named-later y b A c (x .0) (x .1), x .2)
     by false e more k = let x = more k in (x .0, named-later y b A c (x .0) (x .1), x .2)
 
-set-in : (y : ℕ) (A : List ℕ) (c : Set) (x : ℕ) → Named y A c x → OpenedWords (any-of (labels-from y A c)) (x ∷ [])
-unfolding labels-from any-of
+set-in : (y : ℕ) (A : List ℕ) (c : Set) (x : ℕ) → Named y A c x → OpenedWords (anyOf (labelsFrom y A c)) (x ∷ [])
+unfolding labelsFrom anyOf
 set-in y [] c x h = absurd (omega arith)
 set-in y (b ∷ A) c x h = by (member c b) refl (eq-or-ne x y) (set-in (suc y) A c x)
   where
-    by : (t : Bool) → member c b ≡ t → (x ≡ y) ⊎ (x ≡ y → ⊥) → (Named (suc y) A c x → OpenedWords (any-of (labels-from (suc y) A c)) (x ∷ []))
-        → OpenedWords (any-of (taking t y (labels-from (suc y) A c))) (x ∷ [])
+    by : (t : Bool) → member c b ≡ t → (x ≡ y) ⊎ (x ≡ y → ⊥) → (Named (suc y) A c x → OpenedWords (anyOf (labelsFrom (suc y) A c)) (x ∷ []))
+        → OpenedWords (anyOf (taking t y (labelsFrom (suc y) A c))) (x ∷ [])
     by true e (inl q) more = inl (ap (λ z. z ∷ []) q)
     by true e (inr n) more = inr (more (named-behind y b A c x n h))
     by false e (inl q) more = let z : x - y ≡ 0 = omega arith in absurd (not-both (member c b) (rw z at (h .2)) e)
@@ -132,35 +131,3 @@ opened-words A (either r s) o w (inr h) = inr (opened-words A s (o .1) w h)
 
 pub opening-keeps-words : (A : List ℕ) (t : Tree) → Ordered t → (w : List ℕ) → Words A t w ↔ OpenedWords (opened A t) w
 opening-keeps-words A t o w = (words-opened A t w, opened-words A t o w)
-
--- Letters.
-any-of-labels : (l : List ℕ) → labels (any-of l) ≡ l
-unfolding any-of labels
-any-of-labels [] = refl
-any-of-labels (x ∷ l) = ap (λ k. x ∷ k) (any-of-labels l)
-
-copies-letters : (r t : Opened) (n : ℕ) → letters (copies r n t) ≡ n * letters r + letters t
-unfolding copies labels
-copies-letters r t zero = omega arith
-copies-letters r t (suc n) = rw (length-append (labels r) (labels (copies r n t))) (let h = copies-letters r t n in omega arith)
-
-nested-letters : (r : Opened) (k : ℕ) → letters (nested r k) ≡ k * letters r
-unfolding nested labels
-nested-letters r zero = omega arith
-nested-letters r (suc k) = rw (length-append (labels r) (labels (nested r k))) (let h = nested-letters r k in omega arith)
-
-repeated-letters : (r : Opened) (c : Count) → InOrder c → letters (repeated r c) ≡ written-out c * letters r
-unfolding repeated labels
-repeated-letters r (between n m) o =
-    let e : n + (m - n) ≡ m = omega arith in
-    copies-letters r (nested r (m - n)) n ∙ rw nested-letters (sym (add-mul n (m - n) (letters r))) ∙ ap (λ k. k * letters r) e
-repeated-letters r (onward zero) o = omega arith
-repeated-letters r (onward (suc n)) o = let h = copies-letters r (plus r) n in omega arith
-
-pub opened-letters : (A : List ℕ) (t : Tree) → Ordered t → letters (opened A t) ≡ tree-letters A t
-unfolding opened labels tree-letters
-opened-letters A (set c) o = ap length (any-of-labels (labels-in A c))
-opened-letters A (group r) o = opened-letters A r o
-opened-letters A (times r c) o = repeated-letters (opened A r) c (o .1) ∙ ap (λ k. written-out c * k) (opened-letters A r (o .0))
-opened-letters A (join r s) o = rw (length-append (labels (opened A r)) (labels (opened A s)), opened-letters A r (o .0), opened-letters A s (o .1))
-opened-letters A (either r s) o = rw (length-append (labels (opened A r)) (labels (opened A s)), opened-letters A r (o .0), opened-letters A s (o .1))

@@ -1,0 +1,68 @@
+-- The number of letters that a tree opens into, by the tree (document 01, "Opening and the compiled form"). Assumes nothing.
+use Prim.Native.Nat.{ℕ, zero, suc, _+_, _-_, _*_, _≤_}
+use mathlib.Core.Path.{_≡_, refl, sym, ap, _∙_}
+use mathlib.Core.Bool.{Bool, true, false, cond}
+use mathlib.Core.List.{List, [], _∷_, _++_}
+use native.Mathlib.Nat.{add-mul}
+use native.Mathlib.Omega.{arith}
+use lib.ListN.{length, length-append}
+use Rattle.expression.specs.Tree.{Set, Count, between, onward, Tree, set, group, times, join, either, member}
+use Rattle.positions.specs.Opened.{Opened, plus, taking, labelsFrom, labelsIn, anyOf, copies, nested, repeated, opened, labels, letters, InOrder, Ordered}
+
+-- how many labels of the alphabet a set has
+unfoldable pub labelsOf : List ℕ → Set → ℕ
+labelsOf [] c = 0
+labelsOf (b ∷ A) c = cond (member c b) 1 0 + labelsOf A c
+
+-- how often a count writes what it repeats
+abbrev pub copiesOf : Count → ℕ
+copiesOf (between n m) = m
+copiesOf (onward zero) = 1
+copiesOf (onward (suc n)) = suc n
+
+unfoldable pub treeLetters : List ℕ → Tree → ℕ
+treeLetters A (set c) = labelsOf A c
+treeLetters A (group r) = treeLetters A r
+treeLetters A (times r c) = copiesOf c * treeLetters A r
+treeLetters A (join r s) = treeLetters A r + treeLetters A s
+treeLetters A (either r s) = treeLetters A r + treeLetters A s
+
+from-labels : (x : ℕ) (A : List ℕ) (c : Set) → length (labelsFrom x A c) ≡ labelsOf A c
+unfolding labelsFrom labelsOf
+from-labels x [] c = refl
+from-labels x (b ∷ A) c = by (member c b) (from-labels (suc x) A c)
+  where
+    by : (t : Bool) → length (labelsFrom (suc x) A c) ≡ labelsOf A c → length (taking t x (labelsFrom (suc x) A c)) ≡ cond t 1 0 + labelsOf A c
+    by true h = omega arith
+    by false h = omega arith
+
+pub any-of-labels : (l : List ℕ) → labels (anyOf l) ≡ l
+unfolding anyOf labels
+any-of-labels [] = refl
+any-of-labels (x ∷ l) = ap (λ k. x ∷ k) (any-of-labels l)
+
+copies-letters : (r t : Opened) (n : ℕ) → letters (copies r n t) ≡ n * letters r + letters t
+unfolding copies labels
+copies-letters r t zero = omega arith
+copies-letters r t (suc n) = rw (length-append (labels r) (labels (copies r n t))) (let h = copies-letters r t n in omega arith)
+
+nested-letters : (r : Opened) (k : ℕ) → letters (nested r k) ≡ k * letters r
+unfolding nested labels
+nested-letters r zero = omega arith
+nested-letters r (suc k) = rw (length-append (labels r) (labels (nested r k))) (let h = nested-letters r k in omega arith)
+
+repeated-letters : (r : Opened) (c : Count) → InOrder c → letters (repeated r c) ≡ copiesOf c * letters r
+unfolding repeated labels
+repeated-letters r (between n m) o =
+    let e : n + (m - n) ≡ m = omega arith in
+    copies-letters r (nested r (m - n)) n ∙ rw nested-letters (sym (add-mul n (m - n) (letters r))) ∙ ap (λ k. k * letters r) e
+repeated-letters r (onward zero) o = omega arith
+repeated-letters r (onward (suc n)) o = let h = copies-letters r (plus r) n in omega arith
+
+pub opened-letters : (A : List ℕ) (t : Tree) → Ordered t → letters (opened A t) ≡ treeLetters A t
+unfolding opened labels treeLetters
+opened-letters A (set c) o = ap length (any-of-labels (labelsIn A c)) ∙ from-labels 1 A c
+opened-letters A (group r) o = opened-letters A r o
+opened-letters A (times r c) o = repeated-letters (opened A r) c (o .1) ∙ ap (λ k. copiesOf c * k) (opened-letters A r (o .0))
+opened-letters A (join r s) o = rw (length-append (labels (opened A r)) (labels (opened A s)), opened-letters A r (o .0), opened-letters A s (o .1))
+opened-letters A (either r s) o = rw (length-append (labels (opened A r)) (labels (opened A s)), opened-letters A r (o .0), opened-letters A s (o .1))
