@@ -5,3 +5,5 @@ pub mod Numbered
 pub mod Inside
 pub mod Walks
 pub mod Exact
+pub mod Equations
+pub mod Examples
