@@ -1,18 +1,18 @@
 -- The numbered letters part by part, as equations: for each shape, for a set of labels as a whole, and for a repetition copy by copy.
 -- Assumes nothing.
-use Prim.Native.Nat.{ℕ, zero, suc, _+_, _-_, _≤_, _<_}
+use Prim.Native.Nat.{ℕ, suc, _+_, _-_, _≤_, _<_}
 use mathlib.Core.Path.{_≡_, refl, sym}
 use mathlib.Core.Logic.{_⊎_, inl, inr}
-use mathlib.Core.Bool.{Bool, true, false, _&&_, _||_, or-false, and-true, and-false}
-use mathlib.Core.List.{List, [], _∷_, _++_}
+use mathlib.Core.Bool.{false, _&&_, _||_, or-false, and-true, and-false}
+use mathlib.Core.List.{List, [], _∷_}
 use native.Mathlib.Omega.{arith}
 use lib.ListN.{length, length-append}
 use lib.Dec.{eqb, leb, ltb}
 use borrow.Author.Tests.{eq-eqb, ne-eqb, le-leb, lt-leb, lt-ltb, le-ltb}
 use Rattle.lists.specs.Order.{lt-or-le, eq-or-ne}
 use Rattle.expression.specs.Tree.{between, onward}
-use Rattle.positions.specs.Opened.{Opened, letter, joining, alternation, optional, star, plus, empty, never, anyOf, copies, nested, repeated, labels, letters}
-use Rattle.positions.specs.Numbered.{Positions, bare, single, joint, choice, perhaps, again, numbered}
+use Rattle.positions.specs.Opened.{Opened, letter, joining, alternation, optional, star, plus, empty, anyOf, copies, nested, repeated, labels, letters}
+use Rattle.positions.specs.Numbered.{Positions, single, joint, choice, perhaps, again, numbered}
 
 pub letters-joining : (r s : Opened) → letters (joining r s) ≡ letters r + letters s
 unfolding labels
@@ -63,7 +63,8 @@ joined-empty n r =
       nullable = and-true (p .nullable);
       first = λ i. rw (and-false (p .nullable)) (or-false (p .first i));
       last = λ i. refl;
-      follow = λ i j. rw (and-false (p .last i), or-false (p .follow i j)) (or-false (p .follow i j)) }
+      follow = λ i j. rw (and-false (p .last i), or-false (p .follow i j)) (or-false (p .follow i j));
+    }
 
 -- the letters n to m - 1, each alone
 abbrev pub alone : ℕ → ℕ → Positions
@@ -81,6 +82,7 @@ one-more n k i = by (eq-or-ne i n) (lt-or-le i n)
   where
     same : n + 1 + k ≡ n + suc k
     same = omega arith
+
     by : (i ≡ n) ⊎ (i ≡ n → ⊥) → (i < n) ⊎ (n ≤ i) → (eqb i n || leb (n + 1) i && ltb i (n + 1 + k)) ≡ (leb n i && ltb i (n + suc k))
     by (inl e) d = rw (eq-eqb i n e, le-leb n i (omega arith), lt-ltb i (n + suc k) (omega arith))
     by (inr f) (inl d) = rw (ne-eqb i n f, lt-leb (n + 1) i (omega arith), lt-leb n i d)
@@ -95,7 +97,8 @@ numbered-any-of n (x ∷ l) =
       nullable = h .nullable;
       first = λ i. rw (h .first i) (one-more n (length l) i);
       last = λ i. rw (h .last i) (one-more n (length l) i);
-      follow = h .follow }
+      follow = h .follow;
+    }
 
 -- A repetition, copy by copy.
 pub between-none : (r : Opened) → repeated r (between 0 0) ≡ empty

@@ -1,21 +1,19 @@
 -- The automaton of a tree is proper, and accepts exactly the tree's words. Assumes nothing.
 use Prim.Native.Nat.{ℕ, zero, suc, _+_, _-_, _≤_, _<_}
-use mathlib.Core.Path.{_≡_, refl, sym, ap, subst, _∙_}
-use mathlib.Core.Logic.{_⊎_, inl, inr, _↔_, ⊎-map, ⊎-elim, Iff·trans, Iff·symm}
+use mathlib.Core.Path.{_≡_, ap, subst, _∙_}
+use mathlib.Core.Logic.{_⊎_, inl, inr, _↔_, ⊎-elim, Iff·trans, Iff·symm}
 use mathlib.Core.Bool.{Bool, true, false}
-use mathlib.Core.List.{List, [], _∷_, _++_, map}
+use mathlib.Core.List.{List, [], _∷_, _++_}
 use native.Mathlib.Omega.{arith}
 use lib.ListN.{length, getD, length-append, List·getD-append}
 use lib.Seq.{getD-append-add}
-use borrow.Author.Tests.{eqb-true, eq-eqb}
-use Rattle.lists.specs.Order.{not-both}
 use Rattle.lists.specs.Each.{Each, each-map, each-append, each-at}
-use Rattle.automaton.specs.Automaton.{Automaton, Walk, Accepts, Proper}
+use Rattle.automaton.specs.Automaton.{Accepts, Proper}
 use Rattle.expression.specs.Tree.{Set, Count, between, onward, Tree, set, group, times, join, either, member, Joined, Words}
-use Rattle.positions.specs.Opened.{Opened, letter, joining, alternation, optional, star, plus, empty, never, OpenedWords, taking, labelsFrom, labelsIn, anyOf, copies, nested, repeated, opened, labels, letters, Ordered}
+use Rattle.positions.specs.Opened.{Opened, letter, joining, alternation, optional, star, plus, empty, never, OpenedWords, taking, labelsFrom, labelsIn, copies, nested, repeated, opened, labels, letters, Ordered}
 use Rattle.positions.specs.Opening.{opening-keeps-words}
 use Rattle.positions.specs.Letters.{any-of-labels}
-use Rattle.positions.specs.Numbered.{Positions, numbered, bare, single, joint, choice, perhaps, again, behind, ending, assembled, labelAt, positionAutomaton, automatonOf}
+use Rattle.positions.specs.Numbered.{numbered, bare, labelAt, positionAutomaton, automatonOf}
 use Rattle.positions.specs.Inside.{Inside, goes-to, inside-bare, inside-single, inside-perhaps, inside-again, Apart, inside-choice, inside-joint}
 use Rattle.positions.specs.Walks.{Exact, single-words, empty-words, never-words, joint-words, choice-words, perhaps-words, again-words}
 
@@ -29,17 +27,17 @@ both-apart n r s l x y = record { one = l; left = omega arith; right = omega ari
 both-letters : (n : ℕ) (r s : Opened) → n + letters r + letters s ≡ n + length (labels r ++ labels s)
 both-letters n r s = rw (length-append (labels r) (labels s)) (omega arith)
 
-numbered-inside : (n : ℕ) (r : Opened) → 1 ≤ n → Inside n (n + letters r) (numbered n r)
+pub numbered-inside : (n : ℕ) (r : Opened) → 1 ≤ n → Inside n (n + letters r) (numbered n r)
 unfolding numbered labels
 numbered-inside n (letter a) l = inside-single n
 numbered-inside n (joining r s) l =
     subst (λ k. Inside n k (numbered n (joining r s))) (both-letters n r s)
     (inside-joint
-      (both-apart n r s l (numbered-inside n r l) (numbered-inside (n + letters r) s (omega arith))))
+    (both-apart n r s l (numbered-inside n r l) (numbered-inside (n + letters r) s (omega arith))))
 numbered-inside n (alternation r s) l =
     subst (λ k. Inside n k (numbered n (alternation r s))) (both-letters n r s)
     (inside-choice
-      (both-apart n r s l (numbered-inside n r l) (numbered-inside (n + letters r) s (omega arith))))
+    (both-apart n r s l (numbered-inside n r l) (numbered-inside (n + letters r) s (omega arith))))
 numbered-inside n (optional r) l = inside-perhaps (numbered-inside n r l)
 numbered-inside n (star r) l = inside-perhaps (inside-again (numbered-inside n r l))
 numbered-inside n (plus r) l = inside-again (numbered-inside n r l)
@@ -50,7 +48,7 @@ apart : (n : ℕ) (r s : Opened) → 1 ≤ n → Apart n (n + letters r) (n + le
 apart n r s l = both-apart n r s l (numbered-inside n r l) (numbered-inside (n + letters r) s (omega arith))
 
 -- the letters from n on have the labels of the list
-abbrev Labelled : (ℕ → ℕ) → ℕ → List ℕ → Type 0
+abbrev pub Labelled : (ℕ → ℕ) → ℕ → List ℕ → Type 0
 Labelled label n l = (i : ℕ) → i < length l → label (n + i) ≡ getD l i 0
 
 labelled-left : (label : ℕ → ℕ) (n : ℕ) (l m : List ℕ) → Labelled label n (l ++ m) → Labelled label n l
@@ -70,7 +68,7 @@ none-or-more P w = (⊎-elim (λ e. (0, e)) (λ h. (suc (h .0), h .1)), λ h. by
     by (suc k) h = inr (k, h)
 
 module _ (c : ℕ) (label : ℕ → ℕ) where
-  opened-exact : (n : ℕ) (r : Opened) → 1 ≤ n → Labelled label n (labels r) → Exact c label (numbered n r) (OpenedWords r)
+  pub opened-exact : (n : ℕ) (r : Opened) → 1 ≤ n → Labelled label n (labels r) → Exact c label (numbered n r) (OpenedWords r)
   unfolding numbered labels
   opened-exact n (letter a) l g = single-words c label n a l (let z : n + 0 ≡ n = omega arith in rw z at (g 0 (omega arith)))
   opened-exact n (joining r s) l g =
@@ -86,7 +84,7 @@ module _ (c : ℕ) (label : ℕ → ℕ) where
       let x = numbered-inside n r l in
       Iff·trans
       (perhaps-words c label l (inside-again x) (OpenedWords (plus r))
-        (again-words c label l x (OpenedWords r) (opened-exact n r l g)) w)
+      (again-words c label l x (OpenedWords r) (opened-exact n r l g)) w)
       (none-or-more (OpenedWords r) w)
   opened-exact n (plus r) l g = again-words c label l (numbered-inside n r l) (OpenedWords r) (opened-exact n r l g)
   opened-exact n empty l g = empty-words c label
@@ -146,4 +144,5 @@ automaton-proper A t =
     let r = opened A t in
     record {
       target = λ i j h. let z = goes-to (numbered-inside 1 r (omega arith)) i j h in omega arith;
-      labelled = λ j l h. each-at (Label A) 0 (labels r) (j - 1) (omega arith) (opened-each A t) }
+      labelled = λ j l h. each-at (Label A) 0 (labels r) (j - 1) (omega arith) (opened-each A t);
+    }

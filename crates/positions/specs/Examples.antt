@@ -93,4 +93,5 @@ examples = record {
   twice-or-more = refl;
   nested-optionals = refl;
   set-labels = refl;
-  same-character = refl }
+  same-character = refl;
+}

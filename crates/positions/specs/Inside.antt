@@ -1,16 +1,13 @@
 -- Where the letters of an opened expression lie, and so what a joining and an alternation do at a letter of each part: the letters of
 -- the two parts are numbered apart. Assumes nothing.
 use Prim.Native.Nat.{ℕ, zero, suc, _+_, _≤_, _<_}
-use mathlib.Core.Path.{_≡_, refl, sym, ap, _∙_}
-use mathlib.Core.Logic.{_⊎_, inl, inr, _↔_, ⊎-elim}
-use mathlib.Core.Bool.{Bool, true, false, _&&_, _||_, or-true, or-false, and-false, and-comm}
-use mathlib.Core.List.{List, [], _∷_, _++_}
+use mathlib.Core.Path.{_≡_, refl, sym, _∙_}
+use mathlib.Core.Logic.{⊎-elim}
+use mathlib.Core.Bool.{Bool, true, false, _&&_, _||_, or-false, and-false, and-comm}
 use native.Mathlib.Omega.{arith}
-use lib.Dec.{eqb}
 use borrow.Author.Tests.{eqb-true}
 use Rattle.lists.specs.Order.{not-both, never-true, and-left, and-right, or-either}
-use Rattle.automaton.specs.Automaton.{Automaton, Walk}
-use Rattle.positions.specs.Numbered.{Positions, bare, single, joint, choice, perhaps, again, behind, ending, assembled}
+use Rattle.positions.specs.Numbered.{Positions, bare, single, joint, choice, perhaps, again, behind, ending}
 
 -- each letter is one of n to m - 1
 pub record Inside (n m : ℕ) (p : Positions) : Type 0 where
@@ -36,14 +33,16 @@ inside-bare n e = record {
   first = λ i h. absurd (not-both false h refl);
   last = λ i h. absurd (not-both false h refl);
   source = λ i j h. absurd (not-both false h refl);
-  target = λ i j h. absurd (not-both false h refl) }
+  target = λ i j h. absurd (not-both false h refl);
+}
 
 pub inside-single : (n : ℕ) → Inside n (n + 1) (single n)
 inside-single n = record {
   first = λ i h. let z = eqb-true i n h in omega arith;
   last = λ i h. let z = eqb-true i n h in omega arith;
   source = λ i j h. absurd (not-both false h refl);
-  target = λ i j h. absurd (not-both false h refl) }
+  target = λ i j h. absurd (not-both false h refl);
+}
 
 pub inside-perhaps : {n m : ℕ} {p : Positions} → Inside n m p → Inside n m (perhaps p)
 inside-perhaps x = record { first = x .first; last = x .last; source = x .source; target = x .target }
@@ -53,7 +52,8 @@ inside-again {p = p} x = record {
   first = x .first;
   last = x .last;
   source = λ i j h. ⊎-elim (x .source i j) (λ e. x .last i (and-left (p .last i) (p .first j) e)) (or-either (p .follow i j) (p .last i && p .first j) h);
-  target = λ i j h. ⊎-elim (x .target i j) (λ e. x .first j (and-right (p .last i) (p .first j) e)) (or-either (p .follow i j) (p .last i && p .first j) h) }
+  target = λ i j h. ⊎-elim (x .target i j) (λ e. x .first j (and-right (p .last i) (p .first j) e)) (or-either (p .follow i j) (p .last i && p .first j) h);
+}
 
 -- At each state a repeated part goes on in itself, or from where it may end to where it begins.
 pub again-ends : (p : Positions) (i : ℕ) → ending (again p) i ≡ ending p i
@@ -91,7 +91,8 @@ module _ {n m k : ℕ} {p q : Positions} (a : Apart n m k p q) where
     first = λ i. some (p .first i) (q .first i) i (a .front .first i) (a .back .first i);
     last = λ i. some (p .last i) (q .last i) i (a .front .last i) (a .back .last i);
     source = λ i j. some (p .follow i j) (q .follow i j) i (a .front .source i j) (a .back .source i j);
-    target = λ i j. some (p .follow i j) (q .follow i j) j (a .front .target i j) (a .back .target i j) }
+    target = λ i j. some (p .follow i j) (q .follow i j) j (a .front .target i j) (a .back .target i j);
+  }
 
   pub inside-joint : Inside n k (joint p q)
   inside-joint = record {
@@ -101,7 +102,8 @@ module _ {n m k : ℕ} {p q : Positions} (a : Apart n m k p q) where
     source = λ i j h. ⊎-elim (inside-choice .source i j) (λ e. low i (a .front .last i (and-left (p .last i) (q .first j) e)))
         (or-either (p .follow i j || q .follow i j) (p .last i && q .first j) h);
     target = λ i j h. ⊎-elim (inside-choice .target i j) (λ e. high j (a .back .first j (and-right (p .last i) (q .first j) e)))
-        (or-either (p .follow i j || q .follow i j) (p .last i && q .first j) h) }
+        (or-either (p .follow i j || q .follow i j) (p .last i && q .first j) h);
+  }
 
   -- p does not end or go on at a letter of q, nor q at one of p
   above-zero : m ≤ 0 → ⊥
@@ -135,6 +137,7 @@ module _ {n m k : ℕ} {p q : Positions} (a : Apart n m k p q) where
       ends : (i : ℕ) → m ≤ i → ending (joint p q) i ≡ ending q i
       ends zero d = absurd (above-zero d)
       ends (suc i) d = rw (no-last (suc i) d, and-false (q .nullable), or-false (q .last (suc i)))
+
       arcs : (i j : ℕ) → m ≤ i → behind (joint p q) i j ≡ behind q i j
       arcs zero j d = absurd (above-zero d)
       arcs (suc i) j d = rw (no-arc (suc i) j d, no-last (suc i) d, or-false (q .follow (suc i) j))
@@ -146,6 +149,7 @@ module _ {n m k : ℕ} {p q : Positions} (a : Apart n m k p q) where
       ends : (i : ℕ) → (1 ≤ i) × (i < m) → ending (choice p q) i ≡ ending p i
       ends zero d = absurd (omega arith)
       ends (suc i) d = rw (last-not (suc i) (d .1), or-false (p .last (suc i)))
+
       arcs : (i j : ℕ) → (1 ≤ i) × (i < m) → behind (choice p q) i j ≡ behind p i j
       arcs zero j d = absurd (omega arith)
       arcs (suc i) j d = rw (arc-not (suc i) j (d .1), or-false (p .follow (suc i) j))
@@ -156,6 +160,7 @@ module _ {n m k : ℕ} {p q : Positions} (a : Apart n m k p q) where
       ends : (i : ℕ) → m ≤ i → ending (choice p q) i ≡ ending q i
       ends zero d = absurd (above-zero d)
       ends (suc i) d = rw (no-last (suc i) d)
+
       arcs : (i j : ℕ) → m ≤ i → behind (choice p q) i j ≡ behind q i j
       arcs zero j d = absurd (above-zero d)
       arcs (suc i) j d = rw (no-arc (suc i) j d)

@@ -7,3 +7,4 @@ pub mod Walks
 pub mod Exact
 pub mod Equations
 pub mod Examples
+pub mod FirstLast

@@ -1,7 +1,6 @@
 -- The letters of an opened expression numbered from left to right: which may be first, which last, and which arcs lead from letter to
 -- letter; and the automaton that they make (document 01, "Opening and the compiled form"). Assumes nothing.
 use Prim.Native.Nat.{ℕ, zero, suc, _+_, _-_}
-use mathlib.Core.Path.{_≡_, refl}
 use mathlib.Core.Bool.{Bool, true, false, _&&_, _||_}
 use mathlib.Core.List.{List}
 use lib.ListN.{getD}
@@ -31,7 +30,8 @@ joint p q = record {
   nullable = p .nullable && q .nullable;
   first = λ i. p .first i || p .nullable && q .first i;
   last = λ i. q .last i || q .nullable && p .last i;
-  follow = λ i j. p .follow i j || q .follow i j || p .last i && q .first j }
+  follow = λ i j. p .follow i j || q .follow i j || p .last i && q .first j;
+}
 
 -- p or q
 abbrev pub choice : Positions → Positions → Positions
@@ -39,7 +39,8 @@ choice p q = record {
   nullable = p .nullable || q .nullable;
   first = λ i. p .first i || q .first i;
   last = λ i. p .last i || q .last i;
-  follow = λ i j. p .follow i j || q .follow i j }
+  follow = λ i j. p .follow i j || q .follow i j;
+}
 
 -- p or nothing
 abbrev pub perhaps : Positions → Positions

@@ -3,12 +3,12 @@ use Prim.Native.Nat.{ℕ, zero, suc, _+_, _-_, _≤_, _<_}
 use mathlib.Core.Path.{_≡_, refl, ap}
 use mathlib.Core.Logic.{_⊎_, inl, inr, _↔_}
 use mathlib.Core.Bool.{Bool, true, false}
-use mathlib.Core.List.{List, [], _∷_, _++_}
+use mathlib.Core.List.{List, [], _∷_}
 use native.Mathlib.Omega.{arith}
 use lib.ListN.{length, getD}
 use Rattle.lists.specs.Order.{eq-or-ne, not-both}
 use Rattle.expression.specs.Tree.{Set, Count, between, onward, Tree, set, group, times, join, either, member, Allows, Joined, Words}
-use Rattle.positions.specs.Opened.{Opened, letter, joining, alternation, optional, star, plus, empty, never, OpenedWords, taking, labelsFrom, labelsIn, anyOf, copies, nested, repeated, opened, InOrder, Ordered}
+use Rattle.positions.specs.Opened.{Opened, plus, OpenedWords, taking, labelsFrom, anyOf, copies, nested, repeated, opened, InOrder, Ordered}
 
 -- Sets. A label whose character is in the set, where the first character is label y.
 abbrev Named : ℕ → List ℕ → Set → ℕ → Type 0

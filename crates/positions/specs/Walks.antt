@@ -3,12 +3,12 @@
 use Prim.Native.Nat.{ℕ, zero, suc, _≤_, _<_}
 use mathlib.Core.Path.{_≡_, refl, sym, ap, _∙_}
 use mathlib.Core.Logic.{_⊎_, inl, inr, _↔_, ⊎-map, ⊎-elim}
-use mathlib.Core.Bool.{Bool, true, false, _&&_, _||_, or-true}
+use mathlib.Core.Bool.{Bool, true, false, _&&_}
 use mathlib.Core.List.{List, [], _∷_, _++_, map, map-append}
 use native.Mathlib.Omega.{arith}
 use borrow.Author.Tests.{eqb-true, eq-eqb}
 use Rattle.lists.specs.Order.{not-both, and-left, and-right, and-both, or-either, or-left, or-right}
-use Rattle.automaton.specs.Automaton.{Automaton, Walk, Accepts}
+use Rattle.automaton.specs.Automaton.{Walk, Accepts}
 use Rattle.expression.specs.Tree.{Joined}
 use Rattle.positions.specs.Numbered.{Positions, bare, single, joint, choice, perhaps, again, behind, ending, assembled}
 use Rattle.positions.specs.Inside.{Inside, goes-to, inside-perhaps, inside-again, again-ends, again-arcs, Agree, Apart, joint-ends, joint-arcs, joint-back, choice-front, choice-back}
@@ -72,12 +72,14 @@ module _ (c : ℕ) (label : ℕ → ℕ) where
   module _ {n m k : ℕ} {p q : Positions} (a : Apart n m k p q) where
     joint-walk : (us vs : List ℕ) (i : ℕ) → i < m → Through p i us → Through q 0 vs → Through (joint p q) i (us ++ vs)
     joint-walk [] [] i l h g = joint-ends a i l ∙ and-both (ending p i) (q .nullable) h g
-    joint-walk [] (j ∷ vs) i l h g =
-        (joint-arcs a i j l ∙ or-right (behind p i j) (ending p i && q .first j) (and-both (ending p i) (q .first j) h (g .0)),
-        walk-back (joint-back a) vs j (a .back .first j (g .0) .0) (g .1))
-    joint-walk (j ∷ us) vs i l h g =
-        (joint-arcs a i j l ∙ or-left (behind p i j) (ending p i && q .first j) (h .0),
-        joint-walk us vs j (goes-to (a .front) i j (h .0) .1) (h .1) g)
+    joint-walk [] (j ∷ vs) i l h g = (
+      joint-arcs a i j l ∙ or-right (behind p i j) (ending p i && q .first j) (and-both (ending p i) (q .first j) h (g .0)),
+      walk-back (joint-back a) vs j (a .back .first j (g .0) .0) (g .1),
+    )
+    joint-walk (j ∷ us) vs i l h g = (
+      joint-arcs a i j l ∙ or-left (behind p i j) (ending p i && q .first j) (h .0),
+      joint-walk us vs j (goes-to (a .front) i j (h .0) .1) (h .1) g,
+    )
 
     -- a walk of a joining, cut where it leaves p
     pub record Cut (i : ℕ) (js : List ℕ) : Type 0 where
@@ -99,8 +101,13 @@ module _ (c : ℕ) (label : ℕ → ℕ) where
             record { left = j ∷ x .left; right = x .right; whole = ap (λ l. j ∷ l) (x .whole); front = (e, x .front); back = x .back }
         by (inr e) more =
             let f : q .first j ≡ true = and-right (ending p i) (q .first j) e in
-            record { left = []; right = j ∷ js; whole = refl; front = and-left (ending p i) (q .first j) e;
-              back = (f, walk-over (joint-back a) js j (a .back .first j f .0) (h .1)) }
+            record {
+              left = [];
+              right = j ∷ js;
+              whole = refl;
+              front = and-left (ending p i) (q .first j) e;
+              back = (f, walk-over (joint-back a) js j (a .back .first j f .0) (h .1));
+            }
 
     begins : 0 < m
     begins = let z = a .one in let y = a .left in omega arith
@@ -114,9 +121,13 @@ module _ (c : ℕ) (label : ℕ → ℕ) where
       where
         out : Says (joint p q) w → (u : List ℕ) × (v : List ℕ) × (w ≡ u ++ v) × P u × Q v
         out h =
-            let x = joint-cut (h .0) 0 begins (h .1) in
-            (map label (x .left), map label (x .right), sym (h .2) ∙ ap (map label) (x .whole) ∙ map-append label (x .left) (x .right),
-            f (map label (x .left)) .0 (x .left, x .front, refl), g (map label (x .right)) .0 (x .right, x .back, refl))
+            let x = joint-cut (h .0) 0 begins (h .1) in (
+              map label (x .left),
+              map label (x .right),
+              sym (h .2) ∙ ap (map label) (x .whole) ∙ map-append label (x .left) (x .right),
+              f (map label (x .left)) .0 (x .left, x .front, refl),
+              g (map label (x .right)) .0 (x .right, x .back, refl),
+            )
 
     -- An alternation.
     choice-left : (js : List ℕ) → Through p 0 js → Through (choice p q) 0 js
@@ -138,13 +149,15 @@ module _ (c : ℕ) (label : ℕ → ℕ) where
         left e =
             let z = a .front .first j e in let o = a .one in
             (e, walk-over (choice-front a) js j (omega arith) (h .1))
+
         right : q .first j ≡ true → Through q 0 (j ∷ js)
         right e = (e, walk-over (choice-back a) js j (a .back .first j e .0) (h .1))
 
     pub choice-words : (P Q : List ℕ → Type 0) → Exact p P → Exact q Q → Exact (choice p q) (λ w. P w ⊎ Q w)
-    choice-words P Q f g w =
-        (λ h. ⊎-map (λ x. f w .0 (h .0, x, h .2)) (λ x. g w .0 (h .0, x, h .2)) (choice-side (h .0) (h .1)),
-        ⊎-elim (λ x. let h = f w .1 x in (h .0, choice-left (h .0) (h .1), h .2)) (λ x. let h = g w .1 x in (h .0, choice-right (h .0) (h .1), h .2)))
+    choice-words P Q f g w = (
+      λ h. ⊎-map (λ x. f w .0 (h .0, x, h .2)) (λ x. g w .0 (h .0, x, h .2)) (choice-side (h .0) (h .1)),
+      ⊎-elim (λ x. let h = f w .1 x in (h .0, choice-left (h .0) (h .1), h .2)) (λ x. let h = g w .1 x in (h .0, choice-right (h .0) (h .1), h .2)),
+    )
 
   -- An optional part, and a repeated one.
   module _ {n m : ℕ} {p : Positions} (one : 1 ≤ n) (x : Inside n m p) where
@@ -154,6 +167,7 @@ module _ (c : ℕ) (label : ℕ → ℕ) where
         ends : (i : ℕ) → n ≤ i → ending (perhaps p) i ≡ ending p i
         ends zero d = absurd (omega arith)
         ends (suc i) d = refl
+
         arcs : (i j : ℕ) → n ≤ i → behind (perhaps p) i j ≡ behind p i j
         arcs zero j d = refl
         arcs (suc i) j d = refl
@@ -167,16 +181,18 @@ module _ (c : ℕ) (label : ℕ → ℕ) where
     perhaps-cut (j ∷ js) h = inr (h .0, walk-over perhaps-same js j (x .first j (h .0) .0) (h .1))
 
     pub perhaps-words : (P : List ℕ → Type 0) → Exact p P → Exact (perhaps p) (λ w. (w ≡ []) ⊎ P w)
-    perhaps-words P f w =
-        (λ h. ⊎-map (λ e. sym (h .2) ∙ ap (map label) e) (λ g. f w .0 (h .0, g, h .2)) (perhaps-cut (h .0) (h .1)),
-        ⊎-elim (λ e. ([], refl, sym e)) (λ g. let h = f w .1 g in (h .0, perhaps-walk (h .0) (h .1), h .2)))
+    perhaps-words P f w = (
+      λ h. ⊎-map (λ e. sym (h .2) ∙ ap (map label) e) (λ g. f w .0 (h .0, g, h .2)) (perhaps-cut (h .0) (h .1)),
+      ⊎-elim (λ e. ([], refl, sym e)) (λ g. let h = f w .1 g in (h .0, perhaps-walk (h .0) (h .1), h .2)),
+    )
 
   module _ {n m : ℕ} {p : Positions} (one : 1 ≤ n) (x : Inside n m p) where
     again-walk : (us vs : List ℕ) (i : ℕ) → Through p i us → Through (perhaps (again p)) 0 vs → Through (again p) i (us ++ vs)
     again-walk [] [] i h g = again-ends p i ∙ h
-    again-walk [] (j ∷ vs) i h g =
-        (again-arcs p i j ∙ or-right (behind p i j) (ending p i && p .first j) (and-both (ending p i) (p .first j) h (g .0)),
-        walk-over (perhaps-same one (inside-again x)) vs j (x .first j (g .0) .0) (g .1))
+    again-walk [] (j ∷ vs) i h g = (
+      again-arcs p i j ∙ or-right (behind p i j) (ending p i && p .first j) (and-both (ending p i) (p .first j) h (g .0)),
+      walk-over (perhaps-same one (inside-again x)) vs j (x .first j (g .0) .0) (g .1),
+    )
     again-walk (j ∷ us) vs i h g = (again-arcs p i j ∙ or-left (behind p i j) (ending p i && p .first j) (h .0), again-walk us vs j (h .1) g)
 
     again-more : (w u v : List ℕ) → w ≡ u ++ v → Says p u → Says (perhaps (again p)) v → Says (again p) w
@@ -210,14 +226,27 @@ module _ (c : ℕ) (label : ℕ → ℕ) where
             whole = refl;
             front = and-left (ending p i) (p .first j) e;
             rounds = suc (y .rounds);
-            back = (map label (j ∷ y .left), map label (y .right), ap (λ l. label j ∷ map label l) (y .whole) ∙ ap (λ l. label j ∷ l) (map-append label (y .left) (y .right)),
-              f (map label (j ∷ y .left)) .0 (j ∷ y .left, (and-right (ending p i) (p .first j) e, y .front), refl), y .back) }
+            back = (
+              map label (j ∷ y .left),
+              map label (y .right),
+              ap (λ l. label j ∷ map label l) (y .whole) ∙ ap (λ l. label j ∷ l) (map-append label (y .left) (y .right)),
+              f (map label (j ∷ y .left)) .0 (j ∷ y .left, (and-right (ending p i) (p .first j) e, y .front), refl),
+              y .back,
+            );
+          }
 
       again-out : (w : List ℕ) → Says (again p) w → (k : ℕ) × Joined P (suc k) w
       again-out w h =
-          let y = again-cut (h .0) 0 (h .1) in
-          (y .rounds, (map label (y .left), map label (y .right), sym (h .2) ∙ ap (map label) (y .whole) ∙ map-append label (y .left) (y .right),
-            f (map label (y .left)) .0 (y .left, y .front, refl), y .back))
+          let y = again-cut (h .0) 0 (h .1) in (
+            y .rounds,
+            (
+              map label (y .left),
+              map label (y .right),
+              sym (h .2) ∙ ap (map label) (y .whole) ∙ map-append label (y .left) (y .right),
+              f (map label (y .left)) .0 (y .left, y .front, refl),
+              y .back,
+            ),
+          )
 
       pub again-words : Exact (again p) (λ w. (k : ℕ) × Joined P (suc k) w)
       again-words w = (again-out w, λ h. again-in (h .0) w (h .1))
