@@ -7,6 +7,7 @@ use mathlib.Core.List.{List, [], _∷_, map}
 use Rattle.automaton.specs.Automaton.{Automaton}
 use Rattle.expression.specs.Tree.{range, only, except, between, onward, Tree, set, group, times, join, either}
 use Rattle.positions.specs.Opened.{taking, labelsFrom, anyOf, copies, nested, repeated, opened, labels}
+use Rattle.positions.specs.Letters.{labelsOf, treeLetters}
 use Rattle.positions.specs.Numbered.{numbered, positionAutomaton, automatonOf}
 
 -- the labels of the letters, whether the empty word is accepted, which letters may be first, which last, and where the arcs of each lead
@@ -75,12 +76,13 @@ record Examples : Type 0 where
   nested-optionals :
       over ab (times (group (either a b)) (between 1 3))
       ≡ letters (1 ∷ 2 ∷ 1 ∷ 2 ∷ 1 ∷ 2 ∷ []) false (1 ∷ 2 ∷ []) (1 ∷ 2 ∷ 3 ∷ 4 ∷ 5 ∷ 6 ∷ []) ((3 ∷ 4 ∷ []) ∷ (3 ∷ 4 ∷ []) ∷ (5 ∷ 6 ∷ []) ∷ (5 ∷ 6 ∷ []) ∷ [] ∷ [] ∷ [])
+  counted : treeLetters ab (times (group (either a b)) (between 1 3)) ≡ 6
   -- `[^b]`, and `a` where two labels have that character
   set-labels : over abc (set (except (range (code "b") (code "b") ∷ []))) ≡ letters (1 ∷ 3 ∷ []) false (1 ∷ 2 ∷ []) (1 ∷ 2 ∷ []) ([] ∷ [] ∷ [])
   same-character : over (code "a" ∷ code "b" ∷ code "a" ∷ []) a ≡ letters (1 ∷ 3 ∷ []) false (1 ∷ 2 ∷ []) (1 ∷ 2 ∷ []) ([] ∷ [] ∷ [])
 
 examples : Examples
-unfolding opened labelsFrom anyOf repeated copies nested labels numbered positionAutomaton
+unfolding opened labelsFrom anyOf repeated copies nested labels numbered positionAutomaton treeLetters labelsOf
 examples = record {
   star-behind = refl;
   star = refl;
@@ -92,6 +94,7 @@ examples = record {
   twice = refl;
   twice-or-more = refl;
   nested-optionals = refl;
+  counted = refl;
   set-labels = refl;
   same-character = refl;
 }

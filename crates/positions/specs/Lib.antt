@@ -7,4 +7,5 @@ pub mod Walks
 pub mod Exact
 pub mod Equations
 pub mod Examples
+pub mod Marked
 pub mod FirstLast

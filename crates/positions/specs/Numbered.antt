@@ -24,7 +24,7 @@ bare e = record { nullable = e; first = λ i. false; last = λ i. false; follow 
 abbrev pub single : ℕ → Positions
 single n = record { nullable = false; first = λ i. eqb i n; last = λ i. eqb i n; follow = λ i j. false }
 
--- joining p and q: an arc from each last letter of p to each first of q
+-- p and then q: an arc from each last letter of p to each first of q
 abbrev pub joint : Positions → Positions → Positions
 joint p q = record {
   nullable = p .nullable && q .nullable;

@@ -42,7 +42,7 @@ labelsFrom x (b ∷ A) c = taking (member c b) x (labelsFrom (suc x) A c)
 abbrev pub labelsIn : List ℕ → Set → List ℕ
 labelsIn A c = labelsFrom 1 A c
 
--- an alternation of labels
+-- the alternation of some labels
 unfoldable pub anyOf : List ℕ → Opened
 anyOf [] = never
 anyOf (x ∷ l) = alternation (letter x) (anyOf l)
@@ -57,12 +57,14 @@ unfoldable pub nested : Opened → ℕ → Opened
 nested r zero = empty
 nested r (suc k) = optional (joining r (nested r k))
 
--- `r?` is between 0 1, `r*` onward 0, `r+` onward 1, `r{n}` between n n
+-- `r{n,m}` opens into n copies and then m - n nested optionals, `r{n,}` into n - 1 copies and r+, or r* for n = 0. `r?` is between 0 1,
+-- `r*` onward 0, `r+` onward 1 and `r{n}` between n n.
 unfoldable pub repeated : Opened → Count → Opened
 repeated r (between n m) = copies r n (nested r (m - n))
 repeated r (onward zero) = star r
 repeated r (onward (suc n)) = copies r n (plus r)
 
+-- A set opens into the alternation of its labels, ascending; a group into what it holds.
 unfoldable pub opened : List ℕ → Tree → Opened
 opened A (set c) = anyOf (labelsIn A c)
 opened A (group r) = opened A r
@@ -90,7 +92,7 @@ abbrev pub InOrder : Count → Type 0
 InOrder (between n m) = n ≤ m
 InOrder (onward n) = Unit {0}
 
--- so is each count of a tree
+-- each count of a tree is in order
 abbrev pub Ordered : Tree → Type 0
 Ordered (set c) = Unit {0}
 Ordered (group r) = Ordered r
