@@ -2,16 +2,17 @@
 use Prim.Native.Nat.{ℕ, zero, suc, _+_, _-_, _≤_, _<_}
 use mathlib.Core.Path.{_≡_, ap, subst, _∙_}
 use mathlib.Core.Logic.{_⊎_, inl, inr, _↔_, ⊎-elim, Iff·trans, Iff·symm}
-use mathlib.Core.Bool.{Bool, true, false}
-use mathlib.Core.List.{List, [], _∷_, _++_}
+use mathlib.Core.Bool.{true, false}
+use mathlib.Core.List.{List, [], _++_}
 use native.Mathlib.Omega.{arith}
 use lib.ListN.{length, getD, length-append, List·getD-append}
 use lib.Seq.{getD-append-add}
-use Rattle.lists.specs.Each.{Each, each-map, each-append, each-at}
+use Rattle.lists.specs.Each.{Each, each-append, each-at}
+use Rattle.lists.specs.Among.{among-each}
 use Rattle.automaton.specs.Automaton.{Accepts, Proper}
-use Rattle.expression.specs.Tree.{Set, Count, between, onward, Tree, set, group, times, join, either, member, Joined, Words}
-use Rattle.positions.specs.Opened.{Opened, letter, joining, alternation, optional, star, plus, empty, never, OpenedWords, taking, labelsFrom, labelsIn, copies, nested, repeated, opened, labels, letters, Ordered}
-use Rattle.positions.specs.Opening.{opening-keeps-words}
+use Rattle.expression.specs.Tree.{Count, between, onward, Tree, set, group, times, join, either, Joined, Words}
+use Rattle.positions.specs.Opened.{Opened, letter, joining, alternation, optional, star, plus, empty, never, OpenedWords, labelsIn, copies, nested, repeated, opened, labels, letters, Ordered}
+use Rattle.positions.specs.Opening.{label-among, opening-keeps-words}
 use Rattle.positions.specs.Letters.{any-of-labels}
 use Rattle.positions.specs.Numbered.{numbered, bare, labelAt, positionAutomaton, automatonOf}
 use Rattle.positions.specs.Inside.{Inside, goes-to, inside-bare, inside-single, inside-perhaps, inside-again, Apart, inside-choice, inside-joint}
@@ -99,19 +100,6 @@ pub accepts-words : (A : List ℕ) (t : Tree) → Ordered t → (w : List ℕ) �
 accepts-words A t o w = Iff·trans (accepts-opened (opened A t) w) (Iff·symm (opening-keeps-words A t o w))
 
 -- Each label is one of the alphabet's.
-abbrev Label : List ℕ → ℕ → Type 0
-Label A x = (1 ≤ x) × (x ≤ length A)
-
-from-named : (y : ℕ) (A : List ℕ) (c : Set) → Each (λ x. (y ≤ x) × (x < y + length A)) (labelsFrom y A c)
-unfolding labelsFrom
-from-named y [] c = tt
-from-named y (b ∷ A) c =
-    by (member c b) (each-map (λ x. (suc y ≤ x) × (x < suc y + length A)) (λ x. (y ≤ x) × (x < y + suc (length A))) (λ x h. omega arith) (labelsFrom (suc y) A c) (from-named (suc y) A c))
-  where
-    by : (t : Bool) → Each (λ x. (y ≤ x) × (x < y + suc (length A))) (labelsFrom (suc y) A c) → Each (λ x. (y ≤ x) × (x < y + suc (length A))) (taking t y (labelsFrom (suc y) A c))
-    by true h = ((omega arith, omega arith), h)
-    by false h = h
-
 module _ (P : ℕ → Type 0) (r : Opened) (h : Each P (labels r)) where
   copies-each : (t : Opened) → Each P (labels t) → (n : ℕ) → Each P (labels (copies r n t))
   unfolding copies labels
@@ -129,14 +117,17 @@ module _ (P : ℕ → Type 0) (r : Opened) (h : Each P (labels r)) where
   repeated-each (onward zero) = h
   repeated-each (onward (suc n)) = copies-each (plus r) h n
 
-opened-each : (A : List ℕ) (t : Tree) → Each (Label A) (labels (opened A t))
+abbrev Named : List ℕ → ℕ → Type 0
+Named A x = (1 ≤ x) × (x ≤ length A)
+
+opened-each : (A : List ℕ) (t : Tree) → Each (Named A) (labels (opened A t))
 unfolding opened labels
 opened-each A (set c) =
-    rw (any-of-labels (labelsIn A c)) (each-map (λ x. (1 ≤ x) × (x < 1 + length A)) (Label A) (λ x h. omega arith) (labelsIn A c) (from-named 1 A c))
+    rw (any-of-labels (labelsIn A c)) (among-each (Named A) (labelsIn A c) (λ x m. let y = label-among A c x m in (y .low, y .high)))
 opened-each A (group r) = opened-each A r
-opened-each A (times r c) = repeated-each (Label A) (opened A r) (opened-each A r) c
-opened-each A (join r s) = each-append (Label A) (labels (opened A r)) (labels (opened A s)) (opened-each A r) (opened-each A s)
-opened-each A (either r s) = each-append (Label A) (labels (opened A r)) (labels (opened A s)) (opened-each A r) (opened-each A s)
+opened-each A (times r c) = repeated-each (Named A) (opened A r) (opened-each A r) c
+opened-each A (join r s) = each-append (Named A) (labels (opened A r)) (labels (opened A s)) (opened-each A r) (opened-each A s)
+opened-each A (either r s) = each-append (Named A) (labels (opened A r)) (labels (opened A s)) (opened-each A r) (opened-each A s)
 
 pub automaton-proper : (A : List ℕ) (t : Tree) → Proper (length A) (automatonOf A t)
 unfolding positionAutomaton
@@ -144,5 +135,5 @@ automaton-proper A t =
     let r = opened A t in
     record {
       target = λ i j h. let z = goes-to (numbered-inside 1 r (omega arith)) i j h in omega arith;
-      labelled = λ j l h. each-at (Label A) 0 (labels r) (j - 1) (omega arith) (opened-each A t);
+      labelled = λ j l h. each-at (Named A) 0 (labels r) (j - 1) (omega arith) (opened-each A t);
     }

@@ -1,12 +1,16 @@
 -- Some expressions with their letters, computed. Assumes nothing.
-use Prim.Native.Nat.{ℕ, zero, suc}
+use Prim.Native.Nat.{ℕ}
 use Prim.Native.Char.{code}
 use mathlib.Core.Path.{_≡_, refl}
 use mathlib.Core.Bool.{Bool, true, false}
-use mathlib.Core.List.{List, [], _∷_, map}
+use mathlib.Core.List.{List, [], _∷_, map, flatMap}
+use Rattle.lists.specs.Among.{keep}
+use Rattle.lists.specs.Ascending.{numbers}
 use Rattle.automaton.specs.Automaton.{Automaton}
 use Rattle.expression.specs.Tree.{range, only, except, between, onward, Tree, set, group, times, join, either}
-use Rattle.positions.specs.Opened.{taking, labelsFrom, anyOf, copies, nested, repeated, opened, labels}
+use Rattle.positions.specs.Opened.{anyOf, copies, nested, repeated, opened, labels}
+use Rattle.automaton.specs.Form.{encode}
+use Rattle.positions.specs.Compiled.{formOf}
 use Rattle.positions.specs.Letters.{labelsOf, treeLetters}
 use Rattle.positions.specs.Numbered.{numbered, positionAutomaton, automatonOf}
 
@@ -14,19 +18,10 @@ use Rattle.positions.specs.Numbered.{numbered, positionAutomaton, automa
 data Letters : Type 0 where
   letters : List ℕ → Bool → List ℕ → List ℕ → List (List ℕ) → Letters
 
--- the next k numbers from i on
-abbrev next : ℕ → ℕ → List ℕ
-next i zero = []
-next i (suc k) = i ∷ next (suc i) k
-
-abbrev those : (ℕ → Bool) → List ℕ → List ℕ
-those f [] = []
-those f (i ∷ l) = taking (f i) i (those f l)
-
 abbrev shown : Automaton → Letters
 shown M =
-    let all : List ℕ = next 1 (M .letters) in
-    letters (map (M .label) all) (M .ends 0) (those (M .follow 0) all) (those (M .ends) all) (map (λ i. those (M .follow i) all) all)
+    let all : List ℕ = numbers 1 (M .letters) in
+    letters (map (M .label) all) (M .ends 0) (keep (M .follow 0) all) (keep (M .ends) all) (map (λ i. keep (M .follow i) all) all)
 
 abbrev a : Tree
 a = set (only (range (code "a") (code "a") ∷ []))
@@ -57,7 +52,8 @@ abbrev abc : List ℕ
 abc = code "a" ∷ code "b" ∷ code "c" ∷ []
 
 record Examples : Type 0 where
-  -- `ab*`: the document's words 10020002 20000301 20000202 30000102 30000202
+  -- the document's `ab*`, as it compiles and part by part
+  compiled : formOf ab (join a (any b)) ≡ 0x10020002 ∷ 0x20000301 ∷ 0x20000202 ∷ 0x30000102 ∷ 0x30000202 ∷ []
   star-behind : over ab (join a (any b)) ≡ letters (1 ∷ 2 ∷ []) false (1 ∷ []) (1 ∷ 2 ∷ []) ((2 ∷ []) ∷ (2 ∷ []) ∷ [])
   -- `a*`, `a+`, `a?`
   star : over ab (any a) ≡ letters (1 ∷ []) true (1 ∷ []) (1 ∷ []) ((1 ∷ []) ∷ [])
@@ -82,8 +78,9 @@ record Examples : Type 0 where
   same-character : over (code "a" ∷ code "b" ∷ code "a" ∷ []) a ≡ letters (1 ∷ 3 ∷ []) false (1 ∷ 2 ∷ []) (1 ∷ 2 ∷ []) ([] ∷ [] ∷ [])
 
 examples : Examples
-unfolding opened labelsFrom anyOf repeated copies nested labels numbered positionAutomaton treeLetters labelsOf
+unfolding opened keep numbers anyOf repeated copies nested labels numbered positionAutomaton treeLetters labelsOf encode flatMap
 examples = record {
+  compiled = refl;
   star-behind = refl;
   star = refl;
   plus = refl;

@@ -1,13 +1,15 @@
 -- The number of letters that a tree opens into, by the tree (document 01, "Opening and the compiled form"). Assumes nothing.
 use Prim.Native.Nat.{ℕ, zero, suc, _+_, _-_, _*_}
 use mathlib.Core.Path.{_≡_, refl, sym, ap, _∙_}
-use mathlib.Core.Bool.{Bool, true, false, cond}
+use mathlib.Core.Bool.{cond}
 use mathlib.Core.List.{List, [], _∷_}
 use native.Mathlib.Nat.{add-mul}
 use native.Mathlib.Omega.{arith}
-use lib.ListN.{length, length-append}
+use lib.ListN.{length, getD, length-append}
+use Rattle.lists.specs.Among.{keep, keep-same, keeping-length}
+use Rattle.lists.specs.Ascending.{numbers, numbers-among}
 use Rattle.expression.specs.Tree.{Set, Count, between, onward, Tree, set, group, times, join, either, member}
-use Rattle.positions.specs.Opened.{Opened, plus, taking, labelsFrom, labelsIn, anyOf, copies, nested, repeated, opened, labels, letters, InOrder, Ordered}
+use Rattle.positions.specs.Opened.{Opened, plus, labelsIn, anyOf, copies, nested, repeated, opened, labels, letters, InOrder, Ordered}
 
 -- how many labels of the alphabet a set has
 unfoldable pub labelsOf : List ℕ → Set → ℕ
@@ -27,14 +29,19 @@ treeLetters A (times r c) = copiesOf c * treeLetters A r
 treeLetters A (join r s) = treeLetters A r + treeLetters A s
 treeLetters A (either r s) = treeLetters A r + treeLetters A s
 
-from-labels : (x : ℕ) (A : List ℕ) (c : Set) → length (labelsFrom x A c) ≡ labelsOf A c
-unfolding labelsFrom labelsOf
-from-labels x [] c = refl
-from-labels x (b ∷ A) c = by (member c b) (from-labels (suc x) A c)
-  where
-    by : (t : Bool) → length (labelsFrom (suc x) A c) ≡ labelsOf A c → length (taking t x (labelsFrom (suc x) A c)) ≡ cond t 1 0 + labelsOf A c
-    by true h = omega arith
-    by false h = omega arith
+-- the labels of a set, where the first character is label y
+labels-counted : (y : ℕ) (A : List ℕ) (c : Set) → length (keep (λ x. member c (getD A (x - y) 0)) (numbers y (length A))) ≡ labelsOf A c
+unfolding keep numbers labelsOf
+labels-counted y [] c = refl
+labels-counted y (b ∷ A) c =
+    let l : List ℕ = numbers (suc y) (length A) in
+    let z : y - y ≡ 0 = omega arith in
+    let same : keep (λ x. member c (getD (b ∷ A) (x - y) 0)) l ≡ keep (λ x. member c (getD A (x - suc y) 0)) l =
+    keep-same (λ x. member c (getD (b ∷ A) (x - y) 0)) (λ x. member c (getD A (x - suc y) 0)) l (λ x m.
+    let n = numbers-among (suc y) (length A) x m in
+    let e : x - y ≡ suc (x - suc y) = omega arith in
+    ap (λ i. member c (getD (b ∷ A) i 0)) e) in
+    rw (z, same) (keeping-length (member c b) y (keep (λ x. member c (getD A (x - suc y) 0)) l) ∙ ap (λ k. cond (member c b) 1 0 + k) (labels-counted (suc y) A c))
 
 pub any-of-labels : (l : List ℕ) → labels (anyOf l) ≡ l
 unfolding anyOf labels
@@ -61,7 +68,7 @@ repeated-letters r (onward (suc n)) o = let h = copies-letters r (plus r) n in o
 
 pub opened-letters : (A : List ℕ) (t : Tree) → Ordered t → letters (opened A t) ≡ treeLetters A t
 unfolding opened labels treeLetters
-opened-letters A (set c) o = ap length (any-of-labels (labelsIn A c)) ∙ from-labels 1 A c
+opened-letters A (set c) o = ap length (any-of-labels (labelsIn A c)) ∙ labels-counted 1 A c
 opened-letters A (group r) o = opened-letters A r o
 opened-letters A (times r c) o = repeated-letters (opened A r) c (o .1) ∙ ap (λ k. copiesOf c * k) (opened-letters A r (o .0))
 opened-letters A (join r s) o = rw (length-append (labels (opened A r)) (labels (opened A s)), opened-letters A r (o .0), opened-letters A s (o .1))

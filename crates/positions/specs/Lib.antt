@@ -6,6 +6,7 @@ pub mod Inside
 pub mod Walks
 pub mod Exact
 pub mod Equations
+pub mod Compiled
 pub mod Examples
 pub mod Marked
 pub mod FirstLast

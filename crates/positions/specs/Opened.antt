@@ -3,9 +3,10 @@
 use Prim.Native.Nat.{ℕ, zero, suc, _-_, _≤_}
 use mathlib.Core.Path.{_≡_}
 use mathlib.Core.Logic.{_⊎_}
-use mathlib.Core.Bool.{Bool, true, false}
 use mathlib.Core.List.{List, [], _∷_, _++_}
-use lib.ListN.{length}
+use lib.ListN.{length, getD}
+use Rattle.lists.specs.Among.{keep}
+use Rattle.lists.specs.Ascending.{numbers}
 use Rattle.expression.specs.Tree.{Set, Count, between, onward, Tree, set, group, times, join, either, member, Joined}
 
 -- `empty` has the empty word alone and ends a chain of copies; `never` has no word and ends an alternation of labels. Neither has letters.
@@ -29,18 +30,9 @@ OpenedWords (plus r) w = (k : ℕ) × Joined (OpenedWords r) (suc k) w
 OpenedWords empty w = w ≡ []
 OpenedWords never w = ⊥
 
--- label x in front of the others, if it is taken
-abbrev pub taking : Bool → ℕ → List ℕ → List ℕ
-taking true x l = x ∷ l
-taking false x l = l
-
--- The labels of a set's characters, ascending: the alphabet's first character is label x.
-unfoldable pub labelsFrom : ℕ → List ℕ → Set → List ℕ
-labelsFrom x [] c = []
-labelsFrom x (b ∷ A) c = taking (member c b) x (labelsFrom (suc x) A c)
-
+-- the labels of a set, ascending: those whose character is in it
 abbrev pub labelsIn : List ℕ → Set → List ℕ
-labelsIn A c = labelsFrom 1 A c
+labelsIn A c = keep (λ x. member c (getD A (x - 1) 0)) (numbers 1 (length A))
 
 -- the alternation of some labels
 unfoldable pub anyOf : List ℕ → Opened

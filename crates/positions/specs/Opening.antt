@@ -1,50 +1,42 @@
 -- Opening keeps the set of words. Assumes nothing.
-use Prim.Native.Nat.{ℕ, zero, suc, _+_, _-_, _≤_, _<_}
+use Prim.Native.Nat.{ℕ, zero, suc, _+_, _-_, _≤_}
 use mathlib.Core.Path.{_≡_, refl, ap}
-use mathlib.Core.Logic.{_⊎_, inl, inr, _↔_}
-use mathlib.Core.Bool.{Bool, true, false}
+use mathlib.Core.Logic.{inl, inr, _↔_}
+use mathlib.Core.Bool.{true}
 use mathlib.Core.List.{List, [], _∷_}
 use native.Mathlib.Omega.{arith}
 use lib.ListN.{length, getD}
-use Rattle.lists.specs.Order.{eq-or-ne, not-both}
+use Rattle.lists.specs.Among.{Among, among-keep, keep-among}
+use Rattle.lists.specs.Ascending.{numbers, among-numbers, numbers-among}
 use Rattle.expression.specs.Tree.{Set, Count, between, onward, Tree, set, group, times, join, either, member, Allows, Joined, Words}
-use Rattle.positions.specs.Opened.{Opened, plus, OpenedWords, taking, labelsFrom, anyOf, copies, nested, repeated, opened, InOrder, Ordered}
+use Rattle.positions.specs.Opened.{Opened, plus, OpenedWords, labelsIn, anyOf, copies, nested, repeated, opened, InOrder, Ordered}
 
--- Sets. A label whose character is in the set, where the first character is label y.
-abbrev Named : ℕ → List ℕ → Set → ℕ → Type 0
-Named y A c x = (y ≤ x) × (x < y + length A) × (member c (getD A (x - y) 0) ≡ true)
+-- Sets.
+any-of-out : (l w : List ℕ) → OpenedWords (anyOf l) w → (x : ℕ) × Among x l × (w ≡ x ∷ [])
+unfolding anyOf
+any-of-out [] w h = absurd h
+any-of-out (y ∷ l) w (inl h) = (y, inl refl, h)
+any-of-out (y ∷ l) w (inr h) = let x = any-of-out l w h in (x .0, inr (x .1), x .2)
 
-named-first : (y b : ℕ) (A : List ℕ) (c : Set) → member c b ≡ true → Named y (b ∷ A) c y
-named-first y b A c e = let z : y - y ≡ 0 = omega arith in (omega arith, omega arith, rw z e)
+any-of-in : (l : List ℕ) (x : ℕ) → Among x l → OpenedWords (anyOf l) (x ∷ [])
+unfolding anyOf
+any-of-in [] x h = absurd h
+any-of-in (y ∷ l) x (inl h) = inl (ap (λ k. k ∷ []) h)
+any-of-in (y ∷ l) x (inr h) = inr (any-of-in l x h)
 
-named-later : (y b : ℕ) (A : List ℕ) (c : Set) (x : ℕ) → Named (suc y) A c x → Named y (b ∷ A) c x
-named-later y b A c x h = let z : x - y ≡ suc (x - suc y) = omega arith in (omega arith, omega arith, rw z (h .2))
+pub record Label (A : List ℕ) (c : Set) (x : ℕ) : Type 0 where
+  pub low : 1 ≤ x
+  pub high : x ≤ length A
+  pub belongs : member c (getD A (x - 1) 0) ≡ true
 
-named-behind : (y b : ℕ) (A : List ℕ) (c : Set) (x : ℕ) → (x ≡ y → ⊥) → Named y (b ∷ A) c x → Named (suc y) A c x
-named-behind y b A c x n h = let z : x - y ≡ suc (x - suc y) = omega arith in (omega arith, omega arith, rw z at (h .2))
+pub label-among : (A : List ℕ) (c : Set) (x : ℕ) → Among x (labelsIn A c) → Label A c x
+label-among A c x h =
+    let k = keep-among (λ y. member c (getD A (y - 1) 0)) x (numbers 1 (length A)) h in
+    let n = numbers-among 1 (length A) x (k .0) in
+    record { low = n .0; high = omega arith; belongs = k .1 }
 
-set-out : (y : ℕ) (A : List ℕ) (c : Set) (w : List ℕ) → OpenedWords (anyOf (labelsFrom y A c)) w → (x : ℕ) × Named y A c x × (w ≡ x ∷ [])
-unfolding labelsFrom anyOf
-set-out y [] c w h = absurd h
-set-out y (b ∷ A) c w h = by (member c b) refl (set-out (suc y) A c w) h
-  where
-    by : (t : Bool) → member c b ≡ t → (OpenedWords (anyOf (labelsFrom (suc y) A c)) w → (x : ℕ) × Named (suc y) A c x × (w ≡ x ∷ []))
-        → OpenedWords (anyOf (taking t y (labelsFrom (suc y) A c))) w → (x : ℕ) × Named y (b ∷ A) c x × (w ≡ x ∷ [])
-    by true e more (inl k) = (y, named-first y b A c e, k)
-    by true e more (inr k) = let x = more k in (x .0, named-later y b A c (x .0) (x .1), x .2)
-    by false e more k = let x = more k in (x .0, named-later y b A c (x .0) (x .1), x .2)
-
-set-in : (y : ℕ) (A : List ℕ) (c : Set) (x : ℕ) → Named y A c x → OpenedWords (anyOf (labelsFrom y A c)) (x ∷ [])
-unfolding labelsFrom anyOf
-set-in y [] c x h = absurd (omega arith)
-set-in y (b ∷ A) c x h = by (member c b) refl (eq-or-ne x y) (set-in (suc y) A c x)
-  where
-    by : (t : Bool) → member c b ≡ t → (x ≡ y) ⊎ (x ≡ y → ⊥) → (Named (suc y) A c x → OpenedWords (anyOf (labelsFrom (suc y) A c)) (x ∷ []))
-        → OpenedWords (anyOf (taking t y (labelsFrom (suc y) A c))) (x ∷ [])
-    by true e (inl q) more = inl (ap (λ z. z ∷ []) q)
-    by true e (inr n) more = inr (more (named-behind y b A c x n h))
-    by false e (inl q) more = let z : x - y ≡ 0 = omega arith in absurd (not-both (member c b) (rw z at (h .2)) e)
-    by false e (inr n) more = more (named-behind y b A c x n h)
+among-label : (A : List ℕ) (c : Set) (x : ℕ) → 1 ≤ x → x ≤ length A → member c (getD A (x - 1) 0) ≡ true → Among x (labelsIn A c)
+among-label A c x l h e = among-keep (λ y. member c (getD A (y - 1) 0)) x (numbers 1 (length A)) (among-numbers 1 (length A) x l (omega arith)) e
 
 -- Repetitions. Words of one set joined are words of a larger one joined.
 pub joined-map : (P Q : List ℕ → Type 0) → ((w : List ℕ) → P w → Q w) → (k : ℕ) (w : List ℕ) → Joined P k w → Joined Q k w
@@ -113,7 +105,7 @@ module _ (r : Opened) (P : List ℕ → Type 0) (into : (w : List ℕ) → P w �
 
 words-opened : (A : List ℕ) (t : Tree) (w : List ℕ) → Words A t w → OpenedWords (opened A t) w
 unfolding opened
-words-opened A (set c) w h = rw (h .4) (set-in 1 A c (h .0) (h .1, omega arith, h .3))
+words-opened A (set c) w h = rw (h .4) (any-of-in (labelsIn A c) (h .0) (among-label A c (h .0) (h .1) (h .2) (h .3)))
 words-opened A (group r) w h = words-opened A r w h
 words-opened A (times r c) w h = repeated-in (opened A r) (Words A r) (words-opened A r) c (h .0) (h .1) w (h .2)
 words-opened A (join r s) w h = (h .0, h .1, h .2, words-opened A r (h .0) (h .3), words-opened A s (h .1) (h .4))
@@ -122,7 +114,9 @@ words-opened A (either r s) w (inr h) = inr (words-opened A s w h)
 
 opened-words : (A : List ℕ) (t : Tree) → Ordered t → (w : List ℕ) → OpenedWords (opened A t) w → Words A t w
 unfolding opened
-opened-words A (set c) o w h = let x = set-out 1 A c w h in (x .0, x .1 .0, omega (arith, x .1 .1), x .1 .2, x .2)
+opened-words A (set c) o w h =
+    let x = any-of-out (labelsIn A c) w h in let y = label-among A c (x .0) (x .1) in
+    (x .0, y .low, y .high, y .belongs, x .2)
 opened-words A (group r) o w h = opened-words A r o w h
 opened-words A (times r c) o w h = repeated-out (opened A r) (Words A r) (opened-words A r (o .0)) c w (o .1) h
 opened-words A (join r s) o w h = (h .0, h .1, h .2, opened-words A r (o .0) (h .0) (h .3), opened-words A s (o .1) (h .1) (h .4))
