@@ -11,7 +11,7 @@ use Rattle.automaton.specs.Automaton.{Accepts}
 use Rattle.automaton.specs.Form.{encode, validForm, view}
 use Rattle.automaton.specs.Encode.{encode-valid, encode-accepts}
 use Rattle.expression.specs.Tree.{Tree, Words}
-use Rattle.positions.specs.Opened.{letters, Ordered}
+use Rattle.positions.specs.Opened.{Ordered}
 use Rattle.positions.specs.Letters.{treeLetters, opened-letters}
 use Rattle.positions.specs.Numbered.{positionAutomaton, automatonOf}
 use Rattle.positions.specs.Exact.{accepts-words, automaton-proper}

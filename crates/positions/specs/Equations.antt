@@ -1,6 +1,6 @@
--- The numbered letters part by part, as equations: for each shape, for a set of labels as a whole, and for a repetition copy by copy.
--- Assumes nothing.
-use Prim.Native.Nat.{ℕ, suc, _+_, _-_, _≤_, _<_}
+-- The numbered letters part by part, as equations: for each shape, for a set of labels as a whole, and for a repetition copy by copy;
+-- and what a repetition keeps. Assumes nothing.
+use Prim.Native.Nat.{ℕ, zero, suc, _+_, _-_, _≤_, _<_}
 use mathlib.Core.Path.{_≡_, refl, sym}
 use mathlib.Core.Logic.{_⊎_, inl, inr}
 use mathlib.Core.Bool.{false, _&&_, _||_, or-false, and-true, and-false}
@@ -10,7 +10,7 @@ use lib.ListN.{length, length-append}
 use lib.Dec.{eqb, leb, ltb}
 use borrow.Author.Tests.{eq-eqb, ne-eqb, le-leb, lt-leb, lt-ltb, le-ltb}
 use Rattle.lists.specs.Order.{lt-or-le, eq-or-ne}
-use Rattle.expression.specs.Tree.{between, onward}
+use Rattle.expression.specs.Tree.{Count, between, onward}
 use Rattle.positions.specs.Opened.{Opened, letter, joining, alternation, optional, star, plus, empty, anyOf, copies, nested, repeated, labels, letters}
 use Rattle.positions.specs.Numbered.{Positions, single, joint, choice, perhaps, again, numbered}
 
@@ -124,3 +124,28 @@ onward-one r = refl
 pub onward-none : (r : Opened) → repeated r (onward 0) ≡ star r
 unfolding repeated
 onward-none r = refl
+
+-- What each shape keeps, a repetition keeps.
+pub record Kept (Q : Opened → Type 0) : Type 0 where
+  pub joins : (r s : Opened) → Q r → Q s → Q (joining r s)
+  pub optionals : (r : Opened) → Q r → Q (optional r)
+  pub stars : (r : Opened) → Q r → Q (star r)
+  pub pluses : (r : Opened) → Q r → Q (plus r)
+  pub none : Q empty
+
+module _ (Q : Opened → Type 0) (k : Kept Q) (r : Opened) (h : Q r) where
+  copies-kept : (t : Opened) → Q t → (n : ℕ) → Q (copies r n t)
+  unfolding copies
+  copies-kept t g zero = g
+  copies-kept t g (suc n) = k .joins r (copies r n t) h (copies-kept t g n)
+
+  nested-kept : (m : ℕ) → Q (nested r m)
+  unfolding nested
+  nested-kept zero = k .none
+  nested-kept (suc m) = k .optionals (joining r (nested r m)) (k .joins r (nested r m) h (nested-kept m))
+
+  pub repeated-kept : (c : Count) → Q (repeated r c)
+  unfolding repeated
+  repeated-kept (between n m) = copies-kept (nested r (m - n)) (nested-kept (m - n)) n
+  repeated-kept (onward zero) = k .stars r h
+  repeated-kept (onward (suc n)) = copies-kept (plus r) (k .pluses r h) n

@@ -10,11 +10,12 @@ use lib.Seq.{getD-append-add}
 use Rattle.lists.specs.Each.{Each, each-append, each-at}
 use Rattle.lists.specs.Among.{among-each}
 use Rattle.automaton.specs.Automaton.{Accepts, Proper}
-use Rattle.expression.specs.Tree.{Count, between, onward, Tree, set, group, times, join, either, Joined, Words}
-use Rattle.positions.specs.Opened.{Opened, letter, joining, alternation, optional, star, plus, empty, never, OpenedWords, labelsIn, copies, nested, repeated, opened, labels, letters, Ordered}
+use Rattle.expression.specs.Tree.{Tree, set, group, times, join, either, Joined, Words}
+use Rattle.positions.specs.Opened.{Opened, letter, joining, alternation, optional, star, plus, empty, never, OpenedWords, labelsIn, opened, labels, letters, Ordered}
 use Rattle.positions.specs.Opening.{label-among, opening-keeps-words}
 use Rattle.positions.specs.Letters.{any-of-labels}
 use Rattle.positions.specs.Numbered.{numbered, bare, labelAt, positionAutomaton, automatonOf}
+use Rattle.positions.specs.Equations.{Kept, repeated-kept}
 use Rattle.positions.specs.Inside.{Inside, goes-to, inside-bare, inside-single, inside-perhaps, inside-again, Apart, inside-choice, inside-joint}
 use Rattle.positions.specs.Walks.{Exact, single-words, empty-words, never-words, joint-words, choice-words, perhaps-words, again-words}
 
@@ -100,32 +101,25 @@ pub accepts-words : (A : List ℕ) (t : Tree) → Ordered t → (w : List ℕ) �
 accepts-words A t o w = Iff·trans (accepts-opened (opened A t) w) (Iff·symm (opening-keeps-words A t o w))
 
 -- Each label is one of the alphabet's.
-module _ (P : ℕ → Type 0) (r : Opened) (h : Each P (labels r)) where
-  copies-each : (t : Opened) → Each P (labels t) → (n : ℕ) → Each P (labels (copies r n t))
-  unfolding copies labels
-  copies-each t g zero = g
-  copies-each t g (suc n) = each-append P (labels r) (labels (copies r n t)) h (copies-each t g n)
-
-  nested-each : (k : ℕ) → Each P (labels (nested r k))
-  unfolding nested labels
-  nested-each zero = tt
-  nested-each (suc k) = each-append P (labels r) (labels (nested r k)) h (nested-each k)
-
-  repeated-each : (c : Count) → Each P (labels (repeated r c))
-  unfolding repeated labels
-  repeated-each (between n m) = copies-each (nested r (m - n)) (nested-each (m - n)) n
-  repeated-each (onward zero) = h
-  repeated-each (onward (suc n)) = copies-each (plus r) h n
-
 abbrev Named : List ℕ → ℕ → Type 0
 Named A x = (1 ≤ x) × (x ≤ length A)
+
+each-kept : (P : ℕ → Type 0) → Kept (λ r. Each P (labels r))
+unfolding labels
+each-kept P = record {
+  joins = λ r s. each-append P (labels r) (labels s);
+  optionals = λ r h. h;
+  stars = λ r h. h;
+  pluses = λ r h. h;
+  none = tt;
+}
 
 opened-each : (A : List ℕ) (t : Tree) → Each (Named A) (labels (opened A t))
 unfolding opened labels
 opened-each A (set c) =
     rw (any-of-labels (labelsIn A c)) (among-each (Named A) (labelsIn A c) (λ x m. let y = label-among A c x m in (y .low, y .high)))
 opened-each A (group r) = opened-each A r
-opened-each A (times r c) = repeated-each (Named A) (opened A r) (opened-each A r) c
+opened-each A (times r c) = repeated-kept (λ r. Each (Named A) (labels r)) (each-kept (Named A)) (opened A r) (opened-each A r) c
 opened-each A (join r s) = each-append (Named A) (labels (opened A r)) (labels (opened A s)) (opened-each A r) (opened-each A s)
 opened-each A (either r s) = each-append (Named A) (labels (opened A r)) (labels (opened A s)) (opened-each A r) (opened-each A s)
 

@@ -1,6 +1,6 @@
 -- A letter may be first, or last, exactly if some word so begins, or ends, there (document 01, "Opening and the compiled form"), a word
 -- being written by the numbers of its letters, and each set having a label. Assumes nothing.
-use Prim.Native.Nat.{ℕ, zero, suc, _+_, _-_, _≤_}
+use Prim.Native.Nat.{ℕ, zero, suc, _+_, _≤_}
 use mathlib.Core.Path.{_≡_, refl, sym, ap}
 use mathlib.Core.Logic.{_⊎_, inl, inr, _↔_, ⊎-elim}
 use mathlib.Core.Bool.{true, false, _&&_}
@@ -10,14 +10,15 @@ use lib.ListN.{length}
 use borrow.Author.Tests.{eqb-true}
 use Rattle.lists.specs.Order.{not-both, and-left, and-right, or-either}
 use Rattle.automaton.specs.Automaton.{Walk}
-use Rattle.expression.specs.Tree.{Count, between, onward, Tree, set, group, times, join, either, Joined}
-use Rattle.positions.specs.Opened.{Opened, letter, joining, alternation, optional, star, plus, empty, never, OpenedWords, anyOf, labelsIn, copies, nested, repeated, opened, letters}
+use Rattle.expression.specs.Tree.{Tree, set, group, times, join, either, Joined}
+use Rattle.positions.specs.Opened.{Opened, letter, joining, alternation, optional, star, plus, empty, never, OpenedWords, anyOf, labelsIn, opened, letters}
 use Rattle.positions.specs.Numbered.{Positions, numbered, assembled, positionAutomaton, automatonOf}
+use Rattle.positions.specs.Equations.{Kept, repeated-kept}
 use Rattle.positions.specs.Inside.{Inside, goes-to}
 use Rattle.positions.specs.Exact.{numbered-inside}
 use Rattle.positions.specs.Marked.{marked, self, walks, word-walks}
 
--- Some word there is; and there is one of each part that is joined to another.
+-- There is some word; and there is one of each part that is joined to another.
 abbrev pub Some : Opened → Type 0
 Some (letter a) = Unit {0}
 Some (joining r s) = Some r × Some s
@@ -136,28 +137,21 @@ unfolding anyOf
 any-of-full [] = (tt, λ d. absurd (omega arith))
 any-of-full (x ∷ l) = ((tt, any-of-full l .0), λ d. inl tt)
 
-copies-full : (r t : Opened) → Full r → Full t → (n : ℕ) → Full (copies r n t)
-unfolding copies
-copies-full r t h g zero = g
-copies-full r t h g (suc n) = let x = copies-full r t h g n in ((h .0, x .0, h .1, x .1), (h .1, x .1))
-
-nested-full : (r : Opened) → Full r → (k : ℕ) → Full (nested r k)
-unfolding nested
-nested-full r h zero = (tt, tt)
-nested-full r h (suc k) = let x = nested-full r h k in ((h .0, x .0, h .1, x .1), tt)
-
-repeated-full : (r : Opened) (c : Count) → Full r → Full (repeated r c)
-unfolding repeated
-repeated-full r (between n m) h = copies-full r (nested r (m - n)) h (nested-full r h (m - n)) n
-repeated-full r (onward zero) h = (h .0, tt)
-repeated-full r (onward (suc n)) h = copies-full r (plus r) h h n
+full-kept : Kept Full
+full-kept = record {
+  joins = λ r s h g. ((h .0, g .0, h .1, g .1), (h .1, g .1));
+  optionals = λ r h. (h .0, tt);
+  stars = λ r h. (h .0, tt);
+  pluses = λ r h. h;
+  none = (tt, tt);
+}
 
 opened-full : (A : List ℕ) (t : Tree) → Labels A t → Full (opened A t)
 unfolding opened
 opened-full A (set c) h = let x = any-of-full (labelsIn A c) in (x .0, x .1 h)
 opened-full A (group r) h = opened-full A r h
-opened-full A (times r c) h = repeated-full (opened A r) c (opened-full A r h)
-opened-full A (join r s) h = let x = opened-full A r (h .0) in let y = opened-full A s (h .1) in ((x .0, y .0, x .1, y .1), (x .1, y .1))
+opened-full A (times r c) h = repeated-kept Full full-kept (opened A r) (opened-full A r h) c
+opened-full A (join r s) h = full-kept .joins (opened A r) (opened A s) (opened-full A r (h .0)) (opened-full A s (h .1))
 opened-full A (either r s) h = let x = opened-full A r (h .0) in let y = opened-full A s (h .1) in ((x .0, y .0), inl (x .1))
 
 pub tree-first : (A : List ℕ) (t : Tree) → Labels A t → (i : ℕ) → (automatonOf A t .follow 0 i ≡ true) ↔ Begun 1 (opened A t) i

@@ -9,7 +9,8 @@ use Rattle.automaton.specs.Automaton.{Automaton}
 use Rattle.expression.specs.Tree.{Tree}
 use Rattle.positions.specs.Opened.{Opened, letter, joining, alternation, optional, star, plus, empty, never, opened, labels, letters}
 
--- whether the empty word is a word; whether a letter may be first, or last, in a word; whether an arc leads from a letter to another
+-- whether the empty word is a word; whether a letter may be first, or last, in a word (exactly if some word so begins, or ends, there:
+-- FirstLast.antt); whether an arc leads from a letter to another
 pub record Positions : Type 0 where
   pub nullable : Bool
   pub first : ℕ → Bool

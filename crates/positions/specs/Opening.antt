@@ -39,7 +39,7 @@ among-label : (A : List ℕ) (c : Set) (x : ℕ) → 1 ≤ x → x ≤ length A 
 among-label A c x l h e = among-keep (λ y. member c (getD A (y - 1) 0)) x (numbers 1 (length A)) (among-numbers 1 (length A) x l (omega arith)) e
 
 -- Repetitions. Words of one set joined are words of a larger one joined.
-pub joined-map : (P Q : List ℕ → Type 0) → ((w : List ℕ) → P w → Q w) → (k : ℕ) (w : List ℕ) → Joined P k w → Joined Q k w
+joined-map : (P Q : List ℕ → Type 0) → ((w : List ℕ) → P w → Q w) → (k : ℕ) (w : List ℕ) → Joined P k w → Joined Q k w
 joined-map P Q f zero w h = h
 joined-map P Q f (suc k) w h = (h .0, h .1, h .2, f (h .0) (h .3), joined-map P Q f k (h .1) (h .4))
 
