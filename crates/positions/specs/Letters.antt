@@ -22,12 +22,12 @@ copiesOf (between n m) = m
 copiesOf (onward zero) = 1
 copiesOf (onward (suc n)) = suc n
 
-unfoldable pub treeLetters : List ℕ → Tree → ℕ
-treeLetters A (set c) = labelsOf A c
-treeLetters A (group r) = treeLetters A r
-treeLetters A (times r c) = copiesOf c * treeLetters A r
-treeLetters A (join r s) = treeLetters A r + treeLetters A s
-treeLetters A (either r s) = treeLetters A r + treeLetters A s
+unfoldable pub lettersOf : List ℕ → Tree → ℕ
+lettersOf A (set c) = labelsOf A c
+lettersOf A (group r) = lettersOf A r
+lettersOf A (times r c) = copiesOf c * lettersOf A r
+lettersOf A (join r s) = lettersOf A r + lettersOf A s
+lettersOf A (either r s) = lettersOf A r + lettersOf A s
 
 -- the labels of a set, where the first character is label y
 labels-counted : (y : ℕ) (A : List ℕ) (c : Set) → length (keep (λ x. member c (getD A (x - y) 0)) (numbers y (length A))) ≡ labelsOf A c
@@ -66,8 +66,8 @@ repeated-letters r (between n m) o =
 repeated-letters r (onward zero) o = omega arith
 repeated-letters r (onward (suc n)) o = let h = copies-letters r (plus r) n in omega arith
 
-pub opened-letters : (A : List ℕ) (t : Tree) → Ordered t → letters (opened A t) ≡ treeLetters A t
-unfolding opened labels treeLetters
+pub opened-letters : (A : List ℕ) (t : Tree) → Ordered t → letters (opened A t) ≡ lettersOf A t
+unfolding opened labels lettersOf
 opened-letters A (set c) o = ap length (any-of-labels (labelsIn A c)) ∙ labels-counted 1 A c
 opened-letters A (group r) o = opened-letters A r o
 opened-letters A (times r c) o = repeated-letters (opened A r) c (o .1) ∙ ap (λ k. copiesOf c * k) (opened-letters A r (o .0))
