@@ -1,1 +1,5 @@
 pub mod Automaton
+pub mod Form
+pub mod Accepted
+pub mod Valid
+pub mod Encode

@@ -7,7 +7,7 @@ use mathlib.Core.List.{List, [], _∷_, _++_, map}
 use native.Mathlib.Numerals.{add-one}
 use native.Mathlib.Nat.{le-of-suc-le-suc, not-suc-le-zero}
 use native.Mathlib.Omega.{arith}
-use lib.ListN.{length, getD, take, drop}
+use lib.ListN.{length, getD, take, drop, drop-of-length-le}
 use lib.Seq.{drop-cons}
 use Rattle.lists.specs.Order.{and-left, and-right, and-both}
 
@@ -43,6 +43,12 @@ module _ {A : Type 0} where
   each-at P d (x ∷ xs) zero l h = h .0
   each-at P d (x ∷ xs) (suc i) l h = each-at P d xs i (le-of-suc-le-suc l) (h .1)
 
+  -- what holds past the end too holds anywhere
+  pub each-anywhere : (P : A → Type 0) (d : A) (xs : List A) (i : ℕ) → P d → Each P xs → P (getD xs i d)
+  each-anywhere P d [] i z h = z
+  each-anywhere P d (x ∷ xs) zero z h = h .0
+  each-anywhere P d (x ∷ xs) (suc i) z h = each-anywhere P d xs i z (h .1)
+
   -- the test tells the fact
   pub all-each : (p : A → Bool) (P : A → Type 0) → ((x : A) → p x ≡ true → P x) → (xs : List A) → all p xs ≡ true → Each P xs
   unfolding all
@@ -54,12 +60,24 @@ module _ {A : Type 0} where
   each-all p P f [] h = refl
   each-all p P f (x ∷ xs) h = and-both (p x) (all p xs) (f x (h .0)) (each-all p P f xs (h .1))
 
+  -- what is left of a list at an index loop's i, and where the loop ends
+  pub drop-here : (d : A) (xs : List A) (i : ℕ) → i < length xs → drop i xs ≡ getD xs i d ∷ drop (i + 1) xs
+  drop-here d xs i l = drop-cons xs i d l ∙ ap (λ k. getD xs i d ∷ drop k xs) (sym (add-one i))
+
+  pub drop-all : (xs : List A) (i : ℕ) → length xs ≤ i → drop i xs ≡ []
+  drop-all xs i l = drop-of-length-le xs l
+
   -- The loop that tests each element from the left: what is left decides. At i of xs, with d for what lies past the end.
   module _ (p : A → Bool) (d : A) (xs : List A) where
-    pub all-more : (i : ℕ) → i < length xs → p (getD xs i d) ≡ true → all p (drop i xs) ≡ all p xs → all p (drop (i + 1) xs) ≡ all p xs
+    pub all-more :
+        (i : ℕ) → i < length xs → p (getD xs i d) ≡ true → all p (drop i xs) ≡ all p xs → all p (drop (i + 1) xs) ≡ all p xs
     unfolding all
-    all-more i l t e = sym (ap (all p) (drop-cons xs i d l) ∙ ap (λ b. b && all p (drop (suc i) xs)) t ∙ ap (λ k. all p (drop k xs)) (sym (add-one i))) ∙ e
+    all-more i l t e = sym (ap (all p) (drop-here d xs i l) ∙ ap (λ b. b && all p (drop (i + 1) xs)) t) ∙ e
 
     pub all-fails : (i : ℕ) → i < length xs → p (getD xs i d) ≡ false → all p (drop i xs) ≡ all p xs → all p xs ≡ false
     unfolding all
-    all-fails i l t e = sym e ∙ ap (all p) (drop-cons xs i d l) ∙ ap (λ b. b && all p (drop (suc i) xs)) t
+    all-fails i l t e = sym e ∙ ap (all p) (drop-here d xs i l) ∙ ap (λ b. b && all p (drop (i + 1) xs)) t
+
+  pub all-end : (p : A → Bool) (xs : List A) (i : ℕ) → length xs ≤ i → all p (drop i xs) ≡ all p xs → all p xs ≡ true
+  unfolding all
+  all-end p xs i l e = sym e ∙ ap (all p) (drop-all xs i l)

@@ -41,6 +41,21 @@ and-right false false e = e
 pub and-both : (a b : Bool) → a ≡ true → b ≡ true → (a && b) ≡ true
 and-both a b e f = rw (e, f)
 
+pub and-three : (a b c : Bool) → (a && b && c) ≡ true → (a ≡ true) × (b ≡ true) × (c ≡ true)
+and-three true true true e = (refl, refl, refl)
+and-three true true false e = (refl, refl, e)
+and-three true false c e = let z : _≡_ {A = ℕ} 0 1 = cc in absurd (omega arith)
+and-three false b c e = let z : _≡_ {A = ℕ} 0 1 = cc in absurd (omega arith)
+
+pub and-all-three : (a b c : Bool) → a ≡ true → b ≡ true → c ≡ true → (a && b && c) ≡ true
+and-all-three a b c e f g = rw (e, f, g)
+
+-- two tests that hold together are the same
+pub same-truth : (a b : Bool) → (a ≡ true → b ≡ true) → (b ≡ true → a ≡ true) → a ≡ b
+same-truth true b f g = sym (f refl)
+same-truth false true f g = g refl
+same-truth false false f g = refl
+
 pub or-either : (a b : Bool) → (a || b) ≡ true → (a ≡ true) ⊎ (b ≡ true)
 or-either true b e = inl refl
 or-either false b e = inr e

@@ -31,6 +31,16 @@ module _ {A : Type 0} where
       ∙ sym (append-assoc w (a ∷ []) (drop (suc n) m))
       ∙ ap (λ k. (w ++ (a ∷ [])) ++ drop k m) size
 
+  -- what a function did that wrote the list w into the front of lent memory and answered its length
+  pub record Wrote (w before after : List A) (answer : ℕ) : Type 0 where
+    pub count : answer ≡ length w
+    pub memory : after ≡ written w before
+
+  -- what a function did that stored the elements c from place n on and answered the next place
+  pub record Stored (c : List A) (n : ℕ) (before after : List A) (answer : ℕ) : Type 0 where
+    pub next : answer ≡ n + length c
+    pub memory : after ≡ sets before n c
+
   -- In a loop that writes `whole` from the front of `memory`: n elements are written, and `todo` is still to come.
   pub record Filling (whole memory : List A) (present todo : List A) (n : ℕ) : Type 0 where
     pub room : length whole ≤ length memory
@@ -72,16 +82,27 @@ module _ {A : Type 0} where
         (subst (λ k. Filling whole memory (sets (set present n x) k c) todo (k + length c)) (add-one n)
         (filling-some c (set present n x) todo (n + 1) (filling-more present (c ++ todo) n x f)))
 
-    pub filling-fits : (c present todo : List A) (n : ℕ) → Filling whole memory present (c ++ todo) n → n + length c ≤ length whole
-    filling-fits c present todo n f = let l = ap length (f .left) in let w = f .within in omega (arith, length-drop n whole, length-append c todo)
+    pub filling-stored :
+        (c present after todo : List A) (n next : ℕ) → Filling whole memory present (c ++ todo) n → Stored c n present after next
+        → Filling whole memory after todo next
+    filling-stored c present after todo n next f s = rw (s .memory, s .next) (filling-some c present todo n f)
 
     pub filling-length : (present todo : List A) (n : ℕ) → Filling whole memory present todo n → length present ≡ length memory
     filling-length present todo n f =
         let r = f .room in
         ap length (f .so-far) ∙ length-written (take n whole) memory (let z = length-take-le n whole (f .within) in omega arith)
 
-    pub filling-all : (present : List A) (n : ℕ) → Filling whole memory present [] n → (n ≡ length whole) × (present ≡ written whole memory)
+    -- the memory has room for what comes next
+    pub filling-room : (c present todo : List A) (n : ℕ) → Filling whole memory present (c ++ todo) n → n + length c ≤ length present
+    filling-room c present todo n f =
+        let l = ap length (f .left) in
+        let w = f .within in
+        let r = f .room in
+        let e = filling-length present (c ++ todo) n f in
+        omega (arith, length-drop n whole, length-append c todo)
+
+    pub filling-all : (present : List A) (n : ℕ) → Filling whole memory present [] n → Wrote whole memory present n
     filling-all present n f =
         let w = f .within in
         let e : n ≡ length whole = let l = ap length (f .left) in omega (arith, length-drop n whole) in
-        (e, f .so-far ∙ ap (λ l. written l memory) (ap (λ k. take k whole) e ∙ take-length whole))
+        record { count = e; memory = f .so-far ∙ ap (λ l. written l memory) (ap (λ k. take k whole) e ∙ take-length whole) }

@@ -2,3 +2,6 @@ pub mod Best
 pub mod Matrix
 pub mod Order
 pub mod Reading
+pub mod Choice
+pub mod Exhaustive
+pub mod Columns

@@ -5,7 +5,10 @@ use mathlib.Core.Path.{_≡_, refl, sym, ap, _∙_}
 use mathlib.Core.List.{List, [], _∷_, _++_}
 use native.Mathlib.Omega.{arith}
 use lib.ListN.{length, getD}
-use Rattle.lists.specs.Each.{Each}
+use mathlib.Core.Logic.{⊎-elim}
+use lib.ListN.{List·getD-eq-default}
+use Rattle.lists.specs.Order.{lt-or-le}
+use Rattle.lists.specs.Each.{Each, each-at}
 
 -- its costs, one column after another; its column width; its column count
 pub record Matrix : Type 0 where
@@ -57,3 +60,9 @@ module _ (M : Matrix) where
   path-append t (x ∷ p) q h g =
       let e : t + suc (length p) ≡ t + 1 + length p = omega arith in
       (h .0, h .1, path-append (t + 1) p q (h .2) (rw e at g))
+
+-- past the list's end a cost counts as 0
+pub cost-passes : (M : Matrix) → CostsPass M → (t x : ℕ) → Usable (cost M t x)
+cost-passes M pass t x =
+    ⊎-elim (λ l. each-at Usable 0 (M .costs) (t * M .width + x) l pass)
+    (λ l. let e = List·getD-eq-default (M .costs) 0 l in omega arith) (lt-or-le (t * M .width + x) (length (M .costs)))

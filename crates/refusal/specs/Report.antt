@@ -1,10 +1,10 @@
 -- What a call reports: 0 or the refusal's number, the price and the lengths, all of them zero at a refusal; and what a call that
 -- fills one list promises. Assumes nothing.
 use Prim.Native.Nat.{ℕ}
-use mathlib.Core.Path.{_≡_, refl, ap, _∙_}
+use mathlib.Core.Path.{_≡_, refl, sym, ap, _∙_}
 use mathlib.Core.List.{List, []}
 use lib.ListN.{length}
-use Rattle.lists.specs.Written.{written}
+use Rattle.lists.specs.Written.{written, written-none, Wrote}
 use Rattle.refusal.specs.declared.Refusal.{Refusal}
 use Rattle.refusal.specs.declared.Counted.{Counted}
 use Rattle.refusal.specs.declared.Counted.the-variants.{Filled, Refused}
@@ -44,3 +44,9 @@ module _ {A : Type 0} where
   pub record Fills (verdict : Verdict (List A)) (answer : Report) (before after : List A) : Type 0 where
     pub answered : answer ≡ report verdict
     pub memory : after ≡ written (filling verdict) before
+
+  pub fills-refused : (v : Verdict (List A)) (n : Refusal) (memory : List A) → v ≡ refused n → Fills v (turned-away n) memory memory
+  fills-refused v n memory e = rw e (record { answered = refl; memory = sym (written-none memory) })
+
+  pub fills-wrote : (v : Verdict (List A)) (w before after : List A) (n : ℕ) → v ≡ passed w → Wrote w before after n → Fills v (counted n) before after
+  fills-wrote v w before after n e h = rw e (record { answered = ap counted (h .count); memory = h .memory })

@@ -31,3 +31,10 @@ module _ {A : Type 0} (a : A) where
   pub unless-fails : (t : Bool) (n : Refusal) (cs : List Check) → t ≡ false → unless (check t n ∷ cs) a ≡ unless cs a
   unfolding unless
   unless-fails t n cs e = rw (e, unless)
+
+  -- of two checks
+  pub unless-second : (s t : Bool) (m n : Refusal) → s ≡ false → t ≡ true → unless (check s m ∷ (check t n ∷ [])) a ≡ refused n
+  unless-second s t m n e f = unless-fails s m (check t n ∷ []) e ∙ unless-holds t n [] f
+
+  pub unless-neither : (s t : Bool) (m n : Refusal) → s ≡ false → t ≡ false → unless (check s m ∷ (check t n ∷ [])) a ≡ passed a
+  unless-neither s t m n e f = unless-fails s m (check t n ∷ []) e ∙ unless-fails t n [] f ∙ unless-none

@@ -1,0 +1,274 @@
+-- What a valid form says of its words, index by index, and of its automaton. Assumes nothing.
+use Prim.Native.Nat.{ℕ, zero, suc, _+_, _-_, _*_, _/_, _%_, _^_, _<_, _≤_}
+use mathlib.Core.Path.{_≡_, refl, sym, ap, ap₂, subst, _∙_}
+use mathlib.Core.Bool.{Bool, true, false, _&&_, _||_}
+use mathlib.Core.Logic.{_⊎_, inl, inr, _↔_}
+use mathlib.Core.List.{List, [], _∷_, _++_, map}
+use native.Mathlib.Omega.{arith}
+use lib.Dec.{leb, ltb, eqb}
+use lib.ListN.{length, getD, take, drop, length-drop, length-take}
+use lib.Seq.{getD-drop, getD-take, length-take-le}
+use borrow.Author.Tests.{leb-true, ltb-true, eqb-true, le-leb, lt-ltb, eq-eqb, le-ltb, ne-eqb, eqb-false}
+use Rattle.lists.specs.Order.{and-left, and-right, and-both, and-three, and-all-three, or-either, lt-or-le, eq-or-ne, same-truth}
+use Rattle.lists.specs.Each.{all, Each, all-each, each-all, each-at, each-map}
+use Rattle.lists.specs.Among.{Among, any, any-among, among-any, among-at, among-index, each-among}
+use Rattle.lists.specs.Ascending.{Ascending, ascending-at}
+use Rattle.automaton.specs.Automaton.{Automaton, Proper}
+use Rattle.automaton.specs.Form.{headWord, letterWord, arcWord, byte0, byte1, byte2, bit8, bit9, source, target, within, isHead, isLetter, isArc}
+use Rattle.automaton.specs.Form.{before, ordered, validForm, lettersOf, alphabetOf, labelOf, letterWords, arcWords, followOf, endsOf, leads, view}
+
+pub record Head (w : ℕ) : Type 0 where
+  pub same : w ≡ headWord (byte0 w) (bit8 w) (byte2 w)
+  pub letters-low : 1 ≤ byte0 w
+  pub letters-high : byte0 w ≤ 127
+  pub alphabet-low : 1 ≤ byte2 w
+  pub alphabet-high : byte2 w ≤ 95
+
+pub record Letter (k w : ℕ) : Type 0 where
+  pub same : w ≡ letterWord (byte0 w) (bit8 w) (bit9 w)
+  pub low : 1 ≤ byte0 w
+  pub high : byte0 w ≤ k
+
+pub record Arc (l w : ℕ) : Type 0 where
+  pub same : w ≡ arcWord (source w) (target w)
+  pub source-low : 1 ≤ source w
+  pub source-high : source w ≤ l
+  pub target-low : 1 ≤ target w
+  pub target-high : target w ≤ l
+
+within-true : (a n b : ℕ) → within a n b ≡ true → (a ≤ n) × (n ≤ b)
+within-true a n b e = (leb-true a n (and-left (leb a n) (leb n b) e), leb-true n b (and-right (leb a n) (leb n b) e))
+
+true-within : (a n b : ℕ) → a ≤ n → n ≤ b → within a n b ≡ true
+true-within a n b l h = and-both (leb a n) (leb n b) (le-leb a n l) (le-leb n b h)
+
+pub head-true : (w : ℕ) → isHead w ≡ true → Head w
+head-true w e =
+    let p = and-three (eqb w (headWord (byte0 w) (bit8 w) (byte2 w))) (within 1 (byte0 w) 127) (within 1 (byte2 w) 95) e in
+    let l = within-true 1 (byte0 w) 127 (p .1) in
+    let k = within-true 1 (byte2 w) 95 (p .2) in
+    record {
+      same = eqb-true w (headWord (byte0 w) (bit8 w) (byte2 w)) (p .0);
+      letters-low = l .0;
+      letters-high = l .1;
+      alphabet-low = k .0;
+      alphabet-high = k .1;
+    }
+
+pub true-head : (w : ℕ) → Head w → isHead w ≡ true
+true-head w h =
+    and-all-three (eqb w (headWord (byte0 w) (bit8 w) (byte2 w))) (within 1 (byte0 w) 127) (within 1 (byte2 w) 95)
+    (eq-eqb w (headWord (byte0 w) (bit8 w) (byte2 w)) (h .same))
+    (true-within 1 (byte0 w) 127 (h .letters-low) (h .letters-high))
+    (true-within 1 (byte2 w) 95 (h .alphabet-low) (h .alphabet-high))
+
+pub letter-true : (k w : ℕ) → isLetter k w ≡ true → Letter k w
+letter-true k w e =
+    let same = eqb w (letterWord (byte0 w) (bit8 w) (bit9 w)) in
+    let l = within-true 1 (byte0 w) k (and-right same (within 1 (byte0 w) k) e) in
+    record { same = eqb-true w (letterWord (byte0 w) (bit8 w) (bit9 w)) (and-left same (within 1 (byte0 w) k) e); low = l .0; high = l .1 }
+
+pub true-letter : (k w : ℕ) → Letter k w → isLetter k w ≡ true
+true-letter k w h =
+    and-both (eqb w (letterWord (byte0 w) (bit8 w) (bit9 w))) (within 1 (byte0 w) k)
+    (eq-eqb w (letterWord (byte0 w) (bit8 w) (bit9 w)) (h .same))
+    (true-within 1 (byte0 w) k (h .low) (h .high))
+
+pub arc-true : (l w : ℕ) → isArc l w ≡ true → Arc l w
+arc-true l w e =
+    let p = and-three (eqb w (arcWord (source w) (target w))) (within 1 (source w) l) (within 1 (target w) l) e in
+    let s = within-true 1 (source w) l (p .1) in
+    let t = within-true 1 (target w) l (p .2) in
+    record {
+      same = eqb-true w (arcWord (source w) (target w)) (p .0);
+      source-low = s .0;
+      source-high = s .1;
+      target-low = t .0;
+      target-high = t .1;
+    }
+
+pub true-arc : (l w : ℕ) → Arc l w → isArc l w ≡ true
+true-arc l w h =
+    and-all-three (eqb w (arcWord (source w) (target w))) (within 1 (source w) l) (within 1 (target w) l)
+    (eq-eqb w (arcWord (source w) (target w)) (h .same))
+    (true-within 1 (source w) l (h .source-low) (h .source-high))
+    (true-within 1 (target w) l (h .target-low) (h .target-high))
+
+-- arcs compare as numbers
+pub before-less : (l w v : ℕ) → Arc l w → Arc l v → before w v ≡ ltb w v
+before-less l w v a b = by (lt-or-le (source w) (source v)) (eq-or-ne (source w) (source v)) (lt-or-le (target w) (target v))
+  where
+    by :
+        (source w < source v) ⊎ (source v ≤ source w) → (source w ≡ source v) ⊎ (source w ≡ source v → ⊥) → (target w < target v) ⊎ (target v ≤ target w)
+        → before w v ≡ ltb w v
+    by (inl s) e t = rw (lt-ltb (source w) (source v) s, lt-ltb w v (omega arith))
+    by (inr s) (inl e) (inl t) = rw (le-ltb (source w) (source v) s, eq-eqb (source w) (source v) e, lt-ltb (target w) (target v) t, lt-ltb w v (omega arith))
+    by (inr s) (inl e) (inr t) = rw (le-ltb (source w) (source v) s, eq-eqb (source w) (source v) e, le-ltb (target w) (target v) t, le-ltb w v (omega arith))
+    by (inr s) (inr e) t = rw (le-ltb (source w) (source v) s, ne-eqb (source w) (source v) e, le-ltb w v (omega arith))
+
+pub letter-at : (f : List ℕ) (i : ℕ) → 1 ≤ i → i ≤ lettersOf f → getD (letterWords f) (i - 1) 0 ≡ getD f i 0
+letter-at f i l h = getD-take (lettersOf f) (drop 1 f) (i - 1) 0 (omega arith) ∙ getD-drop 1 f (i - 1) 0 ∙ ap (λ n. getD f n 0) (omega arith)
+
+arc-at : (f : List ℕ) (n : ℕ) → lettersOf f < n → getD (arcWords f) (n - suc (lettersOf f)) 0 ≡ getD f n 0
+arc-at f n l = getD-drop (suc (lettersOf f)) f (n - suc (lettersOf f)) 0 ∙ ap (λ m. getD f m 0) (omega arith)
+
+pub length-letterWords : (f : List ℕ) → lettersOf f < length f → length (letterWords f) ≡ lettersOf f
+length-letterWords f h = length-take-le (lettersOf f) (drop 1 f) (omega (arith, length-drop 1 f))
+
+pub length-arcWords : (f : List ℕ) → length (arcWords f) ≡ length f - suc (lettersOf f)
+length-arcWords f = length-drop (suc (lettersOf f)) f
+
+-- the order of neighbours is the order of all
+pub ordered-ascending : (l : ℕ) (ws : List ℕ) → Each (Arc l) ws → ordered ws ≡ true → Ascending ws
+unfolding ordered
+ordered-ascending l [] arcs e = tt
+ordered-ascending l (w ∷ []) arcs e = (tt, tt)
+ordered-ascending l (w ∷ (v ∷ ws)) arcs e =
+    let less : w < v = ltb-true w v (sym (before-less l w v (arcs .0) (arcs .1 .0)) ∙ and-left (before w v) (ordered (v ∷ ws)) e) in
+    let rest : Ascending (v ∷ ws) = ordered-ascending l (v ∷ ws) (arcs .1) (and-right (before w v) (ordered (v ∷ ws)) e) in
+    ((less, each-map (λ y. v < y) (λ y. w < y) (λ y h. omega arith) ws (rest .0)), rest)
+
+pub ascending-ordered : (l : ℕ) (ws : List ℕ) → Each (Arc l) ws → Ascending ws → ordered ws ≡ true
+unfolding ordered
+ascending-ordered l [] arcs h = refl
+ascending-ordered l (w ∷ []) arcs h = refl
+ascending-ordered l (w ∷ (v ∷ ws)) arcs h =
+    and-both (before w v) (ordered (v ∷ ws)) (before-less l w v (arcs .0) (arcs .1 .0) ∙ lt-ltb w v (h .0 .0)) (ascending-ordered l (v ∷ ws) (arcs .1) (h .1))
+
+-- the five parts of the test
+pub record Parts (f : List ℕ) : Type 0 where
+  pub head : Head (getD f 0 0)
+  pub long : lettersOf f < length f
+  pub letters : Each (Letter (alphabetOf f)) (letterWords f)
+  pub arcs : Each (Arc (lettersOf f)) (arcWords f)
+  pub order : Ascending (arcWords f)
+
+pub valid-parts : (f : List ℕ) → validForm f ≡ true → Parts f
+unfolding validForm
+valid-parts f e =
+    let h = isHead (getD f 0 0) in
+    let n = ltb (lettersOf f) (length f) in
+    let ls = all (isLetter (alphabetOf f)) (letterWords f) in
+    let cs = all (isArc (lettersOf f)) (arcWords f) in
+    let p = and-three (h && n && ls) cs (ordered (arcWords f)) e in
+    let q = and-three h n ls (p .0) in
+    let arcs : Each (Arc (lettersOf f)) (arcWords f) = all-each (isArc (lettersOf f)) (Arc (lettersOf f)) (arc-true (lettersOf f)) (arcWords f) (p .1) in
+    record {
+      head = head-true (getD f 0 0) (q .0);
+      long = ltb-true (lettersOf f) (length f) (q .1);
+      letters = all-each (isLetter (alphabetOf f)) (Letter (alphabetOf f)) (letter-true (alphabetOf f)) (letterWords f) (q .2);
+      arcs = arcs;
+      order = ordered-ascending (lettersOf f) (arcWords f) arcs (p .2);
+    }
+
+pub parts-valid : (f : List ℕ) → Parts f → validForm f ≡ true
+unfolding validForm
+parts-valid f p =
+    let h = isHead (getD f 0 0) in
+    let n = ltb (lettersOf f) (length f) in
+    let ls = all (isLetter (alphabetOf f)) (letterWords f) in
+    let cs = all (isArc (lettersOf f)) (arcWords f) in
+    and-all-three (h && n && ls) cs (ordered (arcWords f))
+    (and-all-three h n ls
+    (true-head (getD f 0 0) (p .head))
+    (lt-ltb (lettersOf f) (length f) (p .long))
+    (each-all (isLetter (alphabetOf f)) (Letter (alphabetOf f)) (true-letter (alphabetOf f)) (letterWords f) (p .letters)))
+    (each-all (isArc (lettersOf f)) (Arc (lettersOf f)) (true-arc (lettersOf f)) (arcWords f) (p .arcs))
+    (ascending-ordered (lettersOf f) (arcWords f) (p .arcs) (p .order))
+
+-- a valid form, index by index
+pub record Valid (f : List ℕ) : Type 0 where
+  pub head : Head (getD f 0 0)
+  pub long : lettersOf f < length f
+  pub letter : (i : ℕ) → 1 ≤ i → i ≤ lettersOf f → Letter (alphabetOf f) (getD f i 0)
+  pub arc : (n : ℕ) → lettersOf f < n → n < length f → Arc (lettersOf f) (getD f n 0)
+  pub ascends : (m n : ℕ) → lettersOf f < m → m < n → n < length f → getD f m 0 < getD f n 0
+
+pub valid-at : (f : List ℕ) → validForm f ≡ true → Valid f
+valid-at f e =
+    let p = valid-parts f e in
+    let long = p .long in
+    let l = lettersOf f in
+    record {
+      head = p .head;
+      long = p .long;
+      letter = λ i low high.
+          subst (Letter (alphabetOf f)) (letter-at f i low high)
+          (each-at (Letter (alphabetOf f)) 0 (letterWords f) (i - 1) (omega (arith, length-letterWords f (p .long))) (p .letters));
+      arc = λ n past inside.
+          subst (Arc l) (arc-at f n past) (each-at (Arc l) 0 (arcWords f) (n - suc l) (omega (arith, length-arcWords f)) (p .arcs));
+      ascends = λ m n past less inside.
+          let r = ascending-at 0 (arcWords f) (m - suc l) (n - suc l) (p .order) (omega arith) (omega (arith, length-arcWords f)) in
+          omega (arith, arc-at f m past, arc-at f n (omega arith));
+    }
+
+-- an arc word that stands for the arc from i to j
+pub record ArcAt (f : List ℕ) (i j : ℕ) : Type 0 where
+  pub index : ℕ
+  pub past : lettersOf f < index
+  pub inside : index < length f
+  pub from : source (getD f index 0) ≡ i
+  pub to : target (getD f index 0) ≡ j
+
+pub follow-arc : (f : List ℕ) (i j : ℕ) → 1 ≤ i → followOf f i j ≡ true → ArcAt f i j
+unfolding followOf
+follow-arc f zero j l e = absurd (omega arith)
+follow-arc f (suc i) j l e =
+    let r = any-among (leads (suc i) j) (arcWords f) e in
+    let q = among-index 0 (r .0) (arcWords f) (r .1) in
+    let n : ℕ = q .0 in
+    let h : n < length (arcWords f) = q .1 in
+    let at : getD f (suc (lettersOf f) + n) 0 ≡ r .0 = sym (getD-drop (suc (lettersOf f)) f n 0) ∙ q .2 in
+    record {
+      index = suc (lettersOf f) + n;
+      past = omega arith;
+      inside = omega (arith, length-arcWords f);
+      from = ap source at ∙ eqb-true (source (r .0)) (suc i) (and-left (eqb (source (r .0)) (suc i)) (eqb (target (r .0)) j) (r .2));
+      to = ap target at ∙ eqb-true (target (r .0)) j (and-right (eqb (source (r .0)) (suc i)) (eqb (target (r .0)) j) (r .2));
+    }
+
+pub arc-among : (f : List ℕ) (n : ℕ) → lettersOf f < n → n < length f → Among (getD f n 0) (arcWords f)
+arc-among f n past inside =
+    subst (λ v. Among v (arcWords f)) (arc-at f n past) (among-at 0 (arcWords f) (n - suc (lettersOf f)) (omega (arith, length-arcWords f)))
+
+pub among-follow : (f : List ℕ) (w i j : ℕ) → 1 ≤ i → source w ≡ i → target w ≡ j → Among w (arcWords f) → followOf f i j ≡ true
+unfolding followOf
+among-follow f w zero j l s t m = absurd (omega arith)
+among-follow f w (suc i) j l s t m =
+    among-any (leads (suc i) j) w (arcWords f) m
+    (and-both (eqb (source w) (suc i)) (eqb (target w) j) (eq-eqb (source w) (suc i) s) (eq-eqb (target w) j t))
+
+pub arc-follow : (f : List ℕ) (i j : ℕ) → 1 ≤ i → ArcAt f i j → followOf f i j ≡ true
+arc-follow f i j l a = among-follow f (getD f (a .index) 0) i j l (a .from) (a .to) (arc-among f (a .index) (a .past) (a .inside))
+
+-- a letter's bits
+pub may-be-first : (f : List ℕ) (j : ℕ) → 1 ≤ j → j ≤ lettersOf f → followOf f 0 j ≡ bit8 (getD f j 0)
+unfolding followOf
+may-be-first f j l h = ap (λ t. t && bit8 (getD f j 0)) (true-within 1 j (lettersOf f) l h)
+
+pub may-be-last : (f : List ℕ) (i : ℕ) → 1 ≤ i → i ≤ lettersOf f → endsOf f i ≡ bit9 (getD f i 0)
+unfolding endsOf
+may-be-last f zero l h = absurd (omega arith)
+may-be-last f (suc i) l h = ap (λ t. t && bit9 (getD f (suc i) 0)) (le-leb (suc i) (lettersOf f) h)
+
+pub accepts-empty : (f : List ℕ) → endsOf f 0 ≡ bit8 (getD f 0 0)
+unfolding endsOf
+accepts-empty f = refl
+
+-- the automaton of a valid form is proper
+pub view-proper : (f : List ℕ) → validForm f ≡ true → Proper (alphabetOf f) (view f)
+unfolding followOf
+view-proper f e =
+    let v = valid-at f e in
+    record {
+      target = to;
+      labelled = λ j low high. let l = v .letter j low high in (l .low, l .high);
+    }
+  where
+    to : (i j : ℕ) → followOf f i j ≡ true → (1 ≤ j) × (j ≤ lettersOf f)
+    to zero j h = within-true 1 j (lettersOf f) (and-left (within 1 j (lettersOf f)) (bit8 (getD f j 0)) h)
+    to (suc i) j h =
+        let a = follow-arc f (suc i) j (omega arith) h in
+        let w = valid-at f e .arc (a .index) (a .past) (a .inside) in
+        let t = a .to in
+        (omega arith, omega arith)

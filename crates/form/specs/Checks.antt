@@ -1,0 +1,133 @@
+-- The check of a form as it goes through the list: a word put together again from its fields, the arcs each compared with the last,
+-- and the five tests one behind another. Assumes nothing.
+use Prim.Native.Nat.{ℕ, zero, suc, _+_, _-_, _*_, _/_, _%_, _<_, _≤_}
+use mathlib.Core.Path.{_≡_, refl, sym, ap, ap₂, subst, _∙_}
+use mathlib.Core.Bool.{Bool, true, false, _&&_}
+use mathlib.Core.Logic.{_⊎_, inl, inr}
+use mathlib.Core.List.{List, [], _∷_}
+use native.Mathlib.Numerals.{add-one}
+use native.Mathlib.Omega.{arith}
+use lib.Dec.{leb, ltb, eqb}
+use lib.ListN.{length, getD, take, drop, length-drop}
+use lib.Seq.{take-all}
+use borrow.Author.Tests.{eq-eqb, ne-eqb, lt-ltb, le-ltb}
+use Rattle.lists.specs.Order.{eq-or-ne}
+use Rattle.lists.specs.Each.{all, drop-here, drop-all}
+use Rattle.automaton.specs.Form.{bit, bit8, bit9, byte0, byte2, source, target, headWord, letterWord, arcWord, isHead, isLetter, isArc, before, ordered}
+use Rattle.automaton.specs.Form.{validForm, lettersOf, alphabetOf, letterWords, arcWords}
+use Rattle.automaton.specs.Valid.{Arc, arc-true, before-less}
+
+-- a bit by its test
+parity : (n : ℕ) → bit (eqb (n % 2) 1) ≡ n % 2
+parity n = by (eq-or-ne (n % 2) 1)
+  where
+    by : (n % 2 ≡ 1) ⊎ (n % 2 ≡ 1 → ⊥) → bit (eqb (n % 2) 1) ≡ n % 2
+    by (inl e) = ap bit (eq-eqb (n % 2) 1 e) ∙ sym e
+    by (inr e) = ap bit (ne-eqb (n % 2) 1 e) ∙ (omega arith)
+
+pub head-sum : (w : ℕ) → headWord (byte0 w) (bit8 w) (byte2 w) ≡ 268435456 + byte2 w * 65536 + w / 256 % 2 * 256 + byte0 w
+head-sum w = omega (arith, parity (w / 256))
+
+pub letter-sum : (w : ℕ) → letterWord (byte0 w) (bit8 w) (bit9 w) ≡ 536870912 + w / 512 % 2 * 512 + w / 256 % 2 * 256 + byte0 w
+letter-sum w = omega (arith, parity (w / 256), parity (w / 512))
+
+-- arcs, each behind the last
+unfoldable pub behind : ℕ → ℕ → List ℕ → Bool
+behind l last [] = true
+behind l last (w ∷ ws) = isArc l w && ltb last w && behind l w ws
+
+-- two tests of each element, one of them with what follows
+both : (a b t x y z : Bool) → (a ≡ true → b ≡ t) → (a ≡ true → x ≡ (y && z)) → (a && t && x) ≡ ((a && y) && (b && z))
+both false b t x y z f g = refl
+both true true true x y z f g = g refl
+both true true false x y z f g = let z : _≡_ {A = ℕ} 0 1 = cc (f refl) in absurd (omega arith)
+both true false true x y z f g = let z : _≡_ {A = ℕ} 0 1 = cc (f refl) in absurd (omega arith)
+both true false false x true z f g = refl
+both true false false x false z f g = refl
+
+module _ (l : ℕ) where
+  behind-arc : (p : ℕ) (ws : List ℕ) → Arc l p → behind l p ws ≡ (all (isArc l) ws && ordered (p ∷ ws))
+  unfolding behind all ordered
+  behind-arc p [] a = refl
+  behind-arc p (w ∷ ws) a =
+      both (isArc l w) (before p w) (ltb p w) (behind l w ws) (all (isArc l) ws) (ordered (w ∷ ws))
+      (λ e. before-less l p w a (arc-true l w e))
+      (λ e. behind-arc w ws (arc-true l w e))
+
+  -- 0 is below every arc
+  pub behind-none : (ws : List ℕ) → behind l 0 ws ≡ (all (isArc l) ws && ordered ws)
+  unfolding behind all ordered
+  behind-none [] = refl
+  behind-none (w ∷ ws) =
+      both (isArc l w) true (ltb 0 w) (behind l w ws) (all (isArc l) ws) (ordered (w ∷ ws))
+      (λ e. let a = arc-true l w e in let s = a .same in sym (lt-ltb 0 w (omega arith)))
+      (λ e. behind-arc w ws (arc-true l w e))
+
+  -- the loop over the arcs: what is left decides
+  module _ (ws : List ℕ) (last n : ℕ) (whole : Bool) (left : behind l last (drop n ws) ≡ whole) where
+    pub behind-end : length ws ≤ n → whole ≡ true
+    unfolding behind
+    behind-end h = sym left ∙ ap (behind l last) (drop-all ws n h)
+
+    module _ (inside : n < length ws) where
+      here : (isArc l (getD ws n 0) && ltb last (getD ws n 0) && behind l (getD ws n 0) (drop (n + 1) ws)) ≡ whole
+      unfolding behind
+      here = sym (ap (behind l last) (drop-here 0 ws n inside)) ∙ left
+
+      pub behind-more : isArc l (getD ws n 0) ≡ true → last < getD ws n 0 → behind l (getD ws n 0) (drop (n + 1) ws) ≡ whole
+      behind-more e h = sym (ap₂ (λ a b. a && b && behind l (getD ws n 0) (drop (n + 1) ws)) e (lt-ltb last (getD ws n 0) h)) ∙ here
+
+      pub behind-bad : isArc l (getD ws n 0) ≡ false → whole ≡ false
+      behind-bad e = sym here ∙ ap (λ a. a && ltb last (getD ws n 0) && behind l (getD ws n 0) (drop (n + 1) ws)) e
+
+      pub behind-late : isArc l (getD ws n 0) ≡ true → getD ws n 0 ≤ last → whole ≡ false
+      behind-late e h = sym here ∙ ap₂ (λ a b. a && b && behind l (getD ws n 0) (drop (n + 1) ws)) e (le-ltb last (getD ws n 0) h)
+
+-- the five tests, in their order
+module _ (f : List ℕ) where
+  pub valid-empty : length f ≡ 0 → validForm f ≡ false
+  unfolding validForm
+  valid-empty e = by f e
+    where
+      by : (g : List ℕ) → length g ≡ 0 → validForm g ≡ false
+      by [] h = refl
+      by (x ∷ xs) h = absurd (omega arith)
+
+  pub valid-head : isHead (getD f 0 0) ≡ false → validForm f ≡ false
+  unfolding validForm
+  valid-head e =
+      ap (λ h. h && ltb (lettersOf f) (length f) && all (isLetter (alphabetOf f)) (letterWords f) && all (isArc (lettersOf f)) (arcWords f) && ordered (arcWords f)) e
+
+  pub valid-short : isHead (getD f 0 0) ≡ true → length f ≤ lettersOf f → validForm f ≡ false
+  unfolding validForm
+  valid-short e s =
+      ap₂ (λ h n. h && n && all (isLetter (alphabetOf f)) (letterWords f) && all (isArc (lettersOf f)) (arcWords f) && ordered (arcWords f)) e
+      (le-ltb (lettersOf f) (length f) s)
+
+  pub valid-letters :
+      isHead (getD f 0 0) ≡ true → lettersOf f < length f → all (isLetter (alphabetOf f)) (letterWords f) ≡ false → validForm f ≡ false
+  unfolding validForm
+  valid-letters e s t =
+      ap₂ (λ h n. h && n && all (isLetter (alphabetOf f)) (letterWords f) && all (isArc (lettersOf f)) (arcWords f) && ordered (arcWords f)) e
+      (lt-ltb (lettersOf f) (length f) s)
+      ∙ ap (λ ls. ls && all (isArc (lettersOf f)) (arcWords f) && ordered (arcWords f)) t
+
+  pub valid-arcs :
+      isHead (getD f 0 0) ≡ true → lettersOf f < length f → all (isLetter (alphabetOf f)) (letterWords f) ≡ true
+      → validForm f ≡ (all (isArc (lettersOf f)) (arcWords f) && ordered (arcWords f))
+  unfolding validForm
+  valid-arcs e s t =
+      ap₂ (λ h n. h && n && all (isLetter (alphabetOf f)) (letterWords f) && all (isArc (lettersOf f)) (arcWords f) && ordered (arcWords f)) e
+      (lt-ltb (lettersOf f) (length f) s)
+      ∙ ap (λ ls. ls && all (isArc (lettersOf f)) (arcWords f) && ordered (arcWords f)) t
+
+  -- the parts of the list that the loops go through
+  module _ (l : ℕ) (same : l ≡ lettersOf f) where
+    pub letters-part : take (l + 1 - 1) (drop 1 f) ≡ letterWords f
+    letters-part = ap (λ n. take n (drop 1 f)) size
+      where
+        size : l + 1 - 1 ≡ lettersOf f
+        size = omega arith
+
+    pub arcs-part : take (length f - (l + 1)) (drop (l + 1) f) ≡ arcWords f
+    arcs-part = take-all (length f - (l + 1)) (drop (l + 1) f) (omega (arith, length-drop (l + 1) f)) ∙ ap (λ n. drop n f) (add-one l ∙ ap suc same)

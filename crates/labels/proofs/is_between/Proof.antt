@@ -1,0 +1,13 @@
+-- `labels::is_between` meets its contract, by its two tests. Assumes nothing.
+use borrow.Author.Tests.{lt-leb, le-leb}
+use Rattle.labels.proofs.is_between.Statement.{statement}
+use Rattle.labels.proofs.is_between.Tie as tie
+
+returns : tie.Need-returns
+returns c = simp (lt-leb _ _ (c .if1 .taken))
+
+returns-2 : tie.Need-returns-2
+returns-2 c = simp (le-leb _ _ (c .if1 .left))
+
+pub is-between-spec : {M : Type 1} → statement M
+is-between-spec = tie.close (tie.spec returns returns-2)
