@@ -11,7 +11,8 @@ use Rattle.lists.specs.Each.{Each, each-append, each-at}
 use Rattle.lists.specs.Among.{among-each}
 use Rattle.automaton.specs.Automaton.{Accepts, Proper}
 use Rattle.expression.specs.Tree.{Tree, set, group, times, join, either, Joined, Words}
-use Rattle.positions.specs.Opened.{Opened, letter, joining, alternation, optional, star, plus, empty, never, OpenedWords, labelsIn, opened, labels, letters, Ordered}
+use Rattle.expression.specs.Sense.{Sensible}
+use Rattle.positions.specs.Opened.{Opened, letter, joining, alternation, optional, star, plus, empty, never, OpenedWords, labelsIn, opened, labels, letters}
 use Rattle.positions.specs.Opening.{label-among, opening-keeps-words}
 use Rattle.positions.specs.Letters.{any-of-labels}
 use Rattle.positions.specs.Numbered.{numbered, bare, labelAt, positionAutomaton, automatonOf}
@@ -97,7 +98,7 @@ unfolding positionAutomaton
 accepts-opened r = opened-exact (letters r) (labelAt r) 1 r (omega arith) (λ i d. let z : 1 + i - 1 ≡ i = omega arith in ap (λ k. getD (labels r) k 0) z)
 
 -- The automaton of a tree accepts exactly the words of the tree.
-pub accepts-words : (A : List ℕ) (t : Tree) → Ordered t → (w : List ℕ) → Accepts (automatonOf A t) w ↔ Words A t w
+pub accepts-words : (A : List ℕ) (t : Tree) → Sensible A t → (w : List ℕ) → Accepts (automatonOf A t) w ↔ Words A t w
 accepts-words A t o w = Iff·trans (accepts-opened (opened A t) w) (Iff·symm (opening-keeps-words A t o w))
 
 -- Each label is one of the alphabet's.

@@ -11,7 +11,7 @@ use Rattle.expression.specs.Tree.{range, only, except, between, onward, Tree, s
 use Rattle.positions.specs.Opened.{anyOf, copies, nested, repeated, opened, labels}
 use Rattle.automaton.specs.Form.{encode}
 use Rattle.positions.specs.Compiled.{formOf}
-use Rattle.positions.specs.Letters.{labelsOf, lettersOf}
+use Rattle.expression.specs.Letters.{labelsOf, lettersOf}
 use Rattle.positions.specs.Numbered.{numbered, positionAutomaton, automatonOf}
 
 -- the labels of the letters, whether the empty word is accepted, which letters may be first, which last, and where the arcs of each lead

@@ -11,7 +11,9 @@ use borrow.Author.Tests.{eqb-true}
 use Rattle.lists.specs.Order.{not-both, and-left, and-right, or-either}
 use Rattle.automaton.specs.Automaton.{Walk}
 use Rattle.expression.specs.Tree.{Tree, set, group, times, join, either, Joined}
+use Rattle.expression.specs.Sense.{Sensible}
 use Rattle.positions.specs.Opened.{Opened, letter, joining, alternation, optional, star, plus, empty, never, OpenedWords, anyOf, labelsIn, opened, letters}
+use Rattle.positions.specs.Letters.{labels-counted}
 use Rattle.positions.specs.Numbered.{Positions, numbered, assembled, positionAutomaton, automatonOf}
 use Rattle.positions.specs.Equations.{Kept, repeated-kept}
 use Rattle.positions.specs.Inside.{Inside, goes-to}
@@ -121,14 +123,6 @@ pub last-exact : (n : ℕ) (r : Opened) → 1 ≤ n → Useful r → (i : ℕ) �
 last-exact n r l u i =
     (last-ends n r l u i, λ h. walk-ends n (n + letters r) (numbered n r) l (numbered-inside n r l) 0 i (h .0) (word-walks n r l (h .0 ++ (i ∷ [])) (h .1)))
 
--- each set of the tree has a label
-abbrev pub Labels : List ℕ → Tree → Type 0
-Labels A (set c) = 1 ≤ length (labelsIn A c)
-Labels A (group r) = Labels A r
-Labels A (times r c) = Labels A r
-Labels A (join r s) = Labels A r × Labels A s
-Labels A (either r s) = Labels A r × Labels A s
-
 abbrev Full : Opened → Type 0
 Full r = Useful r × Some r
 
@@ -146,18 +140,18 @@ full-kept = record {
   none = (tt, tt);
 }
 
-opened-full : (A : List ℕ) (t : Tree) → Labels A t → Full (opened A t)
+opened-full : (A : List ℕ) (t : Tree) → Sensible A t → Full (opened A t)
 unfolding opened
-opened-full A (set c) h = let x = any-of-full (labelsIn A c) in (x .0, x .1 h)
+opened-full A (set c) h = let x = any-of-full (labelsIn A c) in (x .0, x .1 (omega (arith, labels-counted 1 A c)))
 opened-full A (group r) h = opened-full A r h
-opened-full A (times r c) h = repeated-kept Full full-kept (opened A r) (opened-full A r h) c
+opened-full A (times r c) h = repeated-kept Full full-kept (opened A r) (opened-full A r (h .0)) c
 opened-full A (join r s) h = full-kept .joins (opened A r) (opened A s) (opened-full A r (h .0)) (opened-full A s (h .1))
 opened-full A (either r s) h = let x = opened-full A r (h .0) in let y = opened-full A s (h .1) in ((x .0, y .0), inl (x .1))
 
-pub tree-first : (A : List ℕ) (t : Tree) → Labels A t → (i : ℕ) → (automatonOf A t .follow 0 i ≡ true) ↔ Begun 1 (opened A t) i
+pub tree-first : (A : List ℕ) (t : Tree) → Sensible A t → (i : ℕ) → (automatonOf A t .follow 0 i ≡ true) ↔ Begun 1 (opened A t) i
 unfolding positionAutomaton
 tree-first A t h = first-exact 1 (opened A t) (omega arith) (opened-full A t h .0)
 
-pub tree-last : (A : List ℕ) (t : Tree) → Labels A t → (i : ℕ) → (automatonOf A t .ends (suc i) ≡ true) ↔ Ended 1 (opened A t) (suc i)
+pub tree-last : (A : List ℕ) (t : Tree) → Sensible A t → (i : ℕ) → (automatonOf A t .ends (suc i) ≡ true) ↔ Ended 1 (opened A t) (suc i)
 unfolding positionAutomaton
 tree-last A t h i = last-exact 1 (opened A t) (omega arith) (opened-full A t h .0) (suc i)

@@ -1,4 +1,4 @@
--- The number of letters that a tree opens into, by the tree (document 01, "Opening and the compiled form"). Assumes nothing.
+-- A tree opens into as many letters as it counts (document 01, "Opening and the compiled form"). Assumes nothing.
 use Prim.Native.Nat.{ℕ, zero, suc, _+_, _-_, _*_}
 use mathlib.Core.Path.{_≡_, refl, sym, ap, _∙_}
 use mathlib.Core.Bool.{cond}
@@ -9,28 +9,13 @@ use lib.ListN.{length, getD, length-append}
 use Rattle.lists.specs.Among.{keep, keep-same, keeping-length}
 use Rattle.lists.specs.Ascending.{numbers, numbers-among}
 use Rattle.expression.specs.Tree.{Set, Count, between, onward, Tree, set, group, times, join, either, member}
-use Rattle.positions.specs.Opened.{Opened, plus, labelsIn, anyOf, copies, nested, repeated, opened, labels, letters, InOrder, Ordered}
-
--- how many labels of the alphabet a set has
-unfoldable pub labelsOf : List ℕ → Set → ℕ
-labelsOf [] c = 0
-labelsOf (b ∷ A) c = cond (member c b) 1 0 + labelsOf A c
-
--- how often a count writes what it repeats
-abbrev pub copiesOf : Count → ℕ
-copiesOf (between n m) = m
-copiesOf (onward zero) = 1
-copiesOf (onward (suc n)) = suc n
-
-unfoldable pub lettersOf : List ℕ → Tree → ℕ
-lettersOf A (set c) = labelsOf A c
-lettersOf A (group r) = lettersOf A r
-lettersOf A (times r c) = copiesOf c * lettersOf A r
-lettersOf A (join r s) = lettersOf A r + lettersOf A s
-lettersOf A (either r s) = lettersOf A r + lettersOf A s
+use Rattle.expression.specs.Letters.{labelsOf, copiesOf, lettersOf}
+use Rattle.expression.specs.OwnCounts.{InRange}
+use Rattle.expression.specs.Sense.{Sensible}
+use Rattle.positions.specs.Opened.{Opened, plus, labelsIn, anyOf, copies, nested, repeated, opened, labels, letters}
 
 -- the labels of a set, where the first character is label y
-labels-counted : (y : ℕ) (A : List ℕ) (c : Set) → length (keep (λ x. member c (getD A (x - y) 0)) (numbers y (length A))) ≡ labelsOf A c
+pub labels-counted : (y : ℕ) (A : List ℕ) (c : Set) → length (keep (λ x. member c (getD A (x - y) 0)) (numbers y (length A))) ≡ labelsOf A c
 unfolding keep numbers labelsOf
 labels-counted y [] c = refl
 labels-counted y (b ∷ A) c =
@@ -58,7 +43,7 @@ unfolding nested labels
 nested-letters r zero = omega arith
 nested-letters r (suc k) = rw (length-append (labels r) (labels (nested r k))) (let h = nested-letters r k in omega arith)
 
-repeated-letters : (r : Opened) (c : Count) → InOrder c → letters (repeated r c) ≡ copiesOf c * letters r
+repeated-letters : (r : Opened) (c : Count) → InRange c → letters (repeated r c) ≡ copiesOf c * letters r
 unfolding repeated labels
 repeated-letters r (between n m) o =
     let e : n + (m - n) ≡ m = omega arith in
@@ -66,7 +51,7 @@ repeated-letters r (between n m) o =
 repeated-letters r (onward zero) o = omega arith
 repeated-letters r (onward (suc n)) o = let h = copies-letters r (plus r) n in omega arith
 
-pub opened-letters : (A : List ℕ) (t : Tree) → Ordered t → letters (opened A t) ≡ lettersOf A t
+pub opened-letters : (A : List ℕ) (t : Tree) → Sensible A t → letters (opened A t) ≡ lettersOf A t
 unfolding opened labels lettersOf
 opened-letters A (set c) o = ap length (any-of-labels (labelsIn A c)) ∙ labels-counted 1 A c
 opened-letters A (group r) o = opened-letters A r o

@@ -1,6 +1,6 @@
 -- An opened expression, its set of words, and how the tree of an expression opens (document 01, "Opening and the compiled form").
 -- Assumes nothing.
-use Prim.Native.Nat.{ℕ, zero, suc, _-_, _≤_}
+use Prim.Native.Nat.{ℕ, zero, suc, _-_}
 use mathlib.Core.Path.{_≡_}
 use mathlib.Core.Logic.{_⊎_}
 use mathlib.Core.List.{List, [], _∷_, _++_}
@@ -78,16 +78,3 @@ labels never = []
 -- how many letters
 abbrev pub letters : Opened → ℕ
 letters r = length (labels r)
-
--- a count's least is not above its most
-abbrev pub InOrder : Count → Type 0
-InOrder (between n m) = n ≤ m
-InOrder (onward n) = Unit {0}
-
--- each count of a tree is in order
-abbrev pub Ordered : Tree → Type 0
-Ordered (set c) = Unit {0}
-Ordered (group r) = Ordered r
-Ordered (times r c) = Ordered r × InOrder c
-Ordered (join r s) = Ordered r × Ordered s
-Ordered (either r s) = Ordered r × Ordered s

@@ -9,7 +9,9 @@ use lib.ListN.{length, getD}
 use Rattle.lists.specs.Among.{Among, among-keep, keep-among}
 use Rattle.lists.specs.Ascending.{numbers, among-numbers, numbers-among}
 use Rattle.expression.specs.Tree.{Set, Count, between, onward, Tree, set, group, times, join, either, member, Allows, Joined, Words}
-use Rattle.positions.specs.Opened.{Opened, plus, OpenedWords, labelsIn, anyOf, copies, nested, repeated, opened, InOrder, Ordered}
+use Rattle.expression.specs.OwnCounts.{InRange}
+use Rattle.expression.specs.Sense.{Sensible}
+use Rattle.positions.specs.Opened.{Opened, plus, OpenedWords, labelsIn, anyOf, copies, nested, repeated, opened}
 
 -- Sets.
 any-of-out : (l w : List ℕ) → OpenedWords (anyOf l) w → (x : ℕ) × Among x l × (w ≡ x ∷ [])
@@ -64,7 +66,7 @@ module _ (r : Opened) (P : List ℕ → Type 0) (out : (w : List ℕ) → Opened
   plus-out : (w : List ℕ) → OpenedWords (plus r) w → (j : ℕ) × (1 ≤ j) × Joined P j w
   plus-out w h = (suc (h .0), omega arith, joined-map (OpenedWords r) P out (suc (h .0)) w (h .1))
 
-  repeated-out : (c : Count) (w : List ℕ) → InOrder c → OpenedWords (repeated r c) w → (k : ℕ) × Allows c k × Joined P k w
+  repeated-out : (c : Count) (w : List ℕ) → InRange c → OpenedWords (repeated r c) w → (k : ℕ) × Allows c k × Joined P k w
   unfolding repeated
   repeated-out (between n m) w o h =
       let x = copies-out (nested r (m - n)) (λ j. j ≤ m - n) (nested-out (m - n)) n w h in
@@ -112,7 +114,7 @@ words-opened A (join r s) w h = (h .0, h .1, h .2, words-opened A r (h .0) (h .3
 words-opened A (either r s) w (inl h) = inl (words-opened A r w h)
 words-opened A (either r s) w (inr h) = inr (words-opened A s w h)
 
-opened-words : (A : List ℕ) (t : Tree) → Ordered t → (w : List ℕ) → OpenedWords (opened A t) w → Words A t w
+opened-words : (A : List ℕ) (t : Tree) → Sensible A t → (w : List ℕ) → OpenedWords (opened A t) w → Words A t w
 unfolding opened
 opened-words A (set c) o w h =
     let x = any-of-out (labelsIn A c) w h in let y = label-among A c (x .0) (x .1) in
@@ -123,5 +125,5 @@ opened-words A (join r s) o w h = (h .0, h .1, h .2, opened-words A r (o .0) (h 
 opened-words A (either r s) o w (inl h) = inl (opened-words A r (o .0) w h)
 opened-words A (either r s) o w (inr h) = inr (opened-words A s (o .1) w h)
 
-pub opening-keeps-words : (A : List ℕ) (t : Tree) → Ordered t → (w : List ℕ) → Words A t w ↔ OpenedWords (opened A t) w
+pub opening-keeps-words : (A : List ℕ) (t : Tree) → Sensible A t → (w : List ℕ) → Words A t w ↔ OpenedWords (opened A t) w
 opening-keeps-words A t o w = (words-opened A t w, opened-words A t o w)
