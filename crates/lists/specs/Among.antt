@@ -1,8 +1,8 @@
 -- Which elements a list has: as a fact, as a test, and after a map, a choice or a joining.
 -- Assumes nothing.
 use Prim.Native.Nat.{ℕ, zero, suc, _+_, _<_, _≤_}
-use mathlib.Core.Path.{_≡_, refl, sym, ap, subst, _∙_}
-use mathlib.Core.Bool.{Bool, true, false, _||_}
+use mathlib.Core.Path.{_≡_, refl, sym, ap, ap₂, subst, _∙_}
+use mathlib.Core.Bool.{Bool, true, false, cond, _||_}
 use mathlib.Core.Logic.{_⊎_, inl, inr}
 use mathlib.Core.List.{List, [], _∷_, _++_, map, flatMap}
 use native.Mathlib.Nat.{le-of-suc-le-suc, not-suc-le-zero}
@@ -86,6 +86,15 @@ module _ {A : Type 0} where
       by : Among a xs ⊎ Among a ys → ((a ≡ x) ⊎ Among a xs) ⊎ Among a ys
       by (inl l) = inl (inr l)
       by (inr r) = inr r
+
+  pub keep-same : (p q : A → Bool) (xs : List A) → ((x : A) → Among x xs → p x ≡ q x) → keep p xs ≡ keep q xs
+  unfolding keep
+  keep-same p q [] h = refl
+  keep-same p q (x ∷ xs) h = ap₂ (λ t ys. keeping t x ys) (h x (inl refl)) (keep-same p q xs (λ y m. h y (inr m)))
+
+  pub keeping-length : (t : Bool) (x : A) (xs : List A) → length (keeping t x xs) ≡ cond t 1 0 + length xs
+  keeping-length true x xs = omega arith
+  keeping-length false x xs = omega arith
 
   pub among-keep : (p : A → Bool) (a : A) (xs : List A) → Among a xs → p a ≡ true → Among a (keep p xs)
   unfolding keep

@@ -43,6 +43,12 @@ module _ {A : Type 0} where
   each-at P d (x ∷ xs) zero l h = h .0
   each-at P d (x ∷ xs) (suc i) l h = each-at P d xs i (le-of-suc-le-suc l) (h .1)
 
+  -- what holds past the end too holds anywhere
+  pub each-anywhere : (P : A → Type 0) (d : A) (xs : List A) (i : ℕ) → P d → Each P xs → P (getD xs i d)
+  each-anywhere P d [] i z h = z
+  each-anywhere P d (x ∷ xs) zero z h = h .0
+  each-anywhere P d (x ∷ xs) (suc i) z h = each-anywhere P d xs i z (h .1)
+
   -- the test tells the fact
   pub all-each : (p : A → Bool) (P : A → Type 0) → ((x : A) → p x ≡ true → P x) → (xs : List A) → all p xs ≡ true → Each P xs
   unfolding all

@@ -1,5 +1,6 @@
 pub mod Order
 pub mod Each
+pub mod Least
 pub mod Written
 pub mod Among
 pub mod Ascending

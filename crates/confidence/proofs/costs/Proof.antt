@@ -1,0 +1,41 @@
+-- `confidence::costs` meets its contract: the check, or the costs written. Assumes nothing.
+use mathlib.Core.Path.{_∙_}
+use mathlib.Core.List.{[], map}
+use lib.ListN.{length}
+use lib.Dec.{ltb}
+use borrow.Author.Needs.{needs}
+use borrow.Author.Tests.{lt-ltb, le-ltb}
+use denote.Ref.{now}
+use Rattle.refusal.specs.declared.Refusal.the-variants.{OutputMemory}
+use Rattle.refusal.specs.Verdict.{unless-none, unless-holds, unless-fails}
+use Rattle.refusal.specs.Report.{fills-refused, fills-wrote}
+use Rattle.confidence.specs.Cost.{cost-of, costs-call}
+use Rattle.confidence.proofs.costs.Statement.{statement}
+use Rattle.confidence.proofs.costs.Tie as tie
+
+returns : tie.Need-returns
+unfolding costs-call
+returns c =
+    let f = now (c .before .before .before .args .confidences) in
+    let m = now (c .before .before .before .args .costs) in
+    fills-refused (costs-call f (length m)) OutputMemory m
+    (unless-holds (map cost-of f) (ltb (length m) (length f)) OutputMemory [] (lt-ltb (length m) (length f) (c .if1 .taken)))
+
+write-costs-requires : tie.Need-write-costs-requires
+write-costs-requires c κs = search needs
+
+same-length : tie.Need-same-length
+same-length c = search needs
+
+returns-2 : tie.Need-returns-2
+unfolding costs-call
+returns-2 c =
+    let f = now (c .before .before .before .before .before .before .before .args .confidences) in
+    let m = now (c .before .before .before .before .before .before .before .args .costs) in
+    let wrote = c .before .before .write-costs in
+    fills-wrote (costs-call f (length m)) (map cost-of f) m (wrote .last .1 .0) (wrote .result)
+    (unless-fails (map cost-of f) (ltb (length m) (length f)) OutputMemory [] (le-ltb (length m) (length f) (c .before .before .before .before .if1 .left)) ∙ unless-none (map cost-of f))
+    (wrote .ensures)
+
+pub costs-spec : {M : Type 1} → statement M
+costs-spec = tie.close (tie.spec returns write-costs-requires same-length returns-2)

@@ -1,0 +1,40 @@
+-- The cost of a confidence byte (document 01, "Confidences and the sheet program"), and what the call on a list of them fills.
+-- Assumes nothing.
+use Prim.Native.Nat.{ℕ, zero, suc, _*_, _^_, _≤_}
+use mathlib.Core.Path.{_≡_, refl}
+use mathlib.Core.Bool.{Bool, true, false}
+use mathlib.Core.List.{List, [], _∷_, map}
+use lib.ListN.{length}
+use lib.Dec.{leb, ltb, eqb}
+use Rattle.refusal.specs.declared.Refusal.the-variants.{OutputMemory}
+use Rattle.refusal.specs.Verdict.{Verdict, check, unless}
+
+abbrev pub either : Bool → ℕ → ℕ → ℕ
+either true a b = a
+either false a b = b
+
+-- the largest number up to a bound that passes a test, or 0
+unfoldable pub largest : (ℕ → Bool) → ℕ → ℕ
+largest passes zero = 0
+largest passes (suc n) = either (passes (suc n)) (suc n) (largest passes n)
+
+-- 2ⁿ × p ≤ 2⁶⁴
+abbrev pub within : ℕ → ℕ → Bool
+within p n = leb (2 ^ n * p) (2 ^ 64)
+
+-- the largest such n
+unfoldable pub shift : ℕ → ℕ
+shift p = largest (within p) 64
+
+-- for a confidence c from 1 to 255 the largest whole n with 2ⁿ × c⁸ ≤ 2⁶⁴; for 0 it is 72
+unfoldable pub cost-of : ℕ → ℕ
+cost-of c = either (eqb c 0) 72 (shift (c ^ 8))
+
+-- what the call fills, with this much room for the costs
+unfoldable pub costs-call : List ℕ → ℕ → Verdict (List ℕ)
+costs-call confidences room = unless (check (ltb room (length confidences)) OutputMemory ∷ []) (map cost-of confidences)
+
+-- Document 01's examples.
+examples : map cost-of (255 ∷ 182 ∷ 181 ∷ 128 ∷ 1 ∷ 0 ∷ []) ≡ 0 ∷ 3 ∷ 4 ∷ 8 ∷ 64 ∷ 72 ∷ []
+unfolding cost-of shift largest
+examples = refl

@@ -1,0 +1,11 @@
+pub mod Graph
+pub mod Impossible
+pub mod CostToGo
+pub mod Extended
+pub mod Accepted
+pub mod Beginning
+pub mod Trace
+pub mod Outcome
+pub mod Cells
+pub mod Reached
+pub mod Table

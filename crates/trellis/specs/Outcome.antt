@@ -1,0 +1,78 @@
+-- What there is to read by an automaton, from the cost to go of its state 0: nothing where that is TOP, and else the best way.
+-- Assumes nothing.
+use Prim.Native.Nat.{ℕ, _+_, _≤_, _<_}
+use mathlib.Core.Path.{_≡_, refl, sym, subst}
+use mathlib.Core.Option.{some, none}
+use mathlib.Core.List.{List}
+use mathlib.Core.Logic.{_↔_, ⊎-elim}
+use native.Mathlib.Omega.{arith}
+use lib.ListN.{length}
+use Rattle.lists.specs.Order.{lt-or-le}
+use Rattle.lists.specs.Each.{Each}
+use Rattle.automaton.specs.Automaton.{Automaton, Accepts, Proper}
+use Rattle.reading.specs.Matrix.{Matrix, price, CostsPass}
+use Rattle.reading.specs.Reading.{Rival, Best, Outcome}
+use Rattle.trellis.specs.Graph.{Way}
+use Rattle.trellis.specs.Impossible.{TOP, path-below, below-path}
+use Rattle.trellis.specs.CostToGo.{CostToGo}
+use Rattle.trellis.specs.Trace.{WayFrom, BestFrom}
+use Rattle.trellis.specs.Extended.{extended, way-labels}
+use Rattle.trellis.specs.Accepted.{collapse-way}
+
+module _ {k : ℕ} {A : Automaton} (proper : Proper k A) (M : Matrix) (wide : M .width ≡ k + 1) (few : M .count ≤ 255) (pass : CostsPass M) where
+  -- A rival is a way from state 0, one label for each column, with a price below TOP.
+
+  pub rival-way : (p : List ℕ) → Rival (Accepts A) M p → Way (extended A) 0 p
+  rival-way p r = collapse-way proper p .0 (r .word)
+
+  pub rival-below : (p : List ℕ) → Rival (Accepts A) M p → price M p < TOP
+  rival-below p r = path-below M pass 0 p (let e = r .path .one-each in omega arith) (r .path .labels)
+
+  pub way-rival : (p : List ℕ) → length p ≡ M .count → Way (extended A) 0 p → price M p < TOP → Rival (Accepts A) M p
+  way-rival p l w b =
+      record {
+        path = record { one-each = l; labels = below-path M pass 0 p (subst (λ n. Each (λ x. x < n) p) (sym wide) (way-labels proper p w)) b };
+        word = collapse-way proper p .1 w;
+      }
+
+  module _ {v : ℕ} (togo : CostToGo (extended A) M 0 (M .count) 0 v) where
+    cheaper : (p : List ℕ) → Rival (Accepts A) M p → v ≤ price M p
+    cheaper p r = togo .least (price M p) (record { path = p; long = r .path .one-each; way = rival-way p r; paid = refl })
+
+    met : v < TOP → (p : List ℕ) × Rival (Accepts A) M p × (price M p ≡ v)
+    met b =
+        let w = togo .met b in
+        let e = w .paid in
+        (w .path, way-rival (w .path) (w .long) (w .way) (omega arith), w .paid)
+
+    -- nothing to read
+    pub outcome-none : (v ≡ TOP) ↔ Outcome (Accepts A) M none
+    outcome-none = (
+      λ e p r. let l = cheaper p r in let b = rival-below p r in omega arith,
+      λ f. ⊎-elim (λ b. let m = met b in absurd (f (m .0) (m .1))) (λ h. let w = togo .within in omega arith) (lt-or-le v TOP),
+    )
+
+    -- the best has the price v
+    pub outcome-price : (p : List ℕ) → Best (Accepts A) M p → price M p ≡ v
+    outcome-price p b =
+        let low = cheaper p (b .qualifies) in
+        let below = rival-below p (b .qualifies) in
+        let m = met (omega arith) in
+        let e = m .2 in
+        let high = b .least (m .0) (m .1) in
+        omega arith
+
+    -- the best way is the best rival
+    pub outcome-best : v < TOP → (p : List ℕ) → BestFrom (extended A) M 0 (M .count) (λ s. s ≡ 0) p → Outcome (Accepts A) M (some p)
+    outcome-best below p b =
+        record {
+          qualifies = way-rival p (b .qualifies .long) (subst (λ s. Way (extended A) s p) (b .qualifies .member) (b .qualifies .way)) cheap;
+          least = λ a r. b .least a (from a r);
+          first = λ a r e. b .first a (from a r) e;
+        }
+      where
+        from : (a : List ℕ) → Rival (Accepts A) M a → WayFrom (extended A) (M .count) (λ s. s ≡ 0) a
+        from a r = record { long = r .path .one-each; from = 0; member = refl; way = rival-way a r }
+
+        cheap : price M p < TOP
+        cheap = let m = met below in let e = m .2 in let l = b .least (m .0) (from (m .0) (m .1)) in omega arith
