@@ -1,0 +1,66 @@
+// The table of costs to go of Decode, filled backward, row by row (document 01, "Extended states and decoding").
+use form::{label, letters, target};
+ghost use mathlib.Core.Path.{_≡_};
+ghost use Prim.Native.Nat.{ℕ, _+_, _*_, _-_, _<_, _≤_, min};
+ghost use lib.ListN.{length, getD};
+ghost use Rattle.automaton.specs.Form.{lettersOf, labelOf, view};
+ghost use Rattle.automaton.specs.Valid.{Valid};
+ghost use Rattle.trellis.specs.Impossible.{TOP as top, plus as plusOf};
+ghost use Rattle.table.specs.Starts.{Begins};
+ghost use Rattle.table.specs.Offers.{Candidates, Offers as OffersOf, unless};
+
+// The mark for the impossible: no path of usable costs reaches this price.
+const TOP: u32 = 1000000000;
+
+// The least prices that a letter's arcs offer: along all arcs, and along those to another label.
+pub struct Offers {
+    pub all: u32,
+    pub other: u32,
+}
+
+fn least(a: u32, b: u32) -> u32
+    ensures { λ r. ⌜ r ≡ min a b ⌝ }
+{
+    if b < a {
+        return b;
+    }
+    a
+}
+
+// A cost, and a price behind it; a sum that stops at TOP.
+fn plus(c: u32, v: u32) -> u32
+    requires { ⌜ v ≤ top ⌝ }
+    ensures { λ r. ⌜ r ≡ plusOf c v ⌝ }
+{
+    least(TOP, least(c, TOP) + v)
+}
+
+// v, or TOP if letter j has the barred label.
+fn unless_barred(form: &[u32], j: usize, barred: usize, v: u32) -> u32
+    requires { ⌜ j < length (now form) ⌝ }
+    ensures { λ r. ⌜ r ≡ unless (labelOf (now (form .entry)) j) barred v ⌝ }
+{
+    if label(form, j) == barred {
+        return TOP;
+    }
+    v
+}
+
+// What the arcs of letter i offer, which stand from b up to e.
+fn along_arcs(form: &[u32], candidates: &[u32], i: usize, b: usize, e: usize) -> Offers
+    requires { ⌜ Valid (now form) × Candidates (now candidates) × (1 ≤ i) × (i ≤ lettersOf (now form)) × Begins (now form) i b × Begins (now form) (i + 1) e ⌝ }
+    ensures { λ r. ⌜ OffersOf (now (form .entry)) (now (candidates .entry)) i (r .all) (r .other) ⌝ }
+{
+    let own = label(form, i);
+    let mut all = TOP;
+    let mut other = TOP;
+    let mut k = b;
+    while k < e {
+        let j = target(form, k);
+        let v = candidates[j];
+        all = least(all, v);
+        other = least(other, unless_barred(form, j, own, v));
+        k += 1;
+    }
+    Offers { all, other }
+}
