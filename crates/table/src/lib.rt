@@ -8,6 +8,7 @@ ghost use Rattle.automaton.specs.Valid.{Valid};
 ghost use Rattle.trellis.specs.Impossible.{TOP as top, plus as plusOf};
 ghost use Rattle.table.specs.Starts.{Begins};
 ghost use Rattle.table.specs.Offers.{Candidates, Offers as OffersOf, unless};
+ghost use Rattle.table.specs.Column.{Ahead, onward, CandidatesOf};
 
 // The mark for the impossible: no path of usable costs reaches this price.
 const TOP: u32 = 1000000000;
@@ -63,4 +64,27 @@ fn along_arcs(form: &[u32], candidates: &[u32], i: usize, b: usize, e: usize) ->
         k += 1;
     }
     Offers { all, other }
+}
+
+// The candidate of letter j: the cost of its label in the column at `at`, and what there is to pay behind it by the row at `next`.
+fn candidate(form: &[u32], costs: &[u32], at: usize, work: &[u32], next: usize, j: usize) -> u32
+    requires { ⌜ Valid (now form) × Ahead (now form) (now costs) at (now work) next × (1 ≤ j) × (j ≤ lettersOf (now form)) ⌝ }
+    ensures { λ r. ⌜ r ≡ onward (now (form .entry)) (now (costs .entry)) at (now (work .entry)) next j ⌝ }
+{
+    plus(costs[at + label(form, j)], work[next + (2 * j - 1)])
+}
+
+// The candidates of all letters.
+fn candidates(form: &[u32], costs: &[u32], at: usize, work: &[u32], next: usize) -> [u32; 128]
+    requires { ⌜ Valid (now form) × Ahead (now form) (now costs) at (now work) next ⌝ }
+    ensures { λ r. ⌜ CandidatesOf (now (form .entry)) (now (costs .entry)) at (now (work .entry)) next r ⌝ }
+{
+    let l = letters(form);
+    let mut c = [0; 128];
+    let mut j = 1;
+    while j <= l {
+        c[j] = candidate(form, costs, at, work, next, j);
+        j += 1;
+    }
+    c
 }
