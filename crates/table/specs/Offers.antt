@@ -9,10 +9,10 @@ use native.Mathlib.Omega.{arith}
 use lib.ListN.{length, getD}
 use lib.Dec.{eqb}
 use borrow.Author.Tests.{eqb-true, eqb-false}
-use Rattle.lists.specs.Order.{lt-or-le}
+use Rattle.lists.specs.Order.{lt-or-le, not-both}
 use Rattle.lists.specs.Least.{Least, Among, least-none, least-one, least-start, least-same, least-more}
-use Rattle.automaton.specs.Form.{lettersOf, labelOf, followOf, source, target, view}
-use Rattle.automaton.specs.Valid.{Valid, follow-arc, arc-follow}
+use Rattle.automaton.specs.Form.{lettersOf, labelOf, followOf, target, validForm, view}
+use Rattle.automaton.specs.Valid.{Valid, valid-at, view-proper, follow-arc, arc-follow}
 use Rattle.trellis.specs.Impossible.{TOP}
 use Rattle.trellis.specs.Cells.{ByArc}
 use Rattle.table.specs.Starts.{Begins, range-source, source-range}
@@ -138,3 +138,38 @@ module _ {f : List ℕ} (cs : List ℕ) {i b e : ℕ} (valid : Valid f) (first :
 
         arcs : (barred : ℕ) {v : ℕ} → LeastAlong f cs b barred e v → Least TOP (ByArc (view f) (candidate cs) i barred) v
         arcs barred l = least-same (ByArc (view f) (candidate cs) i barred) (to barred) (from barred) l
+
+-- what letter j offers to state 0, if it may be first
+abbrev pub ToFirst : (f cs : List ℕ) (j n : ℕ) → Type 0
+ToFirst f cs j n = (followOf f 0 j ≡ true) × (n ≡ candidate cs j)
+
+-- v, or TOP if the letter may not be first
+abbrev pub provided : Bool → ℕ → ℕ
+provided first v = cond first v TOP
+
+module _ (f cs : List ℕ) (good : Candidates cs) where
+  pub first-start : Least TOP (Among 1 1 (ToFirst f cs)) TOP
+  first-start = least-start 1 (ToFirst f cs)
+
+  pub first-more :
+      {j v : ℕ} → 1 ≤ j → Least TOP (Among 1 j (ToFirst f cs)) v → Least TOP (Among 1 (j + 1) (ToFirst f cs)) (min v (provided (followOf f 0 j) (candidate cs j)))
+  first-more {j} low l = least-more 1 (ToFirst f cs) low l (by (followOf f 0 j) refl)
+    where
+      by : (t : Bool) → followOf f 0 j ≡ t → Least TOP (ToFirst f cs j) (provided t (candidate cs j))
+      by true e = least-same (ToFirst f cs j) (λ n q. (e, q)) (λ n o. o .1) (least-one (candidate cs j) (good .top j))
+      by false e = least-none (ToFirst f cs j) (λ n o. not-both (followOf f 0 j) (o .0) e)
+
+  pub first-end :
+      {v : ℕ} → validForm f ≡ true → Least TOP (Among 1 (lettersOf f + 1) (ToFirst f cs)) v → Least TOP (ByArc (view f) (candidate cs) 0 0) v
+  first-end valid l = least-same (ByArc (view f) (candidate cs) 0 0) to from l
+    where
+      to : (n : ℕ) → Among 1 (lettersOf f + 1) (ToFirst f cs) n → ByArc (view f) (candidate cs) 0 0 n
+      to n o =
+          let h = o .2 in
+          let low = valid-at f valid .letter (o .0) (o .1) (omega arith) .low in
+          (o .0, o .3 .0, λ z. omega arith, o .3 .1)
+
+      from : (n : ℕ) → ByArc (view f) (candidate cs) 0 0 n → Among 1 (lettersOf f + 1) (ToFirst f cs) n
+      from n o =
+          let b = view-proper f valid .target 0 (o .0) (o .1) in
+          (o .0, b .0, (let h = b .1 in omega arith), (o .1, o .3))

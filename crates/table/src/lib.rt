@@ -1,13 +1,16 @@
 // The table of costs to go of Decode, filled backward, row by row (document 01, "Extended states and decoding").
-use form::{label, letters, target};
+use form::{label, letters, may_be_first, target};
 ghost use mathlib.Core.Path.{_≡_};
 ghost use Prim.Native.Nat.{ℕ, _+_, _*_, _-_, _<_, _≤_, min};
 ghost use lib.ListN.{length, getD};
-ghost use Rattle.automaton.specs.Form.{lettersOf, labelOf, view};
+ghost use mathlib.Core.Bool.{true};
+ghost use Rattle.lists.specs.Least.{Least};
+ghost use Rattle.automaton.specs.Form.{validForm, lettersOf, labelOf, followOf, view};
 ghost use Rattle.automaton.specs.Valid.{Valid};
 ghost use Rattle.trellis.specs.Impossible.{TOP as top, plus as plusOf};
+ghost use Rattle.trellis.specs.Cells.{ByArc};
 ghost use Rattle.table.specs.Starts.{Begins};
-ghost use Rattle.table.specs.Offers.{Candidates, Offers as OffersOf, unless};
+ghost use Rattle.table.specs.Offers.{Candidates, Offers as OffersOf, candidate as candidateOf, unless, provided};
 ghost use Rattle.table.specs.Column.{Ahead, onward, CandidatesOf};
 
 // The mark for the impossible: no path of usable costs reaches this price.
@@ -87,4 +90,30 @@ fn candidates(form: &[u32], costs: &[u32], at: usize, work: &[u32], next: usize)
         j += 1;
     }
     c
+}
+
+// v, or TOP if letter j may not be first.
+fn if_first(form: &[u32], j: usize, v: u32) -> u32
+    requires { ⌜ Valid (now form) × (1 ≤ j) × (j ≤ lettersOf (now form)) ⌝ }
+    ensures { λ r. ⌜ r ≡ provided (followOf (now (form .entry)) 0 j) v ⌝ }
+{
+    if may_be_first(form, j) {
+        return v;
+    }
+    TOP
+}
+
+// What the letters that may be first offer to state 0.
+fn to_first(form: &[u32], candidates: &[u32]) -> u32
+    requires { ⌜ (validForm (now form) ≡ true) × Candidates (now candidates) ⌝ }
+    ensures { λ r. ⌜ Least top (ByArc (view (now (form .entry))) (candidateOf (now (candidates .entry))) 0 0) r ⌝ }
+{
+    let l = letters(form);
+    let mut v = TOP;
+    let mut j = 1;
+    while j <= l {
+        v = least(v, if_first(form, j, candidates[j]));
+        j += 1;
+    }
+    v
 }
