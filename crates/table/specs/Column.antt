@@ -8,15 +8,14 @@ use native.Mathlib.Omega.{arith}
 use lib.ListN.{length, getD, set, replicate, length-set, length-replicate}
 use lib.Seq.{getD-set-same, getD-set-other}
 use Rattle.lists.specs.Order.{eq-or-ne}
-use Rattle.automaton.specs.Form.{lettersOf, alphabetOf, labelOf}
+use Rattle.automaton.specs.Form.{lettersOf, labelOf}
 use Rattle.trellis.specs.Impossible.{TOP, plus}
 use Rattle.table.specs.Offers.{Candidates, candidate}
 
--- the costs of a column stand at `at`, and the row of the next column stands at `next`
-pub record Ahead (f costs : List ℕ) (at : ℕ) (work : List ℕ) (next : ℕ) : Type 0 where
-  pub column : at + alphabetOf f < length costs
-  pub room : next + 2 * lettersOf f < length work
-  pub top : (s : ℕ) → s ≤ 2 * lettersOf f → getD work (next + s) 0 ≤ TOP
+-- a row stands at `base`, with a number for each state that is at most TOP
+pub record Bounded (f work : List ℕ) (base : ℕ) : Type 0 where
+  pub room : base + 2 * lettersOf f < length work
+  pub top : (s : ℕ) → s ≤ 2 * lettersOf f → getD work (base + s) 0 ≤ TOP
 
 -- the cost of letter j, and what there is to pay behind it
 abbrev pub onward : (f costs : List ℕ) (at : ℕ) (work : List ℕ) (next j : ℕ) → ℕ

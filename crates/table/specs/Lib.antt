@@ -1,3 +1,4 @@
 pub mod Starts
 pub mod Offers
 pub mod Column
+pub mod Letters

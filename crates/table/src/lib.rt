@@ -5,13 +5,14 @@ ghost use Prim.Native.Nat.{ℕ, _+_, _*_, _-_, _<_, _≤_, min};
 ghost use lib.ListN.{length, getD};
 ghost use mathlib.Core.Bool.{true};
 ghost use Rattle.lists.specs.Least.{Least};
-ghost use Rattle.automaton.specs.Form.{validForm, lettersOf, labelOf, followOf, view};
+ghost use Rattle.automaton.specs.Form.{validForm, lettersOf, alphabetOf, labelOf, followOf, view};
 ghost use Rattle.automaton.specs.Valid.{Valid};
 ghost use Rattle.trellis.specs.Impossible.{TOP as top, plus as plusOf};
 ghost use Rattle.trellis.specs.Cells.{ByArc};
-ghost use Rattle.table.specs.Starts.{Begins};
+ghost use Rattle.table.specs.Starts.{Begins, ArcStarts};
 ghost use Rattle.table.specs.Offers.{Candidates, Offers as OffersOf, candidate as candidateOf, unless, provided};
-ghost use Rattle.table.specs.Column.{Ahead, onward, CandidatesOf};
+ghost use Rattle.table.specs.Column.{Bounded, onward, CandidatesOf};
+ghost use Rattle.table.specs.Letters.{LetterFilled, LettersFilled};
 
 // The mark for the impossible: no path of usable costs reaches this price.
 const TOP: u32 = 1000000000;
@@ -71,7 +72,7 @@ fn along_arcs(form: &[u32], candidates: &[u32], i: usize, b: usize, e: usize) ->
 
 // The candidate of letter j: the cost of its label in the column at `at`, and what there is to pay behind it by the row at `next`.
 fn candidate(form: &[u32], costs: &[u32], at: usize, work: &[u32], next: usize, j: usize) -> u32
-    requires { ⌜ Valid (now form) × Ahead (now form) (now costs) at (now work) next × (1 ≤ j) × (j ≤ lettersOf (now form)) ⌝ }
+    requires { ⌜ Valid (now form) × (at + alphabetOf (now form) < length (now costs)) × Bounded (now form) (now work) next × (1 ≤ j) × (j ≤ lettersOf (now form)) ⌝ }
     ensures { λ r. ⌜ r ≡ onward (now (form .entry)) (now (costs .entry)) at (now (work .entry)) next j ⌝ }
 {
     plus(costs[at + label(form, j)], work[next + (2 * j - 1)])
@@ -79,7 +80,7 @@ fn candidate(form: &[u32], costs: &[u32], at: usize, work: &[u32], next: usize, 
 
 // The candidates of all letters.
 fn candidates(form: &[u32], costs: &[u32], at: usize, work: &[u32], next: usize) -> [u32; 128]
-    requires { ⌜ Valid (now form) × Ahead (now form) (now costs) at (now work) next ⌝ }
+    requires { ⌜ Valid (now form) × (at + alphabetOf (now form) < length (now costs)) × Bounded (now form) (now work) next ⌝ }
     ensures { λ r. ⌜ CandidatesOf (now (form .entry)) (now (costs .entry)) at (now (work .entry)) next r ⌝ }
 {
     let l = letters(form);
@@ -116,4 +117,28 @@ fn to_first(form: &[u32], candidates: &[u32]) -> u32
         j += 1;
     }
     v
+}
+
+// Writes the two states of letter i into the row at `here`, by the row at `next`.
+fn fill_letter(form: &[u32], begins: &[usize], candidates: &[u32], blank: u32, work: &mut [u32], here: usize, next: usize, i: usize)
+    requires { ⌜ Valid (now form) × ArcStarts (now form) (now begins) × Candidates (now candidates) × (here + 2 * lettersOf (now form) < next) × Bounded (now form) (now work) next × (1 ≤ i) × (i ≤ lettersOf (now form)) ⌝ }
+    ensures { λ _. ⌜ LetterFilled (now (form .entry)) (now (candidates .entry)) blank (now (work .entry)) (now (work .exit)) here next i ⌝ }
+{
+    let rest = plus(blank, work[next + 2 * i]);
+    let offers = along_arcs(form, candidates, i, begins[i], begins[i + 1]);
+    work[here + (2 * i - 1)] = least(least(candidates[i], rest), offers.other);
+    work[here + 2 * i] = least(rest, offers.all);
+}
+
+// Writes the states of all letters into the row at `here`, by the row at `next`.
+fn fill_letters(form: &[u32], begins: &[usize], candidates: &[u32], blank: u32, work: &mut [u32], here: usize, next: usize)
+    requires { ⌜ Valid (now form) × ArcStarts (now form) (now begins) × Candidates (now candidates) × (here + 2 * lettersOf (now form) < next) × Bounded (now form) (now work) next ⌝ }
+    ensures { λ _. ⌜ LettersFilled (now (form .entry)) (now (candidates .entry)) blank (now (work .entry)) (now (work .exit)) here next (lettersOf (now (form .entry)) + 1) ⌝ }
+{
+    let l = letters(form);
+    let mut i = 1;
+    while i <= l {
+        fill_letter(form, begins, candidates, blank, work, here, next, i);
+        i += 1;
+    }
 }

@@ -21,9 +21,8 @@ mul-plus c = search needs
 shared-slice-read-plus : tie.Need-shared-slice-read-plus
 shared-slice-read-plus c =
     let p = c .before .before .before .before .before .pre in
-    let x = p .0 .letter (c .before .before .before .before .before .args .j) (p .2) (p .3) .high in
+    let x = p .0 .letter (c .before .before .before .before .before .args .j) (p .3) (p .4) .high in
     let e = c .before .label .ensures in
-    let h = p .1 .column in
     omega arith
 
 mul-plus-2 : tie.Need-mul-plus-2
@@ -42,7 +41,7 @@ shared-slice-read-plus-2 : tie.Need-shared-slice-read-plus-2
 shared-slice-read-plus-2 c = search needs
 
 plus-requires : tie.Need-plus-requires
-plus-requires c κs = let p = c .before .before .before .before .before .before .pre in p .1 .top (2 * c .before .before .before .before .before .before .args .j - 1) (omega arith)
+plus-requires c κs = let p = c .before .before .before .before .before .before .pre in p .2 .top (2 * c .before .before .before .before .before .before .args .j - 1) (omega arith)
 
 returns : tie.Need-returns
 returns c =

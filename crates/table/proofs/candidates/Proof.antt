@@ -23,7 +23,7 @@ loop-holds c =
     (omega arith, omega arith, candidates-none (now (a .form)) (now (a .costs)) (a .at) (now (a .work)) (a .next))
 
 candidate-requires : tie.Need-candidate-requires Inv-loop μ-loop
-candidate-requires c κs = let p = c .before .before .before .before .before .before .pre in (p .0, p .1, c .before .loop .inv .0, omega (arith, c .before .before .letters .ensures, c .loop-test .taken))
+candidate-requires c κs = let p = c .before .before .before .before .before .before .pre in (p .0, p .1, p .2, c .before .loop .inv .0, omega (arith, c .before .before .letters .ensures, c .loop-test .taken))
 
 mul-c : tie.Need-mul-c Inv-loop μ-loop
 mul-c c = let few = c .before .before .before .before .before .before .before .pre .0 .head .letters-high in omega (arith, c .before .before .before .letters .ensures, c .before .loop-test .taken)
