@@ -13,6 +13,7 @@ ghost use Rattle.table.specs.Starts.{Begins, ArcStarts};
 ghost use Rattle.table.specs.Offers.{Candidates, Offers as OffersOf, candidate as candidateOf, unless, provided};
 ghost use Rattle.table.specs.Column.{Bounded, onward, CandidatesOf};
 ghost use Rattle.table.specs.Letters.{LetterFilled, LettersFilled};
+ghost use Rattle.table.specs.Rows.{RowFilled};
 
 // The mark for the impossible: no path of usable costs reaches this price.
 const TOP: u32 = 1000000000;
@@ -141,4 +142,16 @@ fn fill_letters(form: &[u32], begins: &[usize], candidates: &[u32], blank: u32, 
         fill_letter(form, begins, candidates, blank, work, here, next, i);
         i += 1;
     }
+}
+
+// Writes the row at `here` for the column of costs at `at`, by the row of the next column at `next`.
+fn fill_row(form: &[u32], begins: &[usize], costs: &[u32], at: usize, work: &mut [u32], here: usize, next: usize)
+    requires { ⌜ (validForm (now form) ≡ true) × ArcStarts (now form) (now begins) × (at + alphabetOf (now form) < length (now costs)) × (here + 2 * lettersOf (now form) < next) × Bounded (now form) (now work) next ⌝ }
+    ensures { λ _. ⌜ RowFilled (now (form .entry)) (now (costs .entry)) at (now (work .entry)) (now (work .exit)) here next ⌝ }
+{
+    let blank = costs[at];
+    let c = candidates(form, costs, at, work, next);
+    let none = least(plus(blank, work[next]), to_first(form, &c));
+    fill_letters(form, begins, &c, blank, work, here, next);
+    work[here] = none;
 }
