@@ -12,16 +12,24 @@ use Rattle.lists.specs.Order.{eq-or-ne}
 use Rattle.lists.specs.Least.{Least}
 use Rattle.lists.specs.Outside.{Outside, outside-none, outside-set, outside-then, outside-wider}
 use Rattle.reading.specs.Matrix.{Matrix, cost}
-use Rattle.automaton.specs.Form.{lettersOf, labelOf, validForm, view}
+use Rattle.automaton.specs.Form.{lettersOf, labelOf, endsOf, validForm, view}
 use Rattle.automaton.specs.Valid.{view-proper}
 use Rattle.trellis.specs.Impossible.{TOP, plus}
 use Rattle.trellis.specs.CostToGo.{CostToGo}
-use Rattle.trellis.specs.Extended.{extended}
-use Rattle.trellis.specs.Cells.{ByArc, blanks-cell, letter-cell}
+use Rattle.trellis.specs.Extended.{extended, AtLetter}
+use Rattle.trellis.specs.Cells.{ByArc, ending, last-cell, blanks-cell, letter-cell}
 use Rattle.trellis.specs.Table.{Row}
 use Rattle.table.specs.Offers.{candidate}
 use Rattle.table.specs.Column.{CandidatesOf, onward}
 use Rattle.table.specs.Letters.{LettersFilled, CellsAt}
+
+-- the letter that a state is on or behind
+at-letter : (s : ℕ) → AtLetter ((s + 1) / 2) s
+at-letter s = by (eq-or-ne s (2 * ((s + 1) / 2)))
+  where
+    by : (s ≡ 2 * ((s + 1) / 2)) ⊎ (s ≡ 2 * ((s + 1) / 2) → ⊥) → AtLetter ((s + 1) / 2) s
+    by (inl e) = inr e
+    by (inr d) = inl (omega arith)
 
 -- the costs of column t stand at `at`
 abbrev pub ColumnAt : Matrix → ℕ → List ℕ → ℕ → Type 0
@@ -59,26 +67,21 @@ module _ {f : List ℕ} (valid : validForm f ≡ true) (costs : List ℕ) (at : 
 
   module _ (after : List ℕ) (here m : ℕ) (cells : (i : ℕ) → 1 ≤ i → i < lettersOf f + 1 → CellsAt f cs (getD costs at 0) before after here next i)
       (first : Least TOP (ByArc (view f) (candidate cs) 0 0) m) (zero-is : getD after (here + 0) 0 ≡ min (rest 0) m) where
-    -- state s is in the blanks after letter i, or on it
-    at-state : (s i : ℕ) → s ≤ 2 * lettersOf f → (s ≡ 2 * i) ⊎ (s + 1 ≡ 2 * i) → CostToGo (extended (view f)) M t (n + 1) s (getD after (here + s) 0)
-    at-state s i h (inl e) = by (eq-or-ne i 0)
+    at-state : (s i : ℕ) → s ≤ 2 * lettersOf f → AtLetter i s → CostToGo (extended (view f)) M t (n + 1) s (getD after (here + s) 0)
+    at-state s i h (inr e) = by (eq-or-ne i 0)
       where
         by : (i ≡ 0) ⊎ (i ≡ 0 → ⊥) → CostToGo (extended (view f)) M t (n + 1) s (getD after (here + s) 0)
         by (inl z) = let q : s ≡ 0 = omega arith in rw q (in-blanks 0 m (getD after (here + 0) 0) (omega arith) first zero-is)
         by (inr z) =
             let c = cells i (omega arith) (omega arith) in
             rw e (in-blanks i (c .all) (getD after (here + 2 * i) 0) (omega arith) (c .offers .along-all) (c .blanks-is))
-    at-state s i h (inr e) =
+    at-state s i h (inl e) =
         let c = cells i (omega arith) (omega arith) in
         let q : s ≡ 2 * i - 1 = omega arith in
         rw q (on-letter i (c .other) (getD after (here + (2 * i - 1)) 0) (omega arith) (omega arith) (c .offers .along-other) (c .on-is))
 
     states-filled : Row (view f) M after here t (n + 1)
-    states-filled s h = at-state s ((s + 1) / 2) h (by (eq-or-ne s (2 * ((s + 1) / 2))))
-      where
-        by : (s ≡ 2 * ((s + 1) / 2)) ⊎ (s ≡ 2 * ((s + 1) / 2) → ⊥) → (s ≡ 2 * ((s + 1) / 2)) ⊎ (s + 1 ≡ 2 * ((s + 1) / 2))
-        by (inl e) = inl e
-        by (inr d) = inr (omega arith)
+    states-filled s h = at-state s ((s + 1) / 2) h (at-letter s)
 
 -- the states of the letters are written, and then state 0
 module _ {f : List ℕ} (valid : validForm f ≡ true) (costs : List ℕ) (at : ℕ) (before : List ℕ) (here next : ℕ) (cs : List ℕ) (given : CandidatesOf f costs at before next cs)
@@ -105,3 +108,33 @@ module _ {f : List ℕ} (valid : validForm f ≡ true) (costs : List ℕ) (at : 
           let p : here + 0 ≡ here = omega arith in
           let q : next ≡ next + 2 * 0 = omega arith in
           ap (λ k. getD (set work here v) k 0) p ∙ getD-set-same work here v 0 room ∙ e ∙ ap (λ k. min (plus (getD costs at 0) (getD before k 0)) m) q
+
+-- the last row, at `base`: what there is to pay where no column is left
+pub record LastFilled (f before after : List ℕ) (base : ℕ) : Type 0 where
+  pub row : (M : Matrix) (t : ℕ) → Row (view f) M after base t 0
+  pub outside : Outside base (base + (2 * lettersOf f + 1)) before after
+
+-- its states below n
+pub record LastBelow (f before after : List ℕ) (base n : ℕ) : Type 0 where
+  pub cells : (s : ℕ) → s < n → getD after (base + s) 0 ≡ ending (endsOf f ((s + 1) / 2))
+  pub outside : Outside base (base + (2 * lettersOf f + 1)) before after
+
+module _ (f before : List ℕ) (base : ℕ) where
+  pub last-none : LastBelow f before before base 0
+  last-none = record { cells = λ s h. absurd (omega arith); outside = outside-none base (base + (2 * lettersOf f + 1)) before }
+
+  pub last-more :
+      (work : List ℕ) (n v : ℕ) → n ≤ 2 * lettersOf f → base + n < length work → LastBelow f before work base n → v ≡ ending (endsOf f ((n + 1) / 2))
+      → LastBelow f before (set work (base + n) v) base (n + 1)
+  last-more work n v high room l e =
+      record {
+        cells = λ s h. by s h (eq-or-ne s n);
+        outside = outside-then (l .outside) (outside-set base (base + (2 * lettersOf f + 1)) work (base + n) v (omega arith) (omega arith));
+      }
+    where
+      by : (s : ℕ) → s < n + 1 → (s ≡ n) ⊎ (s ≡ n → ⊥) → getD (set work (base + n) v) (base + s) 0 ≡ ending (endsOf f ((s + 1) / 2))
+      by s h (inl q) = rw q (getD-set-same work (base + n) v 0 room ∙ e)
+      by s h (inr d) = getD-set-other work (base + n) (base + s) v 0 (λ z. d (omega arith)) ∙ l .cells s (omega arith)
+
+  pub last-filled : (after : List ℕ) → LastBelow f before after base (2 * lettersOf f + 1) → LastFilled f before after base
+  last-filled after l = record { row = λ M t s h. rw (l .cells s (omega arith)) (last-cell (view f) M t ((s + 1) / 2) s (at-letter s)); outside = l .outside }

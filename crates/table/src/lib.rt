@@ -1,19 +1,19 @@
 // The table of costs to go of Decode, filled backward, row by row (document 01, "Extended states and decoding").
-use form::{label, letters, may_be_first, target};
+use form::{label, letters, may_be_first, may_end, target};
 ghost use mathlib.Core.Path.{_≡_};
-ghost use Prim.Native.Nat.{ℕ, _+_, _*_, _-_, _<_, _≤_, min};
+ghost use Prim.Native.Nat.{ℕ, _+_, _*_, _/_, _<_, _≤_, min};
 ghost use lib.ListN.{length, getD};
 ghost use mathlib.Core.Bool.{true};
 ghost use Rattle.lists.specs.Least.{Least};
-ghost use Rattle.automaton.specs.Form.{validForm, lettersOf, alphabetOf, labelOf, followOf, view};
+ghost use Rattle.automaton.specs.Form.{validForm, lettersOf, alphabetOf, labelOf, followOf, endsOf, view};
 ghost use Rattle.automaton.specs.Valid.{Valid};
 ghost use Rattle.trellis.specs.Impossible.{TOP as top, plus as plusOf};
-ghost use Rattle.trellis.specs.Cells.{ByArc};
+ghost use Rattle.trellis.specs.Cells.{ByArc, ending};
 ghost use Rattle.table.specs.Starts.{Begins, ArcStarts};
 ghost use Rattle.table.specs.Offers.{Candidates, Offers as OffersOf, candidate as candidateOf, unless, provided};
 ghost use Rattle.table.specs.Column.{Bounded, onward, CandidatesOf};
 ghost use Rattle.table.specs.Letters.{LetterFilled, LettersFilled};
-ghost use Rattle.table.specs.Rows.{RowFilled};
+ghost use Rattle.table.specs.Rows.{RowFilled, LastFilled};
 
 // The mark for the impossible: no path of usable costs reaches this price.
 const TOP: u32 = 1000000000;
@@ -154,4 +154,28 @@ fn fill_row(form: &[u32], begins: &[usize], costs: &[u32], at: usize, work: &mut
     let none = least(plus(blank, work[next]), to_first(form, &c));
     fill_letters(form, begins, &c, blank, work, here, next);
     work[here] = none;
+}
+
+// What there is to pay in state s where no column is left.
+fn last_cost(form: &[u32], s: usize) -> u32
+    requires { ⌜ Valid (now form) × (s ≤ 2 * lettersOf (now form)) ⌝ }
+    ensures { λ r. ⌜ r ≡ ending (endsOf (now (form .entry)) ((s + 1) / 2)) ⌝ }
+{
+    if may_end(form, (s + 1) / 2) {
+        return 0;
+    }
+    TOP
+}
+
+// Writes the last row, at `base`.
+fn fill_last(form: &[u32], work: &mut [u32], base: usize)
+    requires { ⌜ Valid (now form) × (base + 2 * lettersOf (now form) < length (now work)) ⌝ }
+    ensures { λ _. ⌜ LastFilled (now (form .entry)) (now (work .entry)) (now (work .exit)) base ⌝ }
+{
+    let n = 2 * letters(form) + 1;
+    let mut s = 0;
+    while s < n {
+        work[base + s] = last_cost(form, s);
+        s += 1;
+    }
 }
