@@ -5,3 +5,4 @@ pub mod Written
 pub mod Among
 pub mod Ascending
 pub mod Outside
+pub mod Marks

@@ -1,4 +1,3 @@
-pub mod Starts
 pub mod Offers
 pub mod Column
 pub mod Letters

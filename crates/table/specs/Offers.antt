@@ -11,11 +11,11 @@ use lib.Dec.{eqb}
 use borrow.Author.Tests.{eqb-true, eqb-false}
 use Rattle.lists.specs.Order.{lt-or-le, not-both}
 use Rattle.lists.specs.Least.{Least, Among, least-none, least-one, least-start, least-same, least-more}
-use Rattle.automaton.specs.Form.{lettersOf, labelOf, followOf, target, validForm, view}
-use Rattle.automaton.specs.Valid.{Valid, valid-at, view-proper, follow-arc, arc-follow}
+use Rattle.automaton.specs.Form.{lettersOf, labelOf, followOf, target, view}
+use Rattle.automaton.specs.Valid.{Valid, first-letter, follow-arc, arc-follow}
 use Rattle.trellis.specs.Impossible.{TOP}
 use Rattle.trellis.specs.Cells.{ByArc}
-use Rattle.table.specs.Starts.{Begins, range-source, source-range}
+use Rattle.form.specs.Starts.{Begins, range-source, source-range}
 
 -- a list of numbers that are at most TOP, for the letters 1 to 127
 pub record Candidates (cs : List ℕ) : Type 0 where
@@ -160,16 +160,16 @@ module _ (f cs : List ℕ) (good : Candidates cs) where
       by false e = least-none (ToFirst f cs j) (λ n o. not-both (followOf f 0 j) (o .0) e)
 
   pub first-end :
-      {v : ℕ} → validForm f ≡ true → Least TOP (Among 1 (lettersOf f + 1) (ToFirst f cs)) v → Least TOP (ByArc (view f) (candidate cs) 0 0) v
+      {v : ℕ} → Valid f → Least TOP (Among 1 (lettersOf f + 1) (ToFirst f cs)) v → Least TOP (ByArc (view f) (candidate cs) 0 0) v
   first-end valid l = least-same (ByArc (view f) (candidate cs) 0 0) to from l
     where
       to : (n : ℕ) → Among 1 (lettersOf f + 1) (ToFirst f cs) n → ByArc (view f) (candidate cs) 0 0 n
       to n o =
           let h = o .2 in
-          let low = valid-at f valid .letter (o .0) (o .1) (omega arith) .low in
+          let low = valid .letter (o .0) (o .1) (omega arith) .low in
           (o .0, o .3 .0, λ z. omega arith, o .3 .1)
 
       from : (n : ℕ) → ByArc (view f) (candidate cs) 0 0 n → Among 1 (lettersOf f + 1) (ToFirst f cs) n
       from n o =
-          let b = view-proper f valid .target 0 (o .0) (o .1) in
+          let b = first-letter f (o .0) (o .1) in
           (o .0, b .0, (let h = b .1 in omega arith), (o .1, o .3))

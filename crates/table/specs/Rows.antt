@@ -2,7 +2,6 @@
 -- Assumes nothing.
 use Prim.Native.Nat.{ℕ, _+_, _*_, _-_, _/_, _<_, _≤_, min}
 use mathlib.Core.Path.{_≡_, refl, sym, ap, ap₂, subst, _∙_}
-use mathlib.Core.Bool.{true}
 use mathlib.Core.Logic.{_⊎_, inl, inr}
 use mathlib.Core.List.{List}
 use native.Mathlib.Omega.{arith}
@@ -12,8 +11,8 @@ use Rattle.lists.specs.Order.{eq-or-ne}
 use Rattle.lists.specs.Least.{Least}
 use Rattle.lists.specs.Outside.{Outside, outside-none, outside-set, outside-then, outside-wider}
 use Rattle.reading.specs.Matrix.{Matrix, cost}
-use Rattle.automaton.specs.Form.{lettersOf, labelOf, endsOf, validForm, view}
-use Rattle.automaton.specs.Valid.{view-proper}
+use Rattle.automaton.specs.Form.{lettersOf, labelOf, endsOf, view}
+use Rattle.automaton.specs.Valid.{Valid, valid-proper}
 use Rattle.trellis.specs.Impossible.{TOP, plus}
 use Rattle.trellis.specs.CostToGo.{CostToGo}
 use Rattle.trellis.specs.Extended.{extended, AtLetter}
@@ -41,7 +40,7 @@ pub record RowFilled (f costs : List ℕ) (at : ℕ) (before after : List ℕ) (
   pub outside : Outside here (here + (2 * lettersOf f + 1)) before after
 
 -- the column's states by its candidates
-module _ {f : List ℕ} (valid : validForm f ≡ true) (costs : List ℕ) (at : ℕ) (before : List ℕ) (next : ℕ) (cs : List ℕ) (given : CandidatesOf f costs at before next cs)
+module _ {f : List ℕ} (valid : Valid f) (costs : List ℕ) (at : ℕ) (before : List ℕ) (next : ℕ) (cs : List ℕ) (given : CandidatesOf f costs at before next cs)
     (M : Matrix) (t n : ℕ) (column : ColumnAt M t costs at) (behind : Row (view f) M before next (t + 1) n) where
   paid : (j : ℕ) → 1 ≤ j → j ≤ lettersOf f → candidate cs j ≡ plus (cost M t (labelOf f j)) (getD before (next + (2 * j - 1)) 0)
   paid j l h = given .is j l (omega arith) ∙ ap (λ c. plus c (getD before (next + (2 * j - 1)) 0)) (sym (column (labelOf f j)))
@@ -56,14 +55,14 @@ module _ {f : List ℕ} (valid : validForm f ≡ true) (costs : List ℕ) (at : 
   in-blanks : (i m v : ℕ) → i ≤ lettersOf f → Least TOP (ByArc (view f) (candidate cs) i 0) m → v ≡ min (rest i) m → CostToGo (extended (view f)) M t (n + 1) (2 * i) v
   in-blanks i m v h l e =
       subst (CostToGo (extended (view f)) M t (n + 1) (2 * i)) (ap (λ r. min r m) (rests i) ∙ sym e)
-      (blanks-cell (view-proper f valid) M t n (λ s. getD before (next + s) 0) (candidate cs) behind paid i m h l)
+      (blanks-cell (valid-proper f valid) M t n (λ s. getD before (next + s) 0) (candidate cs) behind paid i m h l)
 
   on-letter :
       (i m v : ℕ) → 1 ≤ i → i ≤ lettersOf f → Least TOP (ByArc (view f) (candidate cs) i (labelOf f i)) m → v ≡ min (min (candidate cs i) (rest i)) m
       → CostToGo (extended (view f)) M t (n + 1) (2 * i - 1) v
   on-letter i m v low h l e =
       subst (CostToGo (extended (view f)) M t (n + 1) (2 * i - 1)) (ap₂ (λ a b. min (min a b) m) (sym (paid i low h)) (rests i) ∙ sym e)
-      (letter-cell (view-proper f valid) M t n (λ s. getD before (next + s) 0) (candidate cs) behind paid i m low h l)
+      (letter-cell (valid-proper f valid) M t n (λ s. getD before (next + s) 0) (candidate cs) behind paid i m low h l)
 
   module _ (after : List ℕ) (here m : ℕ) (cells : (i : ℕ) → 1 ≤ i → i < lettersOf f + 1 → CellsAt f cs (getD costs at 0) before after here next i)
       (first : Least TOP (ByArc (view f) (candidate cs) 0 0) m) (zero-is : getD after (here + 0) 0 ≡ min (rest 0) m) where
@@ -84,7 +83,7 @@ module _ {f : List ℕ} (valid : validForm f ≡ true) (costs : List ℕ) (at : 
     states-filled s h = at-state s ((s + 1) / 2) h (at-letter s)
 
 -- the states of the letters are written, and then state 0
-module _ {f : List ℕ} (valid : validForm f ≡ true) (costs : List ℕ) (at : ℕ) (before : List ℕ) (here next : ℕ) (cs : List ℕ) (given : CandidatesOf f costs at before next cs)
+module _ {f : List ℕ} (valid : Valid f) (costs : List ℕ) (at : ℕ) (before : List ℕ) (here next : ℕ) (cs : List ℕ) (given : CandidatesOf f costs at before next cs)
     (work : List ℕ) (room : here < length work) (letters : LettersFilled f cs (getD costs at 0) before work here next (lettersOf f + 1)) where
   pub row-filled :
       (m v : ℕ) → Least TOP (ByArc (view f) (candidate cs) 0 0) m → v ≡ min (plus (getD costs at 0) (getD before next 0)) m

@@ -3,13 +3,12 @@ use form::{label, letters, may_be_first, may_end, target};
 ghost use mathlib.Core.Path.{_≡_};
 ghost use Prim.Native.Nat.{ℕ, _+_, _*_, _/_, _<_, _≤_, min};
 ghost use lib.ListN.{length, getD};
-ghost use mathlib.Core.Bool.{true};
 ghost use Rattle.lists.specs.Least.{Least};
-ghost use Rattle.automaton.specs.Form.{validForm, lettersOf, alphabetOf, labelOf, followOf, endsOf, view};
+ghost use Rattle.automaton.specs.Form.{lettersOf, alphabetOf, labelOf, followOf, endsOf, view};
 ghost use Rattle.automaton.specs.Valid.{Valid};
 ghost use Rattle.trellis.specs.Impossible.{TOP as top, plus as plusOf};
 ghost use Rattle.trellis.specs.Cells.{ByArc, ending};
-ghost use Rattle.table.specs.Starts.{Begins, ArcStarts};
+ghost use Rattle.form.specs.Starts.{Begins, ArcStarts};
 ghost use Rattle.table.specs.Offers.{Candidates, Offers as OffersOf, candidate as candidateOf, unless, provided};
 ghost use Rattle.table.specs.Column.{Bounded, onward, CandidatesOf};
 ghost use Rattle.table.specs.Letters.{LetterFilled, LettersFilled};
@@ -107,7 +106,7 @@ fn if_first(form: &[u32], j: usize, v: u32) -> u32
 
 // What the letters that may be first offer to state 0.
 fn to_first(form: &[u32], candidates: &[u32]) -> u32
-    requires { ⌜ (validForm (now form) ≡ true) × Candidates (now candidates) ⌝ }
+    requires { ⌜ Valid (now form) × Candidates (now candidates) ⌝ }
     ensures { λ r. ⌜ Least top (ByArc (view (now (form .entry))) (candidateOf (now (candidates .entry))) 0 0) r ⌝ }
 {
     let l = letters(form);
@@ -146,7 +145,7 @@ fn fill_letters(form: &[u32], begins: &[usize], candidates: &[u32], blank: u32, 
 
 // Writes the row at `here` for the column of costs at `at`, by the row of the next column at `next`.
 fn fill_row(form: &[u32], begins: &[usize], costs: &[u32], at: usize, work: &mut [u32], here: usize, next: usize)
-    requires { ⌜ (validForm (now form) ≡ true) × ArcStarts (now form) (now begins) × (at + alphabetOf (now form) < length (now costs)) × (here + 2 * lettersOf (now form) < next) × Bounded (now form) (now work) next ⌝ }
+    requires { ⌜ Valid (now form) × ArcStarts (now form) (now begins) × (at + alphabetOf (now form) < length (now costs)) × (here + 2 * lettersOf (now form) < next) × Bounded (now form) (now work) next ⌝ }
     ensures { λ _. ⌜ RowFilled (now (form .entry)) (now (costs .entry)) at (now (work .entry)) (now (work .exit)) here next ⌝ }
 {
     let blank = costs[at];

@@ -5,7 +5,6 @@ use native.Mathlib.Omega.{arith}
 use lib.ListN.{length, getD}
 use borrow.Author.Needs.{needs}
 use denote.Ref.{now}
-use Rattle.automaton.specs.Valid.{valid-at}
 use Rattle.trellis.specs.Impossible.{TOP}
 use Rattle.table.specs.Rows.{row-filled}
 use Rattle.table.proofs.fill_row.Statement.{statement}
@@ -18,7 +17,7 @@ shared-slice-read-blank : tie.Need-shared-slice-read-blank
 shared-slice-read-blank c = search needs
 
 candidates-requires : tie.Need-candidates-requires
-candidates-requires c κs = let p = c .before .before .before .before .before .before .pre in (valid-at (now (c .before .before .before .before .before .before .args .form)) (p .0), p .2, p .4)
+candidates-requires c κs = let p = c .before .before .before .before .before .before .pre in (p .0, p .2, p .4)
 
 mul-plus : tie.Need-mul-plus
 mul-plus c = search needs
@@ -47,7 +46,7 @@ slice-aggregate-fill-letters c = search needs
 fill-letters-requires : tie.Need-fill-letters-requires
 fill-letters-requires c κs =
     let p = c .before .before .before .before .before .before .before .before .before .before .before .before .before .before .pre in
-    (valid-at (now (c .before .before .before .before .before .before .before .before .before .before .before .before .before .before .args .form)) (p .0), p .1, c .before .before .before .before .before .before .before .candidates .ensures .good, p .3, p .4)
+    (p .0, p .1, c .before .before .before .before .before .before .before .candidates .ensures .good, p .3, p .4)
 
 mul-work : tie.Need-mul-work
 mul-work c = search needs

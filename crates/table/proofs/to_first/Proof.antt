@@ -6,7 +6,6 @@ use borrow.Author.Needs.{needs}
 use denote.Ref.{now}
 use Rattle.lists.specs.Least.{Least, Among}
 use Rattle.automaton.specs.Form.{lettersOf}
-use Rattle.automaton.specs.Valid.{valid-at}
 use Rattle.trellis.specs.Impossible.{TOP}
 use Rattle.table.specs.Offers.{ToFirst, first-start, first-more, first-end}
 use Rattle.table.proofs.to_first.Statement.{statement}
@@ -19,7 +18,7 @@ abbrev μ-loop : tie.MeasureT-loop
 μ-loop form candidates l v₀ j₀ v j = l + 1 - j
 
 letters-requires : tie.Need-letters-requires Inv-loop μ-loop
-letters-requires c κs = let h = valid-at (now (c .before .before .args .form)) (c .before .before .pre .0) .long in omega arith
+letters-requires c κs = let h = c .before .before .pre .0 .long in omega arith
 
 loop-holds : tie.Need-loop-holds Inv-loop μ-loop
 loop-holds c =
@@ -28,25 +27,25 @@ loop-holds c =
 
 mul-if-first : tie.Need-mul-if-first Inv-loop μ-loop
 mul-if-first c =
-    let few = valid-at (now (c .before .before .before .before .before .args .form)) (c .before .before .before .before .before .pre .0) .head .letters-high in
+    let few = c .before .before .before .before .before .pre .0 .head .letters-high in
     omega (arith, c .before .before .letters .ensures, c .loop-test .taken)
 
 shared-slice-read-if-first : tie.Need-shared-slice-read-if-first Inv-loop μ-loop
 shared-slice-read-if-first c =
-    let few = valid-at (now (c .before .before .before .before .before .before .args .form)) (c .before .before .before .before .before .before .pre .0) .head .letters-high in
+    let few = c .before .before .before .before .before .before .pre .0 .head .letters-high in
     let size = c .before .before .before .before .before .before .pre .1 .size in
     omega (arith, c .before .before .before .letters .ensures, c .before .loop-test .taken)
 
 if-first-requires : tie.Need-if-first-requires Inv-loop μ-loop
 if-first-requires c κs =
-    (valid-at (now (c .before .before .before .before .before .before .args .form)) (c .before .before .before .before .before .before .pre .0), c .before .before .loop .inv .0, omega (arith, c .before .before .before .letters .ensures, c .before .loop-test .taken))
+    (c .before .before .before .before .before .before .pre .0, c .before .before .loop .inv .0, omega (arith, c .before .before .before .letters .ensures, c .before .loop-test .taken))
 
 least-requires : tie.Need-least-requires Inv-loop μ-loop
 least-requires c κs = search needs
 
 add-j : tie.Need-add-j Inv-loop μ-loop
 add-j c =
-    let few = valid-at (now (c .before .before .before .before .before .before .before .before .args .form)) (c .before .before .before .before .before .before .before .before .pre .0) .head .letters-high in
+    let few = c .before .before .before .before .before .before .before .before .pre .0 .head .letters-high in
     omega (arith, c .before .before .before .before .before .letters .ensures, c .before .before .before .loop-test .taken)
 
 loop-less : tie.Need-loop-less Inv-loop μ-loop

@@ -18,6 +18,16 @@ pub record Skipped (f : List ℕ) (n i r : ℕ) : Type 0 where
   pub below : (m : ℕ) → n ≤ m → m < r → source (getD f m 0) < i
   pub stops : r < length f → i ≤ source (getD f r 0)
 
+-- one more source below i
+pub below-more :
+    (f : List ℕ) (n i m : ℕ) → ((k : ℕ) → n ≤ k → k < m → source (getD f k 0) < i) → source (getD f m 0) < i
+    → (k : ℕ) → n ≤ k → k < m + 1 → source (getD f k 0) < i
+below-more f n i m old new k l h = by (eq-or-ne k m)
+  where
+    by : (k ≡ m) ⊎ (k ≡ m → ⊥) → source (getD f k 0) < i
+    by (inl e) = subst (λ j. source (getD f j 0) < i) (sym e) new
+    by (inr d) = old k l (omega arith)
+
 -- the arcs in front of b have sources below i, the others have not
 pub record Begins (f : List ℕ) (i b : ℕ) : Type 0 where
   pub past : lettersOf f < b
@@ -58,6 +68,7 @@ module _ (f : List ℕ) (i b e : ℕ) (first : Begins f i b) (next : Begins f (i
       by : (n < b) ⊎ (b ≤ n) → b ≤ n
       by (inl q) = let low = first .below n l q in absurd (omega arith)
       by (inr q) = q
+
       by-end : (n < e) ⊎ (e ≤ n) → n < e
       by-end (inl q) = q
       by-end (inr q) = let high = next .above n q h in absurd (omega arith)
@@ -86,6 +97,7 @@ module _ (f : List ℕ) (valid : Valid f) (i : ℕ) where
       below : (m : ℕ) → lettersOf f < m → m < r → (m < n) ⊎ (n ≤ m) → source (getD f m 0) < i
       below m l h (inl q) = p .2 m l q
       below m l h (inr q) = s .below m q h
+
       above : (m : ℕ) → r ≤ m → m < length f → (m ≡ r) ⊎ (m ≡ r → ⊥) → i ≤ source (getD f m 0)
       above m l h (inl e) = subst (λ k. i ≤ source (getD f k 0)) (sym e) (s .stops (omega arith))
       above m l h (inr d) =
@@ -93,7 +105,7 @@ module _ (f : List ℕ) (valid : Valid f) (i : ℕ) where
           let s0 = s .from in
           let at = s .stops (omega arith) in
           let up = source-rises (lettersOf f) (getD f r 0) (getD f m 0)
-                  (valid .arc r (omega arith) (omega arith)) (valid .arc m (omega arith) h) (valid .ascends r m (omega arith) (omega arith) h) in
+          (valid .arc r (omega arith) (omega arith)) (valid .arc m (omega arith) h) (valid .ascends r m (omega arith) (omega arith) h) in
           omega arith
 
   pub begins-passed : (r : ℕ) → Begins f i r → Passed f (i + 1) r
