@@ -2,3 +2,4 @@ pub mod Offers
 pub mod Column
 pub mod Letters
 pub mod Rows
+pub mod Fill

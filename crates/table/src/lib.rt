@@ -1,5 +1,5 @@
 // The table of costs to go of Decode, filled backward, row by row (document 01, "Extended states and decoding").
-use form::{label, letters, may_be_first, may_end, target};
+use form::{label, letters, may_be_first, may_end, starts, target};
 ghost use mathlib.Core.Path.{_≡_};
 ghost use Prim.Native.Nat.{ℕ, _+_, _*_, _/_, _<_, _≤_, min};
 ghost use lib.ListN.{length, getD};
@@ -8,11 +8,13 @@ ghost use Rattle.automaton.specs.Form.{lettersOf, alphabetOf, labelOf, followOf
 ghost use Rattle.automaton.specs.Valid.{Valid};
 ghost use Rattle.trellis.specs.Impossible.{TOP as top, plus as plusOf};
 ghost use Rattle.trellis.specs.Cells.{ByArc, ending};
+ghost use Rattle.trellis.specs.Table.{Row};
 ghost use Rattle.form.specs.Starts.{Begins, ArcStarts};
 ghost use Rattle.table.specs.Offers.{Candidates, Offers as OffersOf, candidate as candidateOf, unless, provided};
 ghost use Rattle.table.specs.Column.{Bounded, onward, CandidatesOf};
 ghost use Rattle.table.specs.Letters.{LetterFilled, LettersFilled};
 ghost use Rattle.table.specs.Rows.{RowFilled, LastFilled};
+ghost use Rattle.table.specs.Fill.{matrix, states, Sized, RowsFilled, Filled};
 
 // The mark for the impossible: no path of usable costs reaches this price.
 const TOP: u32 = 1000000000;
@@ -177,4 +179,28 @@ fn fill_last(form: &[u32], work: &mut [u32], base: usize)
         work[base + s] = last_cost(form, s);
         s += 1;
     }
+}
+
+// Writes the rows of all columns, `stride` apart, from the last column to the first; the last row stands behind them.
+fn fill_rows(form: &[u32], costs: &[u32], width: usize, count: usize, work: &mut [u32], stride: usize)
+    requires { ⌜ Sized (now form) (matrix (now costs) width count) (now work) stride × Row (view (now form)) (matrix (now costs) width count) (now work) (count * stride) count 0 ⌝ }
+    ensures { λ _. ⌜ RowsFilled (now (form .entry)) (matrix (now (costs .entry)) width count) (now (work .entry)) (now (work .exit)) stride 0 ⌝ }
+{
+    let begins = starts(form);
+    let mut t = count;
+    while 0 < t {
+        t -= 1;
+        fill_row(form, &begins, costs, t * width, work, t * stride, t * stride + stride);
+    }
+}
+
+// Fills the table of costs to go. The answer is the least price, or TOP where there is none.
+pub fn fill(form: &[u32], costs: &[u32], width: usize, count: usize, work: &mut [u32]) -> u32
+    requires { ⌜ Sized (now form) (matrix (now costs) width count) (now work) (states (now form)) ⌝ }
+    ensures { λ r. ⌜ Filled (now (form .entry)) (matrix (now (costs .entry)) width count) (now (work .entry)) (now (work .exit)) r ⌝ }
+{
+    let stride = 2 * letters(form) + 1;
+    fill_last(form, work, count * stride);
+    fill_rows(form, costs, width, count, work, stride);
+    work[0]
 }
