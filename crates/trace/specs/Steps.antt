@@ -10,7 +10,7 @@ use lib.ListN.{length, getD, set as put}
 use Rattle.lists.specs.Order.{not-both, eq-or-ne, lt-or-le}
 use Rattle.lists.specs.Marks.{Has, Marks, Turns, marks-none, marks-one, marks-same, marks-then}
 use Rattle.automaton.specs.Automaton.{Automaton, Proper}
-use Rattle.automaton.specs.Form.{lettersOf, view, source, target}
+use Rattle.automaton.specs.Form.{lettersOf, alphabetOf, view, source, target}
 use Rattle.automaton.specs.Valid.{Valid, ArcAt, follow-arc, arc-follow, follow-target, valid-proper}
 use Rattle.form.specs.Starts.{Begins, range-source, source-range}
 use Rattle.trellis.specs.Extended.{OnLetter, InBlanks, AtLetter, Step, stay, pass, arc, rest, leave}
@@ -50,6 +50,17 @@ at-letter s = by (eq-or-ne (s % 2) 0)
     by : (s % 2 ≡ 0) ⊎ (s % 2 ≡ 0 → ⊥) → AtLetter ((s + 1) / 2) s
     by (inl e) = inr (omega arith)
     by (inr n) = inl (omega arith)
+
+-- the label of a state is one of the alphabet
+pub entering-high : (f : List ℕ) → Valid f → (u : ℕ) → u ≤ 2 * lettersOf f → entering (view f) u ≤ alphabetOf f
+entering-high f valid u h = by (at-letter u)
+  where
+    by : AtLetter ((u + 1) / 2) u → entering (view f) u ≤ alphabetOf f
+    by (inl o) =
+        let e = entering-letter (view f) ((u + 1) / 2) u o in
+        let l = valid .letter ((u + 1) / 2) (omega arith) (omega arith) .high in
+        omega arith
+    by (inr o) = let e = entering-blanks (view f) ((u + 1) / 2) u o in omega arith
 
 module _ {k : ℕ} {A : Automaton} (proper : Proper k A) (i s u : ℕ) where
   -- a step from a state on or behind letter i; in blanks the barred label is the blank, which no letter has

@@ -1,12 +1,12 @@
--- `trace::mark_letter` meets its contract, by its two arms. Assumes nothing.
+-- `trace::steps::mark_letter` meets its contract, by its two arms. Assumes nothing.
 use mathlib.Core.Path.{sym, _∙_}
 use native.Mathlib.Omega.{arith}
 use denote.Ref.{now}
 use borrow.Author.Needs.{needs}
 use Rattle.automaton.specs.Form.{view}
 use Rattle.trace.specs.Steps.{letter-marked, letter-barred}
-use Rattle.trace.proofs.mark_letter.Statement.{statement}
-use Rattle.trace.proofs.mark_letter.Tie as tie
+use Rattle.trace.proofs.steps.mark_letter.Statement.{statement}
+use Rattle.trace.proofs.steps.mark_letter.Tie as tie
 
 label-requires : tie.Need-label-requires
 label-requires c κs = search needs

@@ -1,4 +1,4 @@
--- `trace::entering` meets its contract: an even state is one in blanks, and an odd one is on a letter. Assumes nothing.
+-- `trace::steps::entering` meets its contract: an even state is one in blanks, and an odd one is on a letter. Assumes nothing.
 use Prim.Native.Nat.{_+_, _/_}
 use mathlib.Core.Path.{sym, _∙_}
 use native.Mathlib.Omega.{arith}
@@ -6,8 +6,8 @@ use denote.Ref.{now}
 use borrow.Author.Needs.{needs}
 use Rattle.automaton.specs.Form.{view}
 use Rattle.trellis.specs.Reached.{entering-blanks, entering-letter}
-use Rattle.trace.proofs.entering.Statement.{statement}
-use Rattle.trace.proofs.entering.Tie as tie
+use Rattle.trace.proofs.steps.entering.Statement.{statement}
+use Rattle.trace.proofs.steps.entering.Tie as tie
 
 returns : tie.Need-returns
 returns c = let a = c .before .before .args in sym (entering-blanks (view (now (a .form))) ((a .u + 1) / 2) (a .u) (omega arith))

@@ -1,10 +1,10 @@
--- `trace::mark_from` meets its contract, by its two arms. Assumes nothing.
+-- `trace::steps::mark_from` meets its contract, by its two arms. Assumes nothing.
 use denote.Ref.{now}
 use borrow.Author.Needs.{needs}
 use Rattle.automaton.specs.Form.{view}
 use Rattle.trace.specs.Steps.{from-marked, from-not}
-use Rattle.trace.proofs.mark_from.Statement.{statement}
-use Rattle.trace.proofs.mark_from.Tie as tie
+use Rattle.trace.proofs.steps.mark_from.Statement.{statement}
+use Rattle.trace.proofs.steps.mark_from.Tie as tie
 
 element-copy-out-if1 : tie.Need-element-copy-out-if1
 element-copy-out-if1 c = search needs

@@ -1,11 +1,11 @@
--- `trace::mark_first` meets its contract, by its two arms. Assumes nothing.
+-- `trace::steps::mark_first` meets its contract, by its two arms. Assumes nothing.
 use mathlib.Core.Path.{sym, _∙_}
 use denote.Ref.{now}
 use borrow.Author.Needs.{needs}
 use Rattle.automaton.specs.Form.{view}
 use Rattle.trace.specs.Steps.{led-marked, led-not}
-use Rattle.trace.proofs.mark_first.Statement.{statement}
-use Rattle.trace.proofs.mark_first.Tie as tie
+use Rattle.trace.proofs.steps.mark_first.Statement.{statement}
+use Rattle.trace.proofs.steps.mark_first.Tie as tie
 
 may-be-first-requires : tie.Need-may-be-first-requires
 may-be-first-requires c κs = search needs

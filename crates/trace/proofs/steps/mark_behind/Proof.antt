@@ -1,4 +1,4 @@
--- `trace::mark_behind` meets its contract: the first letters, or the targets of the letter's arcs. Assumes nothing.
+-- `trace::steps::mark_behind` meets its contract: the first letters, or the targets of the letter's arcs. Assumes nothing.
 use native.Mathlib.Omega.{arith}
 use mathlib.Core.Path.{sym, subst}
 use denote.Ref.{now}
@@ -7,8 +7,8 @@ use Rattle.lists.specs.Marks.{Marks}
 use Rattle.automaton.specs.Form.{view}
 use Rattle.form.specs.Starts.{range-rises}
 use Rattle.trace.specs.Steps.{Behind, targets-marked}
-use Rattle.trace.proofs.mark_behind.Statement.{statement}
-use Rattle.trace.proofs.mark_behind.Tie as tie
+use Rattle.trace.proofs.steps.mark_behind.Statement.{statement}
+use Rattle.trace.proofs.steps.mark_behind.Tie as tie
 
 mark-firsts-requires : tie.Need-mark-firsts-requires
 mark-firsts-requires c κs = let p = c .before .before .before .pre in (p .0, p .3)

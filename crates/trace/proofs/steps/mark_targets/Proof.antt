@@ -1,4 +1,4 @@
--- `trace::mark_targets` meets its contract: the turns so far have marked the targets of their arcs. Assumes nothing.
+-- `trace::steps::mark_targets` meets its contract: the turns so far have marked the targets of their arcs. Assumes nothing.
 use Prim.Native.Nat.{_≤_, _-_}
 use mathlib.Core.Path.{_≡_, subst, _∙_}
 use native.Mathlib.Omega.{arith}
@@ -6,8 +6,8 @@ use denote.Ref.{now}
 use Rattle.lists.specs.Marks.{Marks, Turns, turns-none, turns-more}
 use Rattle.automaton.specs.Form.{view}
 use Rattle.trace.specs.Steps.{Unbarred, TargetOf}
-use Rattle.trace.proofs.mark_targets.Statement.{statement}
-use Rattle.trace.proofs.mark_targets.Tie as tie
+use Rattle.trace.proofs.steps.mark_targets.Statement.{statement}
+use Rattle.trace.proofs.steps.mark_targets.Tie as tie
 
 abbrev Inv-loop : tie.InvT-loop
 Inv-loop form barred b e set₀ n₀ set n = (b ≤ n) × (n ≤ e) × Marks (Turns (TargetOf form barred) b n) set₀ set

@@ -1,4 +1,4 @@
--- `trace::mark_firsts` meets its contract: the turns so far have marked their letters. Assumes nothing.
+-- `trace::steps::mark_firsts` meets its contract: the turns so far have marked their letters. Assumes nothing.
 use Prim.Native.Nat.{_≤_, _+_, _-_}
 use mathlib.Core.Path.{_≡_, subst, _∙_}
 use native.Mathlib.Omega.{arith}
@@ -6,8 +6,8 @@ use denote.Ref.{now}
 use Rattle.lists.specs.Marks.{Marks, Turns, turns-none, turns-more}
 use Rattle.automaton.specs.Form.{lettersOf, view}
 use Rattle.trace.specs.Steps.{Led, firsts-marked}
-use Rattle.trace.proofs.mark_firsts.Statement.{statement}
-use Rattle.trace.proofs.mark_firsts.Tie as tie
+use Rattle.trace.proofs.steps.mark_firsts.Statement.{statement}
+use Rattle.trace.proofs.steps.mark_firsts.Tie as tie
 
 abbrev Inv-loop : tie.InvT-loop
 Inv-loop form barred set₀ l j₀ set j = (l ≡ lettersOf form) × (1 ≤ j) × (j ≤ l + 1) × Marks (Turns (Led (view form) barred 0) 1 j) set₀ set

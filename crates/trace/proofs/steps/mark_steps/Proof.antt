@@ -1,4 +1,4 @@
--- `trace::mark_steps` meets its contract: the two states, then the letters behind. Assumes nothing.
+-- `trace::steps::mark_steps` meets its contract: the two states, then the letters behind. Assumes nothing.
 use Prim.Native.Nat.{_+_, _*_, _/_}
 use mathlib.Core.Path.{_≡_, subst}
 use mathlib.Core.Bool.{true}
@@ -10,8 +10,8 @@ use Rattle.lists.specs.Marks.{Marks}
 use Rattle.automaton.specs.Form.{view}
 use Rattle.trellis.specs.Reached.{entering}
 use Rattle.trace.specs.Steps.{Behind, steps-marked, at-letter}
-use Rattle.trace.proofs.mark_steps.Statement.{statement}
-use Rattle.trace.proofs.mark_steps.Tie as tie
+use Rattle.trace.proofs.steps.mark_steps.Statement.{statement}
+use Rattle.trace.proofs.steps.mark_steps.Tie as tie
 
 add-i : tie.Need-add-i
 add-i c = search needs

@@ -1,4 +1,4 @@
--- `trace::reached` meets its contract: the turns so far have marked what steps from their states lead to. Assumes nothing.
+-- `trace::steps::reached` meets its contract: the turns so far have marked what steps from their states lead to. Assumes nothing.
 use Prim.Native.Nat.{_≤_, _+_, _*_, _-_}
 use mathlib.Core.Path.{_≡_, refl, subst, _∙_}
 use mathlib.Core.Bool.{false}
@@ -9,8 +9,8 @@ use borrow.Author.Needs.{needs}
 use Rattle.lists.specs.Marks.{Marks, Turns, turns-none, turns-more}
 use Rattle.automaton.specs.Form.{lettersOf, view}
 use Rattle.trace.specs.Steps.{From, reached-marked}
-use Rattle.trace.proofs.reached.Statement.{statement}
-use Rattle.trace.proofs.reached.Tie as tie
+use Rattle.trace.proofs.steps.reached.Statement.{statement}
+use Rattle.trace.proofs.steps.reached.Tie as tie
 
 abbrev Inv-loop : tie.InvT-loop
 Inv-loop form begins from last set₀ s₀ set s = (last ≡ 2 * lettersOf form) × (s ≤ last + 1) × Marks (Turns (From (view form) from) 0 s) (replicate 255 false) set
