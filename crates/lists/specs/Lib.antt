@@ -4,3 +4,4 @@ pub mod Least
 pub mod Written
 pub mod Among
 pub mod Ascending
+pub mod Upto
