@@ -255,20 +255,36 @@ pub accepts-empty : (f : List ℕ) → endsOf f 0 ≡ bit8 (getD f 0 0)
 unfolding endsOf
 accepts-empty f = refl
 
--- the automaton of a valid form is proper
-pub view-proper : (f : List ℕ) → validForm f ≡ true → Proper (alphabetOf f) (view f)
+-- what is followed, and where a word ends, is a letter or 0
+pub first-letter : (f : List ℕ) (j : ℕ) → followOf f 0 j ≡ true → (1 ≤ j) × (j ≤ lettersOf f)
 unfolding followOf
-view-proper f e =
-    let v = valid-at f e in
-    record {
-      target = to;
-      labelled = λ j low high. let l = v .letter j low high in (l .low, l .high);
-    }
-  where
-    to : (i j : ℕ) → followOf f i j ≡ true → (1 ≤ j) × (j ≤ lettersOf f)
-    to zero j h = within-true 1 j (lettersOf f) (and-left (within 1 j (lettersOf f)) (bit8 (getD f j 0)) h)
-    to (suc i) j h =
-        let a = follow-arc f (suc i) j (omega arith) h in
-        let w = valid-at f e .arc (a .index) (a .past) (a .inside) in
-        let t = a .to in
-        (omega arith, omega arith)
+first-letter f j h = within-true 1 j (lettersOf f) (and-left (within 1 j (lettersOf f)) (bit8 (getD f j 0)) h)
+
+pub ends-letter : (f : List ℕ) (i : ℕ) → endsOf f i ≡ true → i ≤ lettersOf f
+unfolding endsOf
+ends-letter f zero h = omega arith
+ends-letter f (suc i) h = leb-true (suc i) (lettersOf f) (and-left (leb (suc i) (lettersOf f)) (bit9 (getD f (suc i) 0)) h)
+
+module _ (f : List ℕ) (valid : Valid f) where
+  pub follow-source : (i j : ℕ) → followOf f i j ≡ true → i ≤ lettersOf f
+  follow-source zero j h = omega arith
+  follow-source (suc i) j h =
+      let a = follow-arc f (suc i) j (omega arith) h in
+      let w = valid .arc (a .index) (a .past) (a .inside) in
+      let s = a .from in
+      omega arith
+
+  pub follow-target : (i j : ℕ) → followOf f i j ≡ true → (1 ≤ j) × (j ≤ lettersOf f)
+  follow-target zero j h = first-letter f j h
+  follow-target (suc i) j h =
+      let a = follow-arc f (suc i) j (omega arith) h in
+      let w = valid .arc (a .index) (a .past) (a .inside) in
+      let t = a .to in
+      (omega arith, omega arith)
+
+  -- the automaton of a valid form is proper
+  pub valid-proper : Proper (alphabetOf f) (view f)
+  valid-proper = record { target = follow-target; labelled = λ j low high. let l = valid .letter j low high in (l .low, l .high) }
+
+pub view-proper : (f : List ℕ) → validForm f ≡ true → Proper (alphabetOf f) (view f)
+view-proper f e = valid-proper f (valid-at f e)

@@ -1,1 +1,4 @@
 pub mod Checks
+pub mod Starts
+pub mod Sets
+pub mod Judge

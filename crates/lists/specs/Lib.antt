@@ -4,4 +4,5 @@ pub mod Least
 pub mod Written
 pub mod Among
 pub mod Ascending
+pub mod Marks
 pub mod Upto

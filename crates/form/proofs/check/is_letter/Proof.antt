@@ -1,4 +1,4 @@
--- `form::is_letter` meets its contract, a test at a time. Assumes nothing.
+-- `form::check::is_letter` meets its contract, a test at a time. Assumes nothing.
 use mathlib.Core.Path.{_≡_, sym, ap, _∙_}
 use mathlib.Core.Bool.{_&&_}
 use lib.Dec.{eqb}
@@ -6,8 +6,8 @@ use borrow.Author.Tests.{eq-eqb, ne-eqb}
 use Rattle.automaton.specs.Form.{letterWord, byte0, bit8, bit9, within}
 use Rattle.form.specs.Checks.{letter-sum}
 use borrow.Author.Needs.{needs}
-use Rattle.form.proofs.is_letter.Statement.{statement}
-use Rattle.form.proofs.is_letter.Tie as tie
+use Rattle.form.proofs.check.is_letter.Statement.{statement}
+use Rattle.form.proofs.check.is_letter.Tie as tie
 
 mul-if1 : tie.Need-mul-if1
 mul-if1 c = search needs

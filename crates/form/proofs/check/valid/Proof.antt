@@ -1,4 +1,4 @@
--- `form::valid` meets its contract: the five tests in their order, the last two in one loop. Assumes nothing.
+-- `form::check::valid` meets its contract: the five tests in their order, the last two in one loop. Assumes nothing.
 use mathlib.Core.Path.{_≡_, sym, ap, _∙_}
 use mathlib.Core.Bool.{true, _&&_}
 use denote.Ref.{now}
@@ -7,8 +7,8 @@ use Rattle.lists.specs.Each.{all}
 use Rattle.automaton.specs.Form.{isHead, isLetter, isArc, ordered, lettersOf, alphabetOf}
 use Rattle.form.specs.Checks.{valid-empty, valid-head, valid-short, valid-letters, valid-arcs, letters-part, arcs-part}
 use borrow.Author.Needs.{needs}
-use Rattle.form.proofs.valid.Statement.{statement}
-use Rattle.form.proofs.valid.Tie as tie
+use Rattle.form.proofs.check.valid.Statement.{statement}
+use Rattle.form.proofs.check.valid.Tie as tie
 
 returns : tie.Need-returns
 returns c = sym (valid-empty (now (c .before .before .args .form)) (c .if1 .taken))

@@ -1,4 +1,4 @@
--- `form::are_arcs` meets its contract: what is left of the list, behind the last arc, decides. Assumes nothing.
+-- `form::check::are_arcs` meets its contract: what is left of the list, behind the last arc, decides. Assumes nothing.
 use Prim.Native.Nat.{_≤_, _-_}
 use mathlib.Core.Path.{_≡_, refl, sym, _∙_}
 use mathlib.Core.Bool.{_&&_}
@@ -10,8 +10,8 @@ use borrow.Author.Tests.{not-true, not-false}
 use Rattle.lists.specs.Each.{all}
 use Rattle.automaton.specs.Form.{isArc, ordered}
 use Rattle.form.specs.Checks.{behind, behind-none, behind-more, behind-bad, behind-late, behind-end}
-use Rattle.form.proofs.are_arcs.Statement.{statement}
-use Rattle.form.proofs.are_arcs.Tie as tie
+use Rattle.form.proofs.check.are_arcs.Statement.{statement}
+use Rattle.form.proofs.check.are_arcs.Tie as tie
 
 abbrev Inv-loop : tie.InvT-loop
 Inv-loop l words last₀ n₀ last n = (n ≤ length words) × (behind l last (drop n words) ≡ (all (isArc l) words && ordered words))

@@ -1,10 +1,10 @@
--- `form::may_be_first` meets its contract: the bit is what the automaton says of the letter. Assumes nothing.
+-- `form::fields::may_be_first` meets its contract: the bit is what the automaton says of the letter. Assumes nothing.
 use mathlib.Core.Path.{sym}
 use borrow.Author.Needs.{needs}
 use denote.Ref.{now}
 use Rattle.automaton.specs.Valid.{may-be-first}
-use Rattle.form.proofs.may_be_first.Statement.{statement}
-use Rattle.form.proofs.may_be_first.Tie as tie
+use Rattle.form.proofs.fields.may_be_first.Statement.{statement}
+use Rattle.form.proofs.fields.may_be_first.Tie as tie
 
 mul-result : tie.Need-mul-result
 mul-result c = search needs

@@ -1,4 +1,4 @@
--- `form::may_end` meets its contract: the bit is what the automaton says of the letter, or of the empty word. Assumes nothing.
+-- `form::fields::may_end` meets its contract: the bit is what the automaton says of the letter, or of the empty word. Assumes nothing.
 use Prim.Native.Nat.{_≤_}
 use mathlib.Core.Path.{sym, ap, _∙_}
 use native.Mathlib.Omega.{arith}
@@ -6,8 +6,8 @@ use borrow.Author.Needs.{needs}
 use denote.Ref.{now}
 use Rattle.automaton.specs.Form.{endsOf}
 use Rattle.automaton.specs.Valid.{may-be-last, accepts-empty}
-use Rattle.form.proofs.may_end.Statement.{statement}
-use Rattle.form.proofs.may_end.Tie as tie
+use Rattle.form.proofs.fields.may_end.Statement.{statement}
+use Rattle.form.proofs.fields.may_end.Tie as tie
 
 shared-slice-read-result : tie.Need-shared-slice-read-result
 shared-slice-read-result c = search needs

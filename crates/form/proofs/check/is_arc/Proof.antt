@@ -1,12 +1,12 @@
--- `form::is_arc` meets its contract, a test at a time. Assumes nothing.
+-- `form::check::is_arc` meets its contract, a test at a time. Assumes nothing.
 use mathlib.Core.Path.{_≡_, sym, ap, ap₂, _∙_}
 use mathlib.Core.Bool.{_&&_}
 use lib.Dec.{eqb}
 use borrow.Author.Tests.{eq-eqb, ne-eqb, not-true, not-false}
 use Rattle.automaton.specs.Form.{arcWord, source, target, within}
 use borrow.Author.Needs.{needs}
-use Rattle.form.proofs.is_arc.Statement.{statement}
-use Rattle.form.proofs.is_arc.Tie as tie
+use Rattle.form.proofs.check.is_arc.Statement.{statement}
+use Rattle.form.proofs.check.is_arc.Tie as tie
 
 mul-if1 : tie.Need-mul-if1
 mul-if1 c = search needs

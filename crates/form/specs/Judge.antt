@@ -1,0 +1,78 @@
+-- What the call Judge makes of a form and a word: accepted or not, or the refusal that applies (document 01, "What is turned away",
+-- rows 11 and 17), and what it reports. Assumes nothing.
+use Prim.Native.Nat.{ℕ, _≤_}
+use mathlib.Core.Path.{_≡_, refl, sym, ap, _∙_}
+use mathlib.Core.Bool.{Bool, true, false, not}
+use mathlib.Core.Logic.{_↔_}
+use mathlib.Core.List.{List, [], _∷_}
+use lib.ListN.{length}
+use lib.Dec.{leb}
+use borrow.Author.Tests.{le-leb}
+use Rattle.lists.specs.Order.{and-both}
+use Rattle.lists.specs.Each.{Each, each-all}
+use Rattle.refusal.specs.declared.Refusal.{Refusal}
+use Rattle.refusal.specs.declared.Refusal.the-variants.{BadForm, Label}
+use Rattle.refusal.specs.Number.{numberOf}
+use Rattle.refusal.specs.Verdict.{Verdict, passed, refused, check, unless, unless-holds, unless-second, unless-neither}
+use Rattle.labels.specs.Calls.{between, label-fault}
+use Rattle.labels.specs.Faults.{fault-labels}
+use Rattle.automaton.specs.Automaton.{Accepts}
+use Rattle.automaton.specs.Form.{validForm, alphabetOf, view}
+use Rattle.automaton.specs.Accepted.{accepts, accepts-decides}
+use Rattle.automaton.specs.Valid.{valid-at, view-proper}
+use Rattle.form.specs.declared.Judged.{Judged}
+use Rattle.form.specs.declared.Judged.the-variants.{Accepted, Rejected, Refused}
+
+-- whether the form accepts the word, unless the form is invalid or the list is no word over its alphabet
+unfoldable pub judged : List ℕ → List ℕ → Verdict Bool
+judged form word = unless (check (not (validForm form)) BadForm ∷ (check (label-fault (alphabetOf form) 1 word) Label ∷ [])) (accepts (view form) word)
+
+-- 0 or the refusal's number, and whether the word was accepted: no at a refusal
+pub record Judgement : Type 0 where
+  pub number : ℕ
+  pub accepted : Bool
+
+abbrev pub reported : Judged → Judgement
+reported Accepted = record { number = 0; accepted = true }
+reported Rejected = record { number = 0; accepted = false }
+reported (Refused n) = record { number = numberOf n; accepted = false }
+
+abbrev pub report : Verdict Bool → Judgement
+report (passed b) = record { number = 0; accepted = b }
+report (refused n) = record { number = numberOf n; accepted = false }
+
+module _ (form word : List ℕ) where
+  pub judged-invalid : validForm form ≡ false → judged form word ≡ refused BadForm
+  unfolding judged
+  judged-invalid e =
+      unless-holds (accepts (view form) word) (not (validForm form)) BadForm (check (label-fault (alphabetOf form) 1 word) Label ∷ []) (ap not e)
+
+  pub judged-no-word : validForm form ≡ true → label-fault (alphabetOf form) 1 word ≡ true → judged form word ≡ refused Label
+  unfolding judged
+  judged-no-word e f =
+      unless-second (accepts (view form) word) (not (validForm form)) (label-fault (alphabetOf form) 1 word) BadForm Label (ap not e) f
+
+  pub judged-word : validForm form ≡ true → label-fault (alphabetOf form) 1 word ≡ false → judged form word ≡ passed (accepts (view form) word)
+  unfolding judged
+  judged-word e f =
+      unless-neither (accepts (view form) word) (not (validForm form)) (label-fault (alphabetOf form) 1 word) BadForm Label (ap not e) f
+
+  -- of a valid form and a word of at most 255 labels 1 to K: accepted exactly if some walk spells the word
+  pub judged-exact :
+      validForm form ≡ true → length word ≤ 255 → Each (λ x. (1 ≤ x) × (x ≤ alphabetOf form)) word → (judged form word ≡ passed true) ↔ Accepts (view form) word
+  judged-exact e short labels = ((λ q. decided .0 (cc word-passes)), λ q. word-passes ∙ ap passed (decided .1 q))
+    where
+      decided : (accepts (view form) word ≡ true) ↔ Accepts (view form) word
+      decided = accepts-decides (view form) (alphabetOf form) (view-proper form e) word
+
+      size : between 1 95 (alphabetOf form) ≡ true
+      size =
+          let h = valid-at form e .head in
+          and-both (leb 1 (alphabetOf form)) (leb (alphabetOf form) 95) (le-leb 1 (alphabetOf form) (h .alphabet-low)) (le-leb (alphabetOf form) 95 (h .alphabet-high))
+
+      word-passes : judged form word ≡ passed (accepts (view form) word)
+      word-passes =
+          judged-word e
+          (fault-labels (alphabetOf form) 1 word size short
+          ∙ ap not (each-all (between 1 (alphabetOf form)) (λ x. (1 ≤ x) × (x ≤ alphabetOf form))
+          (λ x h. and-both (leb 1 x) (leb x (alphabetOf form)) (le-leb 1 x (h .0)) (le-leb x (alphabetOf form) (h .1))) word labels))
