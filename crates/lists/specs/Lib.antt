@@ -6,3 +6,4 @@ pub mod Among
 pub mod Ascending
 pub mod Outside
 pub mod Marks
+pub mod Upto
