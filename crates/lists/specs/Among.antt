@@ -87,6 +87,7 @@ module _ {A : Type 0} where
       by (inl l) = inl (inr l)
       by (inr r) = inr r
 
+  -- tests that agree on the list keep the same
   pub keep-same : (p q : A → Bool) (xs : List A) → ((x : A) → Among x xs → p x ≡ q x) → keep p xs ≡ keep q xs
   unfolding keep
   keep-same p q [] h = refl
@@ -117,12 +118,6 @@ module _ {A : Type 0} where
       by true e (inl q) ih = (inl q, ap p q ∙ e)
       by true e (inr r) ih = (inr (ih r .0), ih r .1)
       by false e r ih = (inr (ih r .0), ih r .1)
-
-  -- tests that agree on the list keep the same
-  pub keep-same : (p q : A → Bool) (xs : List A) → ((x : A) → Among x xs → p x ≡ q x) → keep p xs ≡ keep q xs
-  unfolding keep
-  keep-same p q [] e = refl
-  keep-same p q (x ∷ xs) e = ap₂ (λ b ys. keeping b x ys) (e x (inl refl)) (keep-same p q xs (λ y m. e y (inr m)))
 
 module _ {A B : Type 0} where
   pub map-same : (f g : A → B) (xs : List A) → ((x : A) → Among x xs → f x ≡ g x) → map f xs ≡ map g xs

@@ -197,15 +197,15 @@ module _ {f : List ℕ} {M : Matrix} {work : List ℕ} {base stride : ℕ} (read
             let o = taken .one in
             let r = taken .kept .0 in
             let within : (s : ℕ) → Has (onward .set) s → s ≤ 2 * lettersOf f =
-                λ s h.
-                let k = taken .hit s h .0 .0 in
-                step-within proper (k .0) (entering (view f) s) s (k .2) (stands .within (k .0) (k .1)) in
+            λ s h.
+            let k = taken .hit s h .0 .0 in
+            step-within proper (k .0) (entering (view f) s) s (k .2) (stands .within (k .0) (k .1)) in
             let high : onward .label ≤ alphabetOf f =
-                let e = taken .by-label in
-                let h = entering-high f (ready .valid) o (step-within proper (r .0) (entering (view f) o) o (r .2) (stands .within (r .0) (r .1))) in
-                omega arith in
+            let e = taken .by-label in
+            let h = entering-high f (ready .valid) o (step-within proper (r .0) (entering (view f) o) o (r .2) (stands .within (r .0) (r .1))) in
+            omega arith in
             let left : front .left - cost M t (onward .label) ≡ onward .left =
-                ap (λ n. front .left - n) (sym (parts .same-column (onward .label) high)) ∙ sym (taken .left) in
+            ap (λ n. front .left - n) (sym (parts .same-column (onward .label) high)) ∙ sym (taken .left) in
             let l = stands .long in
             record {
               so-far = omega arith;

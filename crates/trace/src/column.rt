@@ -59,7 +59,16 @@ fn lowest(form: &[u32], column: &[u32], row: &[u32], v: u32, near: &[bool; 255])
 }
 
 // Marks state u, if its label is x and it is in the set and keeps to the price v.
-fn pick(form: &[u32], column: &[u32], row: &[u32], v: u32, near: &[bool; 255], x: usize, u: usize, set: &mut [bool; 255])
+fn pick(
+    form: &[u32],
+    column: &[u32],
+    row: &[u32],
+    v: u32,
+    near: &[bool; 255],
+    x: usize,
+    u: usize,
+    set: &mut [bool; 255],
+)
     requires { ⌜ Sized (now form) (now column) (now row) v × (u ≤ 2 * lettersOf (now form)) × (x < none) × (length (now set) ≡ 255) ⌝ }
     ensures { λ _. ⌜ Marks (Picks (view (now (form .entry))) (now (column .entry)) (now (row .entry)) v (now (near .entry)) x u) (now (set .entry)) (now (set .exit)) ⌝ }
 {
@@ -69,7 +78,14 @@ fn pick(form: &[u32], column: &[u32], row: &[u32], v: u32, near: &[bool; 255], x
 }
 
 // The states of label x of the set that keep to the price v.
-fn picked(form: &[u32], column: &[u32], row: &[u32], v: u32, near: &[bool; 255], x: usize) -> [bool; 255]
+fn picked(
+    form: &[u32],
+    column: &[u32],
+    row: &[u32],
+    v: u32,
+    near: &[bool; 255],
+    x: usize,
+) -> [bool; 255]
     requires { ⌜ Sized (now form) (now column) (now row) v × Within (now form) (now near) × (x < none) ⌝ }
     ensures { λ r. ⌜ Marks (OfLabel (view (now (form .entry))) (now (column .entry)) (now (row .entry)) v (now (near .entry)) x) (replicate 255 false) r ⌝ }
 {
@@ -93,5 +109,9 @@ pub fn advance(form: &[u32], begins: &[usize], column: &[u32], row: &[u32], fron
     let near = reached(form, begins, &set);
     let x = lowest(form, column, row, v, &near);
     let next = picked(form, column, row, v, &near, x);
-    Front { label: x as u8, left: v - column[x], set: next }
+    Front {
+        label: x as u8,
+        left: v - column[x],
+        set: next,
+    }
 }

@@ -19,7 +19,16 @@ pub struct Front {
 }
 
 // Writes the best path, one label for each column. The row of column t begins at base + t * stride of the work memory.
-pub fn trace(form: &[u32], costs: &[u32], width: usize, count: usize, work: &[u32], base: usize, stride: usize, path: &mut [u8])
+pub fn trace(
+    form: &[u32],
+    costs: &[u32],
+    width: usize,
+    count: usize,
+    work: &[u32],
+    base: usize,
+    stride: usize,
+    path: &mut [u8],
+)
     requires { ⌜ Ready (now form) (matrix (now costs) width count) (now work) base stride × (count ≤ length (now path)) ⌝ }
     ensures { λ _. ⌜ Traced (view (now (form .entry))) (matrix (now (costs .entry)) width count) (now (path .entry)) (now (path .exit)) ⌝ }
 {
@@ -27,7 +36,11 @@ pub fn trace(form: &[u32], costs: &[u32], width: usize, count: usize, work: &[u3
     let states = 2 * letters(form) + 1;
     let mut set = [false; 255];
     set[0] = true;
-    let mut front = Front { label: 0, left: work[base], set: set };
+    let mut front = Front {
+        label: 0,
+        left: work[base],
+        set: set,
+    };
     let mut t = 0;
     while t < count {
         let at = t * width;

@@ -35,9 +35,10 @@ fill-rows-requires c κs =
     let m = matrix (now (a .costs)) (a .width) (a .count) in
     let room = p .room in
     let l = last .kept .1 .0 in
-    rw (c .before .before .before .before .before .letters .ensures)
-    (record { valid = p .valid; width = p .width; size = p .size; row = omega arith; room = omega arith },
-    (rw (c .before .before .before .before .before .letters .ensures) at (last .ensures)) .row m (a .count))
+    rw (c .before .before .before .before .before .letters .ensures) (
+      record { valid = p .valid; width = p .width; size = p .size; row = omega arith; room = omega arith },
+      (rw (c .before .before .before .before .before .letters .ensures) at (last .ensures)) .row m (a .count),
+    )
 
 slice-read-result : tie.Need-slice-read-result
 slice-read-result c = search needs
