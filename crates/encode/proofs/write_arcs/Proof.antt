@@ -47,7 +47,7 @@ write-row-requires c κs =
       omega arith,
       omega arith,
       filling-room (take (s .n) (now (s .form)) ++ arcsBy (s .letters) (now (s .follow))) (now (s .form)) (row (l .source)) (l .form) (flatMap row (from (s .letters) (l .source + 1))) (l .m)
-          (rw (flat-here (s .letters) row (l .source) (c .before .before .before .loop-test .taken)) at (l .inv .2)),
+          (rw (flat-here (s .letters) row (l .source) (omega arith)) at (l .inv .2)),
     )
 
 add-source : tie.Need-add-source Inv-loop μ-loop
@@ -66,7 +66,7 @@ loop-again c =
       omega arith,
       filling-stored (take (s .n) (now (s .form)) ++ arcsBy (s .letters) (now (s .follow))) (now (s .form)) (row (l .source)) (l .form) (wrote .last .1 .1 .1 .0)
           (flatMap row (from (s .letters) (l .source + 1))) (l .m) (wrote .result)
-          (rw (flat-here (s .letters) row (l .source) (c .before .before .before .before .before .before .loop-test .taken)) at (l .inv .2)) (wrote .ensures),
+          (rw (flat-here (s .letters) row (l .source) (omega arith)) at (l .inv .2)) (wrote .ensures),
     )
 
 same-length : tie.Need-same-length Inv-loop μ-loop
@@ -80,7 +80,7 @@ returns c =
     let s = c .before .before .before .args in
     let l = c .before .loop in
     filling-stored-all (arcsBy (s .letters) (now (s .follow))) (now (s .form)) (s .n) (c .before .before .before .pre .2) (l .form) (l .m)
-    (rw (flat-past (s .letters) (rowAt (s .letters) (now (s .follow))) (l .source) (c .loop-test .left)) at (l .inv .2))
+    (rw (flat-past (s .letters) (rowAt (s .letters) (now (s .follow))) (l .source) (omega arith)) at (l .inv .2))
 
 pub write-arcs-spec : {M : Type 1} → statement M
 write-arcs-spec =

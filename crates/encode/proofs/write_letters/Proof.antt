@@ -62,7 +62,7 @@ room c =
     let word = letterBy (now (s .labels)) (now (s .first)) (now (s .last)) in
     let h =
     filling-room (take 1 (now (s .form)) ++ whole) (now (s .form)) (word (l .letter) ∷ []) (l .form) (map word (from (s .letters) (l .letter + 1))) (l .letter)
-    (rw (map-here (s .letters) word (l .letter) (c .loop-test .taken)) at (l .inv .2)) in
+    (rw (map-here (s .letters) word (l .letter) (omega arith)) at (l .inv .2)) in
     omega arith
 
 mul-form : tie.Need-mul-form Inv-loop μ-loop
@@ -89,7 +89,7 @@ loop-again c =
       omega arith,
       rw (w .ensures)
           (filling-more (take 1 f ++ whole) f (l .form) (map word (from (s .letters) (l .letter + 1))) (l .letter) (word (l .letter))
-          (rw (map-here (s .letters) word (l .letter) (c .before .before .before .before .loop-test .taken)) at (l .inv .2))),
+          (rw (map-here (s .letters) word (l .letter) (omega arith)) at (l .inv .2))),
     )
 
 same-length : tie.Need-same-length Inv-loop μ-loop
@@ -107,7 +107,7 @@ returns c =
     let whole = lettersBy (s .letters) (now (s .labels)) (now (s .first)) (now (s .last)) in
     let word = letterBy (now (s .labels)) (now (s .first)) (now (s .last)) in
     filling-stored-all whole (now (s .form)) 1 (c .before .before .before .before .before .before .pre .1) (l .form) (l .letter)
-    (rw (map-past (s .letters) word (l .letter) (c .loop-test .left)) at (l .inv .2))
+    (rw (map-past (s .letters) word (l .letter) (omega arith)) at (l .inv .2))
 
 pub write-letters-spec : {M : Type 1} → statement M
 write-letters-spec =

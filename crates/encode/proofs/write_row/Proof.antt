@@ -49,7 +49,7 @@ put-arc-requires c κs =
       omega arith,
       filling-room (take (s .n) f ++ rowBy (s .letters) r (s .source)) f (keeping (has r (l .target)) (arcWord (s .source) (l .target)) []) (l .form)
           (map (arcWord (s .source)) (keep (has r) (from (s .letters) (l .target + 1)))) (l .m)
-          (rw (row-here (s .letters) r (s .source) (l .target) (c .before .before .loop-test .taken)) at (l .inv .2)),
+          (rw (row-here (s .letters) r (s .source) (l .target) (omega arith)) at (l .inv .2)),
     )
 
 add-target : tie.Need-add-target Inv-loop μ-loop
@@ -69,7 +69,7 @@ loop-again c =
       omega arith,
       filling-stored (take (s .n) f ++ rowBy (s .letters) r (s .source)) f (keeping (has r (l .target)) (arcWord (s .source) (l .target)) []) (l .form) (put .last .0)
           (map (arcWord (s .source)) (keep (has r) (from (s .letters) (l .target + 1)))) (l .m) (put .result)
-          (rw (row-here (s .letters) r (s .source) (l .target) (c .before .before .before .before .before .loop-test .taken)) at (l .inv .2)) (put .ensures),
+          (rw (row-here (s .letters) r (s .source) (l .target) (omega arith)) at (l .inv .2)) (put .ensures),
     )
 
 same-length : tie.Need-same-length Inv-loop μ-loop
@@ -87,7 +87,7 @@ returns c =
     let r = now (s .row) in
     let f = now (s .form) in
     filling-stored-all (rowBy (s .letters) r (s .source)) f (s .n) (c .before .before .before .before .pre .3) (l .form) (l .m)
-    (rw (row-past (s .letters) r (s .source) (l .target) (c .loop-test .left)) at (l .inv .2))
+    (rw (row-past (s .letters) r (s .source) (l .target) (omega arith)) at (l .inv .2))
 
 pub write-row-spec : {M : Type 1} → statement M
 write-row-spec =
