@@ -3,4 +3,3 @@ pub mod Form
 pub mod Accepted
 pub mod Valid
 pub mod Encode
-pub mod Same

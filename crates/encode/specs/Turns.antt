@@ -36,11 +36,11 @@ module _ (l : ℕ) where
 
   -- the arcs of a row
   module _ (p : ℕ → Bool) where
-    pub keep-here : (j : ℕ) → j ≤ l → keep p (from l j) ≡ keeping (p j) j (keep p (from l (j + 1)))
+    keep-here : (j : ℕ) → j ≤ l → keep p (from l j) ≡ keeping (p j) j (keep p (from l (j + 1)))
     unfolding keep
     keep-here j h = ap (keep p) (here j h)
 
-    pub keep-past : (j : ℕ) → l < j → keep p (from l j) ≡ []
+    keep-past : (j : ℕ) → l < j → keep p (from l j) ≡ []
     unfolding keep
     keep-past j h = ap (keep p) (past j h)
 

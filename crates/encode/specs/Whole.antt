@@ -1,14 +1,14 @@
 -- The whole form, written in three parts: the head, the letters from place 1 on, and the arcs behind them. And how long it is.
 -- Assumes nothing.
 use Prim.Native.Nat.{ℕ, _+_, _≤_}
-use mathlib.Core.Path.{_≡_, sym, ap, subst, _∙_}
+use mathlib.Core.Path.{_≡_, ap, subst, _∙_}
 use mathlib.Core.Bool.{Bool}
 use mathlib.Core.List.{List, [], _∷_, _++_, append-nil}
 use native.Mathlib.Omega.{arith}
 use lib.ListN.{length, set, length-append, length-map}
 use Rattle.lists.specs.Ascending.{numbers, length-numbers}
 use Rattle.lists.specs.Written.{Filling, Stored, Wrote, filling-none, filling-more, filling-stored, filling-room, filling-all}
-use Rattle.automaton.specs.Form.{headWord, encode}
+use Rattle.automaton.specs.Form.{encode}
 use Rattle.encode.specs.Arrays.{arrayed}
 use Rattle.encode.specs.Parts.{letterBy, lettersBy, arcsBy, arrayed-words}
 
@@ -38,4 +38,4 @@ unfolding lettersBy
 length-words k l empty labels first last follow =
     let letters = lettersBy l labels first last in
     let size : length letters ≡ l = length-map (numbers 1 l) (letterBy labels first last) ∙ length-numbers 1 l in
-    ap length (arrayed-words l empty labels first last follow k) ∙ omega (arith, length-append letters (arcsBy l follow))
+    ap length (arrayed-words empty labels first last follow l k) ∙ omega (arith, length-append letters (arcsBy l follow))

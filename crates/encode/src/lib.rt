@@ -26,30 +26,34 @@ fn narrow(x: usize) -> u32
     x as u32
 }
 
+// 1 if it holds, else 0.
 fn one_if(b: bool) -> usize
     ensures { λ r. ⌜ (r ≡ bit b) × (r ≤ 1) ⌝ }
 {
     if b { 1 } else { 0 }
 }
 
+// The head of a form with l letters over an alphabet of k characters.
 fn head_word(l: usize, empty: bool, k: usize) -> u32
     requires { ⌜ (l ≤ 255) × (k ≤ 255) ⌝ }
     ensures { λ r. ⌜ r ≡ headWord l empty k ⌝ }
 {
-    narrow(268435456 + k * 65536 + one_if(empty) * 256 + l)
+    narrow(0x10000000 + k * 0x10000 + one_if(empty) * 0x100 + l)
 }
 
+// The word of a letter.
 fn letter_word(label: u8, first: bool, last: bool) -> u32
     ensures { λ r. ⌜ r ≡ letterWord label first last ⌝ }
 {
-    narrow(536870912 + one_if(last) * 512 + one_if(first) * 256 + wide(label))
+    narrow(0x20000000 + one_if(last) * 0x200 + one_if(first) * 0x100 + wide(label))
 }
 
+// The word of an arc from letter to letter.
 fn arc_word(source: usize, target: usize) -> u32
     requires { ⌜ (source ≤ 255) × (target ≤ 255) ⌝ }
     ensures { λ r. ⌜ r ≡ arcWord source target ⌝ }
 {
-    narrow(805306368 + source * 256 + target)
+    narrow(0x30000000 + source * 0x100 + target)
 }
 
 // How many of the letters are in the set.
@@ -80,28 +84,28 @@ fn count_arcs(letters: usize, follow: &[[bool; 127]]) -> usize
     n
 }
 
-// The arc from letter i to letter j goes to place n of the form, if there is one; the next place.
-fn put_arc(form: &mut [u32], n: usize, i: usize, j: usize, there: bool) -> usize
-    requires { ⌜ (i ≤ 127) × (j ≤ 127) × (n + length (keeping there (arcWord i j) []) ≤ length (now form)) ⌝ }
-    ensures { λ r. ⌜ Stored (keeping there (arcWord i j) []) n (now (form .entry)) (now (form .exit)) r ⌝ }
+// The arc from one letter to another goes to place n of the form, if there is one; the next place.
+fn put_arc(form: &mut [u32], n: usize, source: usize, target: usize, there: bool) -> usize
+    requires { ⌜ (source ≤ 127) × (target ≤ 127) × (n + length (keeping there (arcWord source target) []) ≤ length (now form)) ⌝ }
+    ensures { λ r. ⌜ Stored (keeping there (arcWord source target) []) n (now (form .entry)) (now (form .exit)) r ⌝ }
 {
     if there {
-        form[n] = arc_word(i, j);
+        form[n] = arc_word(source, target);
         return n + 1;
     }
     n
 }
 
-// Writes the arcs of letter i from place n on; the next place.
-fn write_row(letters: usize, row: &[bool], i: usize, form: &mut [u32], n: usize) -> usize
-    requires { ⌜ (i ≤ 127) × (letters ≤ 127) × (letters ≤ length (now row)) × (n + length (rowBy letters (now row) i) ≤ length (now form)) ⌝ }
-    ensures { λ r. ⌜ Stored (rowBy letters (now (row .entry)) i) n (now (form .entry)) (now (form .exit)) r ⌝ }
+// Writes the arcs of one letter from place n on; the next place.
+fn write_row(letters: usize, row: &[bool], source: usize, form: &mut [u32], n: usize) -> usize
+    requires { ⌜ (source ≤ 127) × (letters ≤ 127) × (letters ≤ length (now row)) × (n + length (rowBy letters (now row) source) ≤ length (now form)) ⌝ }
+    ensures { λ r. ⌜ Stored (rowBy letters (now (row .entry)) source) n (now (form .entry)) (now (form .exit)) r ⌝ }
 {
     let mut m = n;
-    let mut j: usize = 1;
-    while j <= letters {
-        m = put_arc(form, m, i, j, row[j - 1]);
-        j += 1;
+    let mut target: usize = 1;
+    while target <= letters {
+        m = put_arc(form, m, source, target, row[target - 1]);
+        target += 1;
     }
     m
 }
@@ -112,10 +116,10 @@ fn write_arcs(letters: usize, follow: &[[bool; 127]], form: &mut [u32], n: usize
     ensures { λ r. ⌜ Stored (arcsBy letters (now (follow .entry))) n (now (form .entry)) (now (form .exit)) r ⌝ }
 {
     let mut m = n;
-    let mut i: usize = 1;
-    while i <= letters {
-        m = write_row(letters, &follow[i - 1], i, form, m);
-        i += 1;
+    let mut source: usize = 1;
+    while source <= letters {
+        m = write_row(letters, &follow[source - 1], source, form, m);
+        source += 1;
     }
     m
 }
@@ -132,12 +136,12 @@ fn write_letters(
     requires { ⌜ 1 + length (lettersBy letters (now labels) (now first) (now last)) ≤ length (now form) ⌝ }
     ensures { λ r. ⌜ Stored (lettersBy letters (now (labels .entry)) (now (first .entry)) (now (last .entry))) 1 (now (form .entry)) (now (form .exit)) r ⌝ }
 {
-    let mut j: usize = 1;
-    while j <= letters {
-        form[j] = letter_word(labels[j - 1], first[j - 1], last[j - 1]);
-        j += 1;
+    let mut letter: usize = 1;
+    while letter <= letters {
+        form[letter] = letter_word(labels[letter - 1], first[letter - 1], last[letter - 1]);
+        letter += 1;
     }
-    j
+    letter
 }
 
 // Writes the form; its length.

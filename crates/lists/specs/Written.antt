@@ -1,12 +1,12 @@
 -- Lent memory of which a beginning was written: what every promise says of a lent list, and the loop that writes it from the front.
 -- Assumes nothing.
-use Prim.Native.Nat.{ℕ, zero, suc, _+_, _-_, _<_, _≤_}
-use mathlib.Core.Path.{_≡_, refl, sym, ap, ap₂, _∙_, subst}
+use Prim.Native.Nat.{ℕ, suc, _+_, _<_, _≤_}
+use mathlib.Core.Path.{_≡_, refl, sym, ap, _∙_, subst}
 use mathlib.Core.List.{List, [], _∷_, _++_, append-assoc, append-nil}
 use native.Mathlib.Numerals.{add-one}
 use native.Mathlib.Omega.{arith}
-use lib.ListN.{length, getD, take, drop, set, length-append, length-take, length-drop, take-append-drop}
-use lib.Seq.{drop-cons, take-suc, set-at, sets, length-take-le, take-length, drop-drop, take-all, take-at, drop-at}
+use lib.ListN.{length, getD, take, drop, set, length-append, length-drop, take-append-drop}
+use lib.Seq.{drop-cons, take-suc, set-at, sets, length-take-le, take-length, take-at, drop-at}
 
 module _ {A : Type 0} where
   -- the list in front, and behind it the memory as it was

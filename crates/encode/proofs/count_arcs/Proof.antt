@@ -48,14 +48,14 @@ loop-again : tie.Need-loop-again Inv-loop μ-loop
 loop-again c =
     let s = c .before .before .before .before .before .args in
     let l = c .before .before .before .before .loop in
-    let t = count-row-here (s .letters) (now (s .follow)) (l .i) (c .before .before .before .loop-test .taken) in
+    let t = count-row-here (s .letters) (now (s .follow)) (l .i) (omega arith) in
     (omega arith, omega arith, omega arith, omega arith)
 
 returns : tie.Need-returns Inv-loop μ-loop
 returns c =
     let s = c .before .before .args in
     let l = c .before .loop in
-    let z = count-row-past (s .letters) (now (s .follow)) (l .i) (c .loop-test .left) in
+    let z = count-row-past (s .letters) (now (s .follow)) (l .i) (omega arith) in
     (omega arith, omega arith)
 
 pub count-arcs-spec : {M : Type 1} → statement M

@@ -47,14 +47,14 @@ loop-again : tie.Need-loop-again Inv-loop μ-loop
 loop-again c =
     let s = c .before .before .before .before .before .args in
     let l = c .before .before .before .loop in
-    let t = count-here (s .letters) (now (s .row)) (l .j) (c .before .before .loop-test .taken) in
+    let t = count-here (s .letters) (now (s .row)) (l .j) (omega arith) in
     (omega arith, omega arith, omega arith)
 
 returns : tie.Need-returns Inv-loop μ-loop
 returns c =
     let s = c .before .before .before .args in
     let l = c .before .loop in
-    let z = count-past (s .letters) (now (s .row)) (l .j) (c .loop-test .left) in
+    let z = count-past (s .letters) (now (s .row)) (l .j) (omega arith) in
     (omega arith, omega arith)
 
 pub count-row-spec : {M : Type 1} → statement M

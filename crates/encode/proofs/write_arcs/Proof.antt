@@ -1,10 +1,10 @@
 -- `encode::write_arcs` meets its contract: what stands in front, what is written and the rows still to come make the whole.
 -- Assumes nothing.
 use Prim.Native.Nat.{_+_, _-_, _≤_}
-use mathlib.Core.Path.{_≡_, subst}
+use mathlib.Core.Path.{subst}
 use mathlib.Core.List.{_++_, flatMap}
 use native.Mathlib.Omega.{arith}
-use lib.ListN.{length, take}
+use lib.ListN.{take}
 use denote.Ref.{now}
 use Rattle.lists.specs.Written.{Filling, filling-from, filling-stored, filling-room, filling-length, filling-stored-all}
 use Rattle.encode.specs.Parts.{rowAt, arcsBy}
@@ -13,11 +13,11 @@ use Rattle.encode.proofs.write_arcs.Statement.{statement}
 use Rattle.encode.proofs.write_arcs.Tie as tie
 
 abbrev Inv-loop : tie.InvT-loop
-Inv-loop letters follow form₀ n m₀ i₀ form m i =
-    (1 ≤ i) × (i ≤ letters + 1) × Filling (take n form₀ ++ arcsBy letters follow) form₀ form (flatMap (rowAt letters follow) (from letters i)) m
+Inv-loop letters follow form₀ n m₀ source₀ form m source =
+    (1 ≤ source) × (source ≤ letters + 1) × Filling (take n form₀ ++ arcsBy letters follow) form₀ form (flatMap (rowAt letters follow) (from letters source)) m
 
 abbrev μ-loop : tie.MeasureT-loop
-μ-loop letters follow form₀ n m₀ i₀ form m i = letters + 1 - i
+μ-loop letters follow form₀ n m₀ source₀ form m source = letters + 1 - source
 
 loop-holds : tie.Need-loop-holds Inv-loop μ-loop
 loop-holds c =
@@ -46,12 +46,12 @@ write-row-requires c κs =
       omega arith,
       omega arith,
       omega arith,
-      filling-room (take (s .n) (now (s .form)) ++ arcsBy (s .letters) (now (s .follow))) (now (s .form)) (row (l .i)) (l .form) (flatMap row (from (s .letters) (l .i + 1))) (l .m)
-          (rw (flat-here (s .letters) row (l .i) (c .before .before .before .loop-test .taken)) at (l .inv .2)),
+      filling-room (take (s .n) (now (s .form)) ++ arcsBy (s .letters) (now (s .follow))) (now (s .form)) (row (l .source)) (l .form) (flatMap row (from (s .letters) (l .source + 1))) (l .m)
+          (rw (flat-here (s .letters) row (l .source) (omega arith)) at (l .inv .2)),
     )
 
-add-i : tie.Need-add-i Inv-loop μ-loop
-add-i c = omega arith
+add-source : tie.Need-add-source Inv-loop μ-loop
+add-source c = omega arith
 
 loop-less : tie.Need-loop-less Inv-loop μ-loop
 loop-less c = omega arith
@@ -64,23 +64,23 @@ loop-again c =
     let wrote = c .before .before .write-row in (
       omega arith,
       omega arith,
-      filling-stored (take (s .n) (now (s .form)) ++ arcsBy (s .letters) (now (s .follow))) (now (s .form)) (row (l .i)) (l .form) (wrote .last .1 .1 .1 .0)
-          (flatMap row (from (s .letters) (l .i + 1))) (l .m) (wrote .result)
-          (rw (flat-here (s .letters) row (l .i) (c .before .before .before .before .before .before .loop-test .taken)) at (l .inv .2)) (wrote .ensures),
+      filling-stored (take (s .n) (now (s .form)) ++ arcsBy (s .letters) (now (s .follow))) (now (s .form)) (row (l .source)) (l .form) (wrote .last .1 .1 .1 .0)
+          (flatMap row (from (s .letters) (l .source + 1))) (l .m) (wrote .result)
+          (rw (flat-here (s .letters) row (l .source) (omega arith)) at (l .inv .2)) (wrote .ensures),
     )
 
 same-length : tie.Need-same-length Inv-loop μ-loop
 same-length c =
     let s = c .before .before .before .args in
     let l = c .before .loop in
-    filling-length (take (s .n) (now (s .form)) ++ arcsBy (s .letters) (now (s .follow))) (now (s .form)) (l .form) (flatMap (rowAt (s .letters) (now (s .follow))) (from (s .letters) (l .i))) (l .m) (l .inv .2)
+    filling-length (take (s .n) (now (s .form)) ++ arcsBy (s .letters) (now (s .follow))) (now (s .form)) (l .form) (flatMap (rowAt (s .letters) (now (s .follow))) (from (s .letters) (l .source))) (l .m) (l .inv .2)
 
 returns : tie.Need-returns Inv-loop μ-loop
 returns c =
     let s = c .before .before .before .args in
     let l = c .before .loop in
     filling-stored-all (arcsBy (s .letters) (now (s .follow))) (now (s .form)) (s .n) (c .before .before .before .pre .2) (l .form) (l .m)
-    (rw (flat-past (s .letters) (rowAt (s .letters) (now (s .follow))) (l .i) (c .loop-test .left)) at (l .inv .2))
+    (rw (flat-past (s .letters) (rowAt (s .letters) (now (s .follow))) (l .source) (omega arith)) at (l .inv .2))
 
 pub write-arcs-spec : {M : Type 1} → statement M
 write-arcs-spec =
@@ -93,7 +93,7 @@ write-arcs-spec =
     mul-write-row
     shared-slice-element-write-row
     write-row-requires
-    add-i
+    add-source
     loop-less
     loop-again
     same-length

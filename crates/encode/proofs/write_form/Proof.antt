@@ -1,6 +1,6 @@
 -- `encode::write_form` meets its contract: row 10 where the memory is shorter than the form, else the form's words. Assumes nothing.
 use Prim.Native.Nat.{_<_, _≤_}
-use mathlib.Core.Path.{_≡_, _∙_}
+use mathlib.Core.Path.{_∙_}
 use mathlib.Core.List.{[]}
 use native.Mathlib.Omega.{arith}
 use lib.ListN.{length}

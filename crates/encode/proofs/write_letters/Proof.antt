@@ -1,8 +1,8 @@
 -- `encode::write_letters` meets its contract: the head's place, what is written and the letters still to come make the whole.
 -- Assumes nothing.
 use Prim.Native.Nat.{_+_, _-_, _≤_, _<_}
-use mathlib.Core.Path.{_≡_, subst}
-use mathlib.Core.List.{List, [], _∷_, _++_, map}
+use mathlib.Core.Path.{subst}
+use mathlib.Core.List.{[], _∷_, _++_, map}
 use native.Mathlib.Omega.{arith}
 use lib.ListN.{length, take}
 use borrow.Author.Needs.{needs}
@@ -14,12 +14,12 @@ use Rattle.encode.proofs.write_letters.Statement.{statement}
 use Rattle.encode.proofs.write_letters.Tie as tie
 
 abbrev Inv-loop : tie.InvT-loop
-Inv-loop letters labels first last form₀ j₀ form j =
-    (1 ≤ j) × (j ≤ letters + 1)
-    × Filling (take 1 form₀ ++ lettersBy letters labels first last) form₀ form (map (letterBy labels first last) (from letters j)) j
+Inv-loop letters labels first last form₀ letter₀ form letter =
+    (1 ≤ letter) × (letter ≤ letters + 1)
+    × Filling (take 1 form₀ ++ lettersBy letters labels first last) form₀ form (map (letterBy labels first last) (from letters letter)) letter
 
 abbrev μ-loop : tie.MeasureT-loop
-μ-loop letters labels first last form₀ j₀ form j = letters + 1 - j
+μ-loop letters labels first last form₀ letter₀ form letter = letters + 1 - letter
 
 loop-holds : tie.Need-loop-holds Inv-loop μ-loop
 loop-holds c =
@@ -54,15 +54,15 @@ letter-word-requires : tie.Need-letter-word-requires Inv-loop μ-loop
 letter-word-requires c κs = search needs
 
 -- the form has room for the letter
-room : (c : tie.In-loop Inv-loop μ-loop) → c .before .loop .j < length (c .before .loop .form)
+room : (c : tie.In-loop Inv-loop μ-loop) → c .before .loop .letter < length (c .before .loop .form)
 room c =
     let s = c .before .before .before .before .before .before .args in
     let l = c .before .loop in
     let whole = lettersBy (s .letters) (now (s .labels)) (now (s .first)) (now (s .last)) in
-    let letter = letterBy (now (s .labels)) (now (s .first)) (now (s .last)) in
+    let word = letterBy (now (s .labels)) (now (s .first)) (now (s .last)) in
     let h =
-    filling-room (take 1 (now (s .form)) ++ whole) (now (s .form)) (letter (l .j) ∷ []) (l .form) (map letter (from (s .letters) (l .j + 1))) (l .j)
-    (rw (map-here (s .letters) letter (l .j) (c .loop-test .taken)) at (l .inv .2)) in
+    filling-room (take 1 (now (s .form)) ++ whole) (now (s .form)) (word (l .letter) ∷ []) (l .form) (map word (from (s .letters) (l .letter + 1))) (l .letter)
+    (rw (map-here (s .letters) word (l .letter) (omega arith)) at (l .inv .2)) in
     omega arith
 
 mul-form : tie.Need-mul-form Inv-loop μ-loop
@@ -71,8 +71,8 @@ mul-form c = omega arith
 slice-write-form : tie.Need-slice-write-form Inv-loop μ-loop
 slice-write-form c = let h = room (c .before .before .before .before) in omega arith
 
-add-j : tie.Need-add-j Inv-loop μ-loop
-add-j c = omega arith
+add-letter : tie.Need-add-letter Inv-loop μ-loop
+add-letter c = omega arith
 
 loop-less : tie.Need-loop-less Inv-loop μ-loop
 loop-less c = omega arith
@@ -83,13 +83,13 @@ loop-again c =
     let l = c .before .before .before .before .before .loop in
     let f = now (s .form) in
     let whole = lettersBy (s .letters) (now (s .labels)) (now (s .first)) (now (s .last)) in
-    let letter = letterBy (now (s .labels)) (now (s .first)) (now (s .last)) in
+    let word = letterBy (now (s .labels)) (now (s .first)) (now (s .last)) in
     let w = c .letter-word in (
       omega arith,
       omega arith,
       rw (w .ensures)
-          (filling-more (take 1 f ++ whole) f (l .form) (map letter (from (s .letters) (l .j + 1))) (l .j) (letter (l .j))
-          (rw (map-here (s .letters) letter (l .j) (c .before .before .before .before .loop-test .taken)) at (l .inv .2))),
+          (filling-more (take 1 f ++ whole) f (l .form) (map word (from (s .letters) (l .letter + 1))) (l .letter) (word (l .letter))
+          (rw (map-here (s .letters) word (l .letter) (omega arith)) at (l .inv .2))),
     )
 
 same-length : tie.Need-same-length Inv-loop μ-loop
@@ -97,17 +97,17 @@ same-length c =
     let s = c .before .before .before .before .before .before .args in
     let l = c .before .loop in
     let whole = lettersBy (s .letters) (now (s .labels)) (now (s .first)) (now (s .last)) in
-    let letter = letterBy (now (s .labels)) (now (s .first)) (now (s .last)) in
-    filling-length (take 1 (now (s .form)) ++ whole) (now (s .form)) (l .form) (map letter (from (s .letters) (l .j))) (l .j) (l .inv .2)
+    let word = letterBy (now (s .labels)) (now (s .first)) (now (s .last)) in
+    filling-length (take 1 (now (s .form)) ++ whole) (now (s .form)) (l .form) (map word (from (s .letters) (l .letter))) (l .letter) (l .inv .2)
 
 returns : tie.Need-returns Inv-loop μ-loop
 returns c =
     let s = c .before .before .before .before .before .before .args in
     let l = c .before .loop in
     let whole = lettersBy (s .letters) (now (s .labels)) (now (s .first)) (now (s .last)) in
-    let letter = letterBy (now (s .labels)) (now (s .first)) (now (s .last)) in
-    filling-stored-all whole (now (s .form)) 1 (c .before .before .before .before .before .before .pre .1) (l .form) (l .j)
-    (rw (map-past (s .letters) letter (l .j) (c .loop-test .left)) at (l .inv .2))
+    let word = letterBy (now (s .labels)) (now (s .first)) (now (s .last)) in
+    filling-stored-all whole (now (s .form)) 1 (c .before .before .before .before .before .before .pre .1) (l .form) (l .letter)
+    (rw (map-past (s .letters) word (l .letter) (omega arith)) at (l .inv .2))
 
 pub write-letters-spec : {M : Type 1} → statement M
 write-letters-spec =
@@ -125,7 +125,7 @@ write-letters-spec =
     letter-word-requires
     mul-form
     slice-write-form
-    add-j
+    add-letter
     loop-less
     loop-again
     same-length

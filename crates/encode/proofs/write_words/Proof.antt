@@ -1,7 +1,6 @@
 -- `encode::write_words` meets its contract: the head, the letters and the arcs are the form's words. Assumes nothing.
-use Prim.Native.Nat.{_≤_}
 use mathlib.Core.Path.{_≡_, sym, ap, _∙_}
-use mathlib.Core.List.{List, _∷_, _++_}
+use mathlib.Core.List.{_∷_, _++_}
 use native.Mathlib.Omega.{arith}
 use lib.ListN.{length-set}
 use borrow.Author.Needs.{needs}
@@ -32,7 +31,7 @@ words :
 words c =
     let s = c .before .before .before .before .before .args in
     let rest = lettersBy (s .letters) (now (s .labels)) (now (s .first)) (now (s .last)) ++ arcsBy (s .letters) (now (s .follow)) in
-    arrayed-words (s .letters) (s .empty) (now (s .labels)) (now (s .first)) (now (s .last)) (now (s .follow)) (s .k)
+    arrayed-words (s .empty) (now (s .labels)) (now (s .first)) (now (s .last)) (now (s .follow)) (s .letters) (s .k)
     ∙ ap (λ head. head ∷ rest) (sym (c .head-word .ensures))
 
 write-letters-requires : tie.Need-write-letters-requires
