@@ -9,13 +9,13 @@ ghost use mathlib.Core.Bool.{false};
 ghost use Prim.Native.Nat.{_*_, _<_, _≤_, min};
 ghost use lib.ListN.{length, replicate};
 ghost use Rattle.lists.specs.Least.{Least};
-ghost use Rattle.lists.specs.Marks.{Has, Marks};
+ghost use Rattle.lists.specs.Marks.{Marks};
 ghost use Rattle.automaton.specs.Form.{lettersOf, view};
 ghost use Rattle.form.specs.Starts.{ArcStarts};
 ghost use Rattle.trace.specs.Steps.{Within};
 ghost use Rattle.trace.specs.Column.{NONE as none, Sized, Offers, Offered, OfLabel, Picks, SomeKept, Taken};
 
-// No label.
+// No label: all labels are below it.
 const NONE: usize = 256;
 
 fn lower(a: usize, b: usize) -> usize
@@ -24,7 +24,7 @@ fn lower(a: usize, b: usize) -> usize
     if a < b { a } else { b }
 }
 
-// The label of state u, if the state is in the set and keeps to the price v.
+// The label of state u if it is in the set and keeps to the price v; else NONE.
 fn offered(form: &[u32], column: &[u32], row: &[u32], v: u32, near: &[bool; 255], u: usize) -> usize
     requires { ⌜ Sized (now form) (now column) (now row) v × (u ≤ 2 * lettersOf (now form)) ⌝ }
     ensures { λ r. ⌜ Least none (Offers (view (now (form .entry))) (now (column .entry)) (now (row .entry)) v (now (near .entry)) u) r ⌝ }
@@ -37,10 +37,10 @@ fn offered(form: &[u32], column: &[u32], row: &[u32], v: u32, near: &[bool; 255]
     if v < c {
         return NONE;
     }
-    if row[u] != v - c {
-        return NONE;
+    if row[u] == v - c {
+        return x;
     }
-    x
+    NONE
 }
 
 // The lowest label of a state of the set that keeps to the price v.
@@ -59,7 +59,16 @@ fn lowest(form: &[u32], column: &[u32], row: &[u32], v: u32, near: &[bool; 255])
 }
 
 // Marks state u, if its label is x and it is in the set and keeps to the price v.
-fn pick(form: &[u32], column: &[u32], row: &[u32], v: u32, near: &[bool; 255], x: usize, u: usize, set: &mut [bool; 255])
+fn pick(
+    form: &[u32],
+    column: &[u32],
+    row: &[u32],
+    v: u32,
+    near: &[bool; 255],
+    x: usize,
+    u: usize,
+    set: &mut [bool; 255],
+)
     requires { ⌜ Sized (now form) (now column) (now row) v × (u ≤ 2 * lettersOf (now form)) × (x < none) × (length (now set) ≡ 255) ⌝ }
     ensures { λ _. ⌜ Marks (Picks (view (now (form .entry))) (now (column .entry)) (now (row .entry)) v (now (near .entry)) x u) (now (set .entry)) (now (set .exit)) ⌝ }
 {
@@ -69,7 +78,14 @@ fn pick(form: &[u32], column: &[u32], row: &[u32], v: u32, near: &[bool; 255], x
 }
 
 // The states of label x of the set that keep to the price v.
-fn picked(form: &[u32], column: &[u32], row: &[u32], v: u32, near: &[bool; 255], x: usize) -> [bool; 255]
+fn picked(
+    form: &[u32],
+    column: &[u32],
+    row: &[u32],
+    v: u32,
+    near: &[bool; 255],
+    x: usize,
+) -> [bool; 255]
     requires { ⌜ Sized (now form) (now column) (now row) v × Within (now form) (now near) × (x < none) ⌝ }
     ensures { λ r. ⌜ Marks (OfLabel (view (now (form .entry))) (now (column .entry)) (now (row .entry)) v (now (near .entry)) x) (replicate 255 false) r ⌝ }
 {
@@ -93,5 +109,12 @@ pub fn advance(form: &[u32], begins: &[usize], column: &[u32], row: &[u32], fron
     let near = reached(form, begins, &set);
     let x = lowest(form, column, row, v, &near);
     let next = picked(form, column, row, v, &near, x);
-    Front { label: x as u8, left: v - column[x], set: next }
+    let paid = column[x];
+    let left = v - paid;
+    let label = x as u8;
+    Front {
+        label: label,
+        left: left,
+        set: next,
+    }
 }
