@@ -3,3 +3,4 @@ pub mod Form
 pub mod Accepted
 pub mod Valid
 pub mod Encode
+pub mod Same

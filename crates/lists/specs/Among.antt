@@ -1,8 +1,8 @@
 -- Which elements a list has: as a fact, as a test, and after a map, a choice or a joining.
 -- Assumes nothing.
 use Prim.Native.Nat.{ℕ, zero, suc, _+_, _<_, _≤_}
-use mathlib.Core.Path.{_≡_, refl, sym, ap, subst, _∙_}
-use mathlib.Core.Bool.{Bool, true, false, _||_}
+use mathlib.Core.Path.{_≡_, refl, sym, ap, ap₂, subst, _∙_}
+use mathlib.Core.Bool.{Bool, true, false, cond, _||_}
 use mathlib.Core.Logic.{_⊎_, inl, inr}
 use mathlib.Core.List.{List, [], _∷_, _++_, map, flatMap}
 use native.Mathlib.Nat.{le-of-suc-le-suc, not-suc-le-zero}
@@ -87,6 +87,16 @@ module _ {A : Type 0} where
       by (inl l) = inl (inr l)
       by (inr r) = inr r
 
+  -- tests that agree on the list keep the same
+  pub keep-same : (p q : A → Bool) (xs : List A) → ((x : A) → Among x xs → p x ≡ q x) → keep p xs ≡ keep q xs
+  unfolding keep
+  keep-same p q [] h = refl
+  keep-same p q (x ∷ xs) h = ap₂ (λ t ys. keeping t x ys) (h x (inl refl)) (keep-same p q xs (λ y m. h y (inr m)))
+
+  pub keeping-length : (t : Bool) (x : A) (xs : List A) → length (keeping t x xs) ≡ cond t 1 0 + length xs
+  keeping-length true x xs = omega arith
+  keeping-length false x xs = omega arith
+
   pub among-keep : (p : A → Bool) (a : A) (xs : List A) → Among a xs → p a ≡ true → Among a (keep p xs)
   unfolding keep
   among-keep p a [] m h = absurd m
@@ -108,6 +118,16 @@ module _ {A : Type 0} where
       by true e (inl q) ih = (inl q, ap p q ∙ e)
       by true e (inr r) ih = (inr (ih r .0), ih r .1)
       by false e r ih = (inr (ih r .0), ih r .1)
+
+module _ {A B : Type 0} where
+  pub map-same : (f g : A → B) (xs : List A) → ((x : A) → Among x xs → f x ≡ g x) → map f xs ≡ map g xs
+  map-same f g [] e = refl
+  map-same f g (x ∷ xs) e = ap₂ _∷_ (e x (inl refl)) (map-same f g xs (λ y m. e y (inr m)))
+
+  pub flat-same : (f g : A → List B) (xs : List A) → ((x : A) → Among x xs → f x ≡ g x) → flatMap f xs ≡ flatMap g xs
+  unfolding flatMap
+  flat-same f g [] e = refl
+  flat-same f g (x ∷ xs) e = ap₂ _++_ (e x (inl refl)) (flat-same f g xs (λ y m. e y (inr m)))
 
 module _ {A B : Type 0} (f : A → B) where
   pub among-map : (a : A) (xs : List A) → Among a xs → Among (f a) (map f xs)

@@ -1,7 +1,7 @@
 -- Two numbers compared, and two truth values: the case distinctions that proofs make. Assumes nothing.
 use Prim.Native.Nat.{ℕ, _<_, _≤_}
 use mathlib.Core.Path.{_≡_, refl, sym, _∙_}
-use mathlib.Core.Bool.{Bool, true, false, _&&_, _||_, not}
+use mathlib.Core.Bool.{Bool, true, false, _&&_, _||_, not, or-true}
 use mathlib.Core.Logic.{_⊎_, inl, inr}
 use native.Mathlib.Omega.{arith}
 use lib.Dec.{ltb, eqb}
@@ -28,6 +28,10 @@ true-or-false false = inr refl
 -- no truth value is both
 pub not-both : (t : Bool) → t ≡ true → t ≡ false → ⊥
 not-both t e f = let z : _≡_ {A = ℕ} 0 1 = cc in omega arith
+
+pub never-true : (t : Bool) → (t ≡ true → ⊥) → t ≡ false
+never-true true n = absurd (n refl)
+never-true false n = refl
 
 pub and-left : (a b : Bool) → (a && b) ≡ true → a ≡ true
 and-left true b e = refl
@@ -59,6 +63,12 @@ same-truth false false f g = refl
 pub or-either : (a b : Bool) → (a || b) ≡ true → (a ≡ true) ⊎ (b ≡ true)
 or-either true b e = inl refl
 or-either false b e = inr e
+
+pub or-left : (a b : Bool) → a ≡ true → (a || b) ≡ true
+or-left a b e = rw e
+
+pub or-right : (a b : Bool) → b ≡ true → (a || b) ≡ true
+or-right a b e = rw (e, or-true)
 
 pub or-neither : (a b : Bool) → (a || b) ≡ false → (a ≡ false) × (b ≡ false)
 or-neither false b e = (refl, e)

@@ -1,9 +1,13 @@
 -- What a call makes of its input: it is turned away by the first test that holds, or passes. The order of the tests is the list's
 -- and never that of the numbers. Assumes nothing.
 use mathlib.Core.Path.{_≡_, refl, sym, ap, _∙_}
+use Prim.Native.Nat.{ℕ}
+use native.Mathlib.Omega.{arith}
 use mathlib.Core.Bool.{Bool, true, false}
 use mathlib.Core.List.{List, [], _∷_}
 use Rattle.refusal.specs.declared.Refusal.{Refusal}
+use Rattle.refusal.specs.declared.Checked.{Checked}
+use Rattle.refusal.specs.declared.Checked.the-variants.{Passed, Refused}
 
 pub data Verdict (A : Type 0) : Type 0 where
   passed : A → Verdict A
@@ -38,3 +42,23 @@ module _ {A : Type 0} (a : A) where
 
   pub unless-neither : (s t : Bool) (m n : Refusal) → s ≡ false → t ≡ false → unless (check s m ∷ (check t n ∷ [])) a ≡ passed a
   unless-neither s t m n e f = unless-fails s m (check t n ∷ []) e ∙ unless-fails t n [] f ∙ unless-none
+
+-- the checks alone: which of them turns the input away, if any
+unfoldable pub first-of : List Check → Checked
+first-of [] = Passed
+first-of (check true n ∷ cs) = Refused n
+first-of (check false n ∷ cs) = first-of cs
+
+pub first-holds : (t : Bool) (n : Refusal) (cs : List Check) → t ≡ true → first-of (check t n ∷ cs) ≡ Refused n
+unfolding first-of
+first-holds t n cs e = rw e
+
+pub first-fails : (t : Bool) (n : Refusal) (cs : List Check) → t ≡ false → first-of (check t n ∷ cs) ≡ first-of cs
+unfolding first-of
+first-fails t n cs e = rw (e, first-of)
+
+-- where all pass, each does
+pub first-passed : (t : Bool) (n : Refusal) (cs : List Check) → first-of (check t n ∷ cs) ≡ Passed → (t ≡ false) × (first-of cs ≡ Passed)
+unfolding first-of
+first-passed true n cs e = let z : _≡_ {A = ℕ} 0 1 = cc in absurd (omega arith)
+first-passed false n cs e = (refl, e)

@@ -30,6 +30,12 @@ pub enum Counted {
     Refused(Refusal),
 }
 
+// What the checks of a call make of its input.
+pub enum Checked {
+    Passed,
+    Refused(Refusal),
+}
+
 // A row's number in the table.
 pub fn number(r: Refusal) -> u32
     ensures { λ n. ⌜ n ≡ numberOf r ⌝ }

@@ -54,3 +54,26 @@ pub fn counted(answer: Counted) {
         Counted::Refused(r) => refusal(r),
     }
 }
+
+// A call's name, the list given, and its answer.
+pub fn call(name: &[u8], given: &[u8], answer: Counted) {
+    text(name);
+    bytes(given);
+    text(b":");
+    counted(answer);
+    text(b" |");
+}
+
+// A call on bytes, with all of its memory afterwards.
+pub fn filled_bytes(name: &[u8], given: &[u8], answer: Counted, memory: &[u8]) {
+    call(name, given, answer);
+    bytes(memory);
+    text(b"\n");
+}
+
+// A call that fills words.
+pub fn filled_words(name: &[u8], given: &[u8], answer: Counted, memory: &[u32]) {
+    call(name, given, answer);
+    words(memory);
+    text(b"\n");
+}

@@ -1,0 +1,59 @@
+-- `judged::bits` is safe: there are 32 bits. Assumes nothing.
+use Prim.Native.Nat.{_≤_, _-_}
+use native.Mathlib.Omega.{arith}
+use borrow.Author.Needs.{needs}
+use Rattle.judged.proofs.bits.Statement.{statement}
+use Rattle.judged.proofs.bits.Tie as tie
+
+abbrev Inv-loop : tie.InvT-loop
+Inv-loop i b₀ t3 b = b ≤ 32
+
+abbrev μ-loop : tie.MeasureT-loop
+μ-loop i b₀ t3 b = 32 - b
+
+loop-holds : tie.Need-loop-holds Inv-loop μ-loop
+loop-holds c = search needs
+
+turned-requires : tie.Need-turned-requires Inv-loop μ-loop
+turned-requires c κs = search needs
+
+slice-aggregate-write-all : tie.Need-slice-aggregate-write-all Inv-loop μ-loop
+slice-aggregate-write-all c = search needs
+
+write-all-requires : tie.Need-write-all-requires Inv-loop μ-loop
+write-all-requires c κs = search needs
+
+add-b : tie.Need-add-b Inv-loop μ-loop
+add-b c = search needs
+
+loop-less : tie.Need-loop-less Inv-loop μ-loop
+loop-less c = search needs
+
+loop-again : tie.Need-loop-again Inv-loop μ-loop
+loop-again c = search needs
+
+slice-aggregate-write-all-2 : tie.Need-slice-aggregate-write-all-2 Inv-loop μ-loop
+slice-aggregate-write-all-2 c = search needs
+
+write-all-requires-2 : tie.Need-write-all-requires-2 Inv-loop μ-loop
+write-all-requires-2 c κs = search needs
+
+returns : tie.Need-returns Inv-loop μ-loop
+returns c = search needs
+
+pub bits-spec : {M : Type 1} → statement M
+bits-spec =
+    tie.close
+    (tie.spec
+    Inv-loop
+    μ-loop
+    loop-holds
+    turned-requires
+    slice-aggregate-write-all
+    write-all-requires
+    add-b
+    loop-less
+    loop-again
+    slice-aggregate-write-all-2
+    write-all-requires-2
+    returns)

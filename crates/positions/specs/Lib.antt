@@ -1,0 +1,12 @@
+pub mod Opened
+pub mod Opening
+pub mod Letters
+pub mod Numbered
+pub mod Inside
+pub mod Walks
+pub mod Exact
+pub mod Equations
+pub mod Compiled
+pub mod Examples
+pub mod Marked
+pub mod FirstLast

@@ -1,0 +1,1 @@
+// An expression opened, its letters numbered, and its automaton, as definitions and laws: see specs/.
