@@ -1,6 +1,6 @@
 -- One column of the trace, by its costs and the next row of costs to go: the label that a reached state offers if it keeps to the price,
 -- the lowest of these, and the states of that label. Assumes nothing.
-use Prim.Native.Nat.{ℕ, _+_, _*_, _-_, _≤_, _<_}
+use Prim.Native.Nat.{ℕ, _*_, _-_, _≤_, _<_}
 use mathlib.Core.Path.{_≡_, refl, sym, ap, _∙_, subst}
 use mathlib.Core.Bool.{Bool, true, false}
 use mathlib.Core.List.{List}
@@ -10,7 +10,7 @@ use lib.ListN.{length, getD, set as put, replicate}
 use Rattle.lists.specs.Order.{not-both}
 use Rattle.lists.specs.Least.{Least, Among, least-none, least-one, least-same}
 use Rattle.lists.specs.Marks.{Has, has-none, Marks, Turns, marks-none, marks-one, marks-same}
-use Rattle.automaton.specs.Automaton.{Automaton, Proper}
+use Rattle.automaton.specs.Automaton.{Automaton}
 use Rattle.automaton.specs.Form.{lettersOf, alphabetOf, view}
 use Rattle.automaton.specs.Valid.{Valid, valid-proper}
 use Rattle.trellis.specs.Impossible.{TOP, plus}
@@ -122,12 +122,17 @@ module _ (A : Automaton) (column row : List ℕ) (v : ℕ) (near : List Bool) (n
       back : (k : ℕ) → OfLabel A column row v near x k → Turns (Picks A column row v near x) 0 n k
       back k o = (k, omega arith, within k (o .0), (refl, o))
 
--- The column as a whole.
+-- The column as a whole: the states that are reached from the set, of which some are kept.
 
-module _ (f column row : List ℕ) (v : ℕ) (from near : List Bool) (sized : Sized f column row v) (within : Within f from)
-    (reached : Marks (Reached (view f) (Has from)) (replicate 255 false) near) where
+pub record Nearby (f column row : List ℕ) (v : ℕ) (from near : List Bool) : Type 0 where
+  pub sized : Sized f column row v
+  pub within : Within f from
+  pub reached : Marks (Reached (view f) (Has from)) (replicate 255 false) near
+  pub some : SomeKept (view f) column row v from
+
+module _ {f column row : List ℕ} {v : ℕ} {from near : List Bool} (nearby : Nearby f column row v from near) where
   is-reached : (u : ℕ) → Has near u → Reached (view f) (Has from) u
-  is-reached u h = by (reached .only u h)
+  is-reached u h = by (nearby .reached .only u h)
     where
       by : Has (replicate 255 false) u ⊎ Reached (view f) (Has from) u → Reached (view f) (Has from) u
       by (inl z) = absurd (has-none 255 u z)
@@ -137,41 +142,46 @@ module _ (f column row : List ℕ) (v : ℕ) (from near : List Bool) (sized : Si
   pub near-within : Within f near
   near-within u h =
       let r = is-reached u h in
-      step-within (valid-proper f (sized .valid)) (r .0) (entering (view f) u) u (r .2) (within (r .0) (r .1))
+      step-within (valid-proper f (nearby .sized .valid)) (r .0) (entering (view f) u) u (r .2) (nearby .within (r .0) (r .1))
 
-  module _ (some : SomeKept (view f) column row v from) (x : ℕ) (least : Least NONE (Offered (view f) column row v near) x) where
-    -- the lowest label is one of the matrix, and its cost is within the price
+  near-label : (u : ℕ) → Has near u → entering (view f) u ≤ alphabetOf f
+  near-label u h = entering-high f (nearby .sized .valid) u (near-within u h)
+
+  module _ {x : ℕ} (least : Least NONE (Offered (view f) column row v near) x) where
+    -- some state has the lowest label
     found : Offered (view f) column row v near x
     found =
-        let u = some .0 in
-        let h : Has near u = reached .marked u (some .1 .0) in
-        let k = entering-high f (sized .valid) u (near-within u h) in
-        let a = sized .valid .head .alphabet-high in
-        let l = least .least (entering (view f) u) (u, (h, some .1 .1, refl)) in
+        let u = nearby .some .0 in
+        let k = nearby .some .1 in
+        let h : Has near u = nearby .reached .marked u (k .0) in
+        let high = near-label u h in
+        let few = nearby .sized .valid .head .alphabet-high in
+        let l = least .least (entering (view f) u) (u, (h, k .1, refl)) in
         least .met (omega arith)
 
     pub lowest-label : x ≤ alphabetOf f
-    lowest-label = let o = found in let k = entering-high f (sized .valid) (o .0) (near-within (o .0) (o .1 .0)) in let e = o .1 .2 in omega arith
+    lowest-label = let o = found in let high = near-label (o .0) (o .1 .0) in let e = o .1 .2 in omega arith
 
+    -- and its cost is within the price
     pub lowest-paid : getD column x 0 ≤ v
     lowest-paid =
         let o = found in
         let k = o .1 .1 in
         let e : getD column x 0 ≡ getD column (entering (view f) (o .0)) 0 = ap (λ y. getD column y 0) (o .1 .2) in
-        let b = sized .below in
+        let b = nearby .sized .below in
         omega arith
 
     pub taken :
-        (l : ℕ) (next : List Bool) → Marks (OfLabel (view f) column row v near x) (replicate 255 false) next
-        → Taken (view f) column row (record { label = l; left = v; set = from }) (record { label = x; left = v - getD column x 0; set = next })
-    taken l next m =
+        (label : ℕ) (next : List Bool) → Marks (OfLabel (view f) column row v near x) (replicate 255 false) next
+        → Taken (view f) column row (record { label = label; left = v; set = from }) (record { label = x; left = v - getD column x 0; set = next })
+    taken label next m =
         record {
-          lowest = λ u k. least .least (entering (view f) u) (u, (reached .marked u (k .0), k .1, refl));
+          lowest = λ u k. least .least (entering (view f) u) (u, (nearby .reached .marked u (k .0), k .1, refl));
           one = found .0;
           kept = (is-reached (found .0) (found .1 .0), found .1 .1);
           by-label = sym (found .1 .2);
           hit = λ u h. by u (m .only u h);
-          all = λ u k e. m .marked u (reached .marked u (k .0), k .1, sym e);
+          all = λ u k e. m .marked u (nearby .reached .marked u (k .0), k .1, sym e);
           left = refl;
         }
       where

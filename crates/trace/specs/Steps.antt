@@ -1,19 +1,19 @@
 -- The states that a step from a state leads to, as the code marks them: the state itself, the blanks after its letter, and the letters
 -- that may stand behind it and whose label is not barred. Assumes nothing.
 use Prim.Native.Nat.{ℕ, _+_, _*_, _-_, _/_, _%_, _≤_, _<_}
-use mathlib.Core.Path.{_≡_, refl, sym, ap, _∙_, subst}
+use mathlib.Core.Path.{_≡_, refl, sym, _∙_, subst}
 use mathlib.Core.Bool.{Bool, true, false}
 use mathlib.Core.List.{List}
 use mathlib.Core.Logic.{_⊎_, inl, inr}
 use native.Mathlib.Omega.{arith}
 use lib.ListN.{length, getD, set as put}
-use Rattle.lists.specs.Order.{not-both, eq-or-ne, lt-or-le}
+use Rattle.lists.specs.Order.{not-both, eq-or-ne}
 use Rattle.lists.specs.Marks.{Has, Marks, Turns, marks-none, marks-one, marks-same, marks-then}
 use Rattle.automaton.specs.Automaton.{Automaton, Proper}
-use Rattle.automaton.specs.Form.{lettersOf, alphabetOf, view, source, target}
+use Rattle.automaton.specs.Form.{lettersOf, alphabetOf, view, target}
 use Rattle.automaton.specs.Valid.{Valid, ArcAt, follow-arc, arc-follow, follow-target, valid-proper}
 use Rattle.form.specs.Starts.{Begins, range-source, source-range}
-use Rattle.trellis.specs.Extended.{OnLetter, InBlanks, AtLetter, Step, stay, pass, arc, rest, leave}
+use Rattle.trellis.specs.Extended.{OnLetter, AtLetter, Step, stay, pass, arc, rest, leave}
 use Rattle.trellis.specs.Reached.{entering, entering-blanks, entering-letter, Reached}
 
 -- a step leads from state s to state u

@@ -2,7 +2,7 @@
 -- Assumes nothing.
 use Prim.Native.Nat.{ℕ, _+_, _*_, _-_, _≤_, _<_}
 use mathlib.Core.Path.{_≡_, refl, sym, ap, ap₂, _∙_, subst}
-use mathlib.Core.Bool.{Bool, true, false}
+use mathlib.Core.Bool.{true, false}
 use mathlib.Core.List.{List, [], _∷_, _++_}
 use mathlib.Core.Logic.{_⊎_, inl, inr}
 use native.Mathlib.Nat.{mul-le-mul-right}
@@ -10,7 +10,7 @@ use native.Mathlib.Omega.{arith}
 use lib.ListN.{length, getD, take, drop, set as put, replicate, length-append, length-drop}
 use lib.Seq.{getD-take, getD-drop, length-take-le, take-at}
 use Rattle.lists.specs.Written.{written, written-none, written-more, length-written}
-use Rattle.lists.specs.Marks.{Has, has-none, Marks, marks-one}
+use Rattle.lists.specs.Marks.{Has, has-none, marks-one}
 use Rattle.automaton.specs.Automaton.{Automaton}
 use Rattle.automaton.specs.Form.{lettersOf, alphabetOf, view}
 use Rattle.automaton.specs.Valid.{Valid, valid-proper}
@@ -82,7 +82,9 @@ part-length xs a e h = length-take-le (e - a) (drop a xs) (omega (arith, length-
 
 module _ {f : List ℕ} {M : Matrix} {work : List ℕ} {base stride : ℕ} (ready : Ready f M work base stride) where
   -- no label is written yet
-  pub standing-none : (before : List ℕ) (label : ℕ) → Standing f M before 0 (record { label = label; left = getD work base 0; set = put (replicate 255 false) 0 true }) before
+  pub standing-none :
+      (before : List ℕ) (label : ℕ)
+      → Standing f M before 0 (record { label = label; left = getD work base 0; set = put (replicate 255 false) 0 true }) before
   standing-none before label =
       let start = marks-one 0 (replicate 255 false) (omega arith) in
       let only : (s : ℕ) → Has (put (replicate 255 false) 0 true) s → s ≡ 0 = λ s h. by s (start .only s h) in

@@ -9,13 +9,13 @@ ghost use mathlib.Core.Bool.{false};
 ghost use Prim.Native.Nat.{_*_, _<_, _≤_, min};
 ghost use lib.ListN.{length, replicate};
 ghost use Rattle.lists.specs.Least.{Least};
-ghost use Rattle.lists.specs.Marks.{Has, Marks};
+ghost use Rattle.lists.specs.Marks.{Marks};
 ghost use Rattle.automaton.specs.Form.{lettersOf, view};
 ghost use Rattle.form.specs.Starts.{ArcStarts};
 ghost use Rattle.trace.specs.Steps.{Within};
 ghost use Rattle.trace.specs.Column.{NONE as none, Sized, Offers, Offered, OfLabel, Picks, SomeKept, Taken};
 
-// No label.
+// No label: all labels are below it.
 const NONE: usize = 256;
 
 fn lower(a: usize, b: usize) -> usize
@@ -24,7 +24,7 @@ fn lower(a: usize, b: usize) -> usize
     if a < b { a } else { b }
 }
 
-// The label of state u, if the state is in the set and keeps to the price v.
+// The label of state u if it is in the set and keeps to the price v; else NONE.
 fn offered(form: &[u32], column: &[u32], row: &[u32], v: u32, near: &[bool; 255], u: usize) -> usize
     requires { ⌜ Sized (now form) (now column) (now row) v × (u ≤ 2 * lettersOf (now form)) ⌝ }
     ensures { λ r. ⌜ Least none (Offers (view (now (form .entry))) (now (column .entry)) (now (row .entry)) v (now (near .entry)) u) r ⌝ }
@@ -37,10 +37,10 @@ fn offered(form: &[u32], column: &[u32], row: &[u32], v: u32, near: &[bool; 255]
     if v < c {
         return NONE;
     }
-    if row[u] != v - c {
-        return NONE;
+    if row[u] == v - c {
+        return x;
     }
-    x
+    NONE
 }
 
 // The lowest label of a state of the set that keeps to the price v.
@@ -109,9 +109,12 @@ pub fn advance(form: &[u32], begins: &[usize], column: &[u32], row: &[u32], fron
     let near = reached(form, begins, &set);
     let x = lowest(form, column, row, v, &near);
     let next = picked(form, column, row, v, &near, x);
+    let paid = column[x];
+    let left = v - paid;
+    let label = x as u8;
     Front {
-        label: x as u8,
-        left: v - column[x],
+        label: label,
+        left: left,
         set: next,
     }
 }

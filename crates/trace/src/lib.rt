@@ -12,7 +12,7 @@ ghost use Rattle.automaton.specs.Form.{view};
 ghost use Rattle.trace.specs.Traced.{matrix, Ready, Traced};
 
 // Where the trace stands: the label of the last column, what is left to pay, and the states that share it.
-pub struct Front {
+struct Front {
     label: u8,
     left: u32,
     set: [bool; 255],
@@ -36,9 +36,10 @@ pub fn trace(
     let states = 2 * letters(form) + 1;
     let mut set = [false; 255];
     set[0] = true;
+    let price = work[base];
     let mut front = Front {
         label: 0,
-        left: work[base],
+        left: price,
         set: set,
     };
     let mut t = 0;

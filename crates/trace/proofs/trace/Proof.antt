@@ -1,20 +1,20 @@
 -- `trace::trace` meets its contract: what is written leads to the front, column by column. Assumes nothing.
 use Prim.Native.Nat.{_≤_, _+_, _*_, _-_}
-use mathlib.Core.Path.{_≡_, refl, sym, ap}
+use mathlib.Core.Path.{refl, sym}
 use native.Mathlib.Omega.{arith}
-use lib.ListN.{length, getD, take, drop, length-set}
+use lib.ListN.{length}
 use denote.Ref.{now}
 use borrow.Author.Needs.{needs}
-use Rattle.trace.specs.Traced.{matrix, PartsOf, Standing, standing-none, standing-all, standing-length, standing-sized, standing-kept, standing-more}
+use Rattle.trace.specs.Traced.{matrix, Standing, standing-none, standing-all, standing-length, standing-sized, standing-kept, standing-more}
 use Rattle.trace.specs.Traced.{column-inside, row-inside, parts-of}
 use Rattle.trace.proofs.trace.Statement.{statement}
 use Rattle.trace.proofs.trace.Tie as tie
 
 abbrev Inv-loop : tie.InvT-loop
-Inv-loop form costs width count work base stride path₀ begins states front₀ t₀ path front t = Standing form (matrix costs width count) path₀ t front path
+Inv-loop form costs width count work base stride path₀ begins states price front₀ t₀ path front t = Standing form (matrix costs width count) path₀ t front path
 
 abbrev μ-loop : tie.MeasureT-loop
-μ-loop form costs width count work base stride path₀ begins states front₀ t₀ path front t = count - t
+μ-loop form costs width count work base stride path₀ begins states price front₀ t₀ path front t = count - t
 
 -- the column and the row lie inside
 column : (c : tie.In-loop Inv-loop μ-loop) → c .before .loop .t * c .before .before .before .before .before .before .before .before .before .args .width + c .before .before .before .before .before .before .before .before .before .args .width ≤ length (now (c .before .before .before .before .before .before .before .before .before .args .costs))
@@ -40,11 +40,11 @@ add-states c = let e = c .letters .ensures in omega arith
 array-write-set : tie.Need-array-write-set Inv-loop μ-loop
 array-write-set c = search needs
 
-mul-t19 : tie.Need-mul-t19 Inv-loop μ-loop
-mul-t19 c = let r = c .before .before .before .before .before .before .pre .0 .room in omega (arith, c .before .before .before .before .before .before .good)
+mul-price : tie.Need-mul-price Inv-loop μ-loop
+mul-price c = let r = c .before .before .before .before .before .before .pre .0 .room in omega (arith, c .before .before .before .before .before .before .good)
 
-shared-slice-read-t24 : tie.Need-shared-slice-read-t24 Inv-loop μ-loop
-shared-slice-read-t24 c = let r = c .before .before .before .before .before .before .before .pre .0 .room in omega arith
+shared-slice-read-price : tie.Need-shared-slice-read-price Inv-loop μ-loop
+shared-slice-read-price c = let r = c .before .before .before .before .before .before .before .pre .0 .room in omega arith
 
 loop-holds : tie.Need-loop-holds Inv-loop μ-loop
 loop-holds c = standing-none (c .before .before .before .before .before .before .before .pre .0) (now (c .before .before .before .before .before .before .before .args .path)) 0
@@ -150,8 +150,8 @@ trace-spec =
     mul-states
     add-states
     array-write-set
-    mul-t19
-    shared-slice-read-t24
+    mul-price
+    shared-slice-read-price
     loop-holds
     mul-at
     add-end

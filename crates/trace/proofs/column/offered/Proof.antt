@@ -1,8 +1,6 @@
 -- `trace::column::offered` meets its contract: the label, where the three tests pass. Assumes nothing.
-use Prim.Native.Nat.{_<_, _≤_}
-use mathlib.Core.Path.{_≡_, sym, _∙_}
+use Prim.Native.Nat.{_≤_}
 use native.Mathlib.Omega.{arith}
-use lib.ListN.{length, getD}
 use denote.Ref.{now}
 use borrow.Author.Needs.{needs}
 use borrow.Author.Tests.{not-true, not-false}
@@ -54,16 +52,16 @@ shared-slice-read-if3 c = search needs
 returns-3 : tie.Need-returns-3
 returns-3 c =
     let a = c .before .before .before .before .before .before .before .before .before .before .args in
-    offers-other (view (now (a .form))) (now (a .column)) (now (a .row)) (a .v) (now (a .near)) (a .u) (c .before .before .before .before .before .before .before .before .before .before .pre .0 .below) (c .before .before .before .before .entering .result)
-    (c .before .before .before .before .entering .ensures) (c .before .before .if2 .left) (c .if3 .taken)
+    let h = inside (c .before .before .before .before) in
+    let k = c .before .before .before .before .before .before .before .before .before .before .pre .0 .valid .head .alphabet-high in
+    offers-label (view (now (a .form))) (now (a .column)) (now (a .row)) (a .v) (now (a .near)) (a .u) (c .before .before .before .before .before .before .before .before .before .before .pre .0 .below) (c .before .before .before .before .entering .result)
+    (c .before .before .before .before .entering .ensures) (omega arith) (not-false _ (c .before .before .before .before .before .if1 .left)) (c .before .before .if2 .left) (c .if3 .taken)
 
 returns-4 : tie.Need-returns-4
 returns-4 c =
     let a = c .before .before .before .before .before .before .before .before .before .before .args in
-    let h = inside (c .before .before .before .before) in
-    let k = c .before .before .before .before .before .before .before .before .before .before .pre .0 .valid .head .alphabet-high in
-    offers-label (view (now (a .form))) (now (a .column)) (now (a .row)) (a .v) (now (a .near)) (a .u) (c .before .before .before .before .before .before .before .before .before .before .pre .0 .below) (c .before .before .before .before .entering .result)
-    (c .before .before .before .before .entering .ensures) (omega arith) (not-false _ (c .before .before .before .before .before .if1 .left)) (c .before .before .if2 .left) (c .if3 .left)
+    offers-other (view (now (a .form))) (now (a .column)) (now (a .row)) (a .v) (now (a .near)) (a .u) (c .before .before .before .before .before .before .before .before .before .before .pre .0 .below) (c .before .before .before .before .entering .result)
+    (c .before .before .before .before .entering .ensures) (c .before .before .if2 .left) (c .if3 .left)
 
 pub offered-spec : {M : Type 1} → statement M
 offered-spec =

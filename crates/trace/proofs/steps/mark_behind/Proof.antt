@@ -2,7 +2,6 @@
 use native.Mathlib.Omega.{arith}
 use mathlib.Core.Path.{sym, subst}
 use denote.Ref.{now}
-use borrow.Author.Needs.{needs}
 use Rattle.lists.specs.Marks.{Marks}
 use Rattle.automaton.specs.Form.{view}
 use Rattle.form.specs.Starts.{range-rises}

@@ -1,9 +1,9 @@
 -- `trace::steps::mark_steps` meets its contract: the two states, then the letters behind. Assumes nothing.
 use Prim.Native.Nat.{_+_, _*_, _/_}
-use mathlib.Core.Path.{_≡_, subst}
+use mathlib.Core.Path.{subst}
 use mathlib.Core.Bool.{true}
 use native.Mathlib.Omega.{arith}
-use lib.ListN.{set, length-set, getD}
+use lib.ListN.{set, length-set}
 use denote.Ref.{now}
 use borrow.Author.Needs.{needs}
 use Rattle.lists.specs.Marks.{Marks}

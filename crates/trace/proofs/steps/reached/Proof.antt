@@ -1,6 +1,6 @@
 -- `trace::steps::reached` meets its contract: the turns so far have marked what steps from their states lead to. Assumes nothing.
 use Prim.Native.Nat.{_≤_, _+_, _*_, _-_}
-use mathlib.Core.Path.{_≡_, refl, subst, _∙_}
+use mathlib.Core.Path.{_≡_}
 use mathlib.Core.Bool.{false}
 use native.Mathlib.Omega.{arith}
 use lib.ListN.{replicate}
