@@ -1,5 +1,6 @@
 pub mod Automaton
-pub mod Form
 pub mod Accepted
+pub mod Form
+pub mod Words
 pub mod Valid
 pub mod Encode
