@@ -4,3 +4,4 @@ pub mod Form
 pub mod Words
 pub mod Valid
 pub mod Encode
+pub mod Examples
