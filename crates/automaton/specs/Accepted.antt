@@ -1,15 +1,15 @@
 -- The accepted words of an automaton, decided: a search over its letters. Two automata that agree on their letters accept the same
 -- words. Assumes nothing.
-use Prim.Native.Nat.{ℕ, zero, suc, _+_, _<_, _≤_}
-use mathlib.Core.Path.{_≡_, refl, sym, ap, ap₂, subst, _∙_}
-use mathlib.Core.Bool.{Bool, true, false, _&&_}
+use Prim.Native.Nat.{ℕ, _≤_}
+use mathlib.Core.Path.{_≡_, refl, sym, ap₂, _∙_}
+use mathlib.Core.Bool.{Bool, true, _&&_}
 use mathlib.Core.Logic.{_↔_}
-use mathlib.Core.List.{List, [], _∷_, map}
+use mathlib.Core.List.{List, [], _∷_}
 use native.Mathlib.Omega.{arith}
 use lib.Dec.{eqb}
 use borrow.Author.Tests.{eqb-true, eq-eqb}
 use Rattle.lists.specs.Order.{and-left, and-right, and-both}
-use Rattle.lists.specs.Among.{any, Among, any-among, among-any}
+use Rattle.lists.specs.Among.{any, any-among, among-any}
 use Rattle.lists.specs.Ascending.{numbers, among-numbers}
 use Rattle.automaton.specs.Automaton.{Automaton, Walk, spelt, Spells, Accepts, Proper}
 

@@ -1,15 +1,15 @@
 -- The round trip between forms and automata: the form of a proper automaton is valid and stands for it, and a valid form is the form of
 -- the automaton that it stands for. Assumes nothing.
-use Prim.Native.Nat.{ℕ, zero, suc, _+_, _-_, _*_, _/_, _%_, _^_, _<_, _≤_}
+use Prim.Native.Nat.{ℕ, zero, suc, _+_, _-_, _<_, _≤_}
 use mathlib.Core.Path.{_≡_, refl, sym, ap, ap₂, subst, _∙_}
-use mathlib.Core.Bool.{Bool, true, false, _&&_}
+use mathlib.Core.Bool.{true}
 use mathlib.Core.Logic.{_↔_}
-use mathlib.Core.List.{List, [], _∷_, _++_, map, flatMap}
+use mathlib.Core.List.{List, _∷_, _++_, map, flatMap}
 use native.Mathlib.Omega.{arith}
 use lib.Dec.{eqb}
-use lib.ListN.{length, getD, take, drop, length-append, length-map, take-append-drop}
+use lib.ListN.{length, getD, drop, length-append, length-map, take-append-drop}
 use lib.Seq.{take-at, drop-at, drop-cons, drop-drop, ext-getD, getD-take, getD-drop}
-use borrow.Author.Tests.{eq-eqb, ne-eqb, eqb-true}
+use borrow.Author.Tests.{eq-eqb, eqb-true}
 use Rattle.lists.specs.Order.{same-truth, and-left, and-right, and-both}
 use Rattle.lists.specs.Each.{Each}
 use Rattle.lists.specs.Among.{Among, any, keep, any-among, among-any, among-each, each-among, among-map, map-among, among-keep, keep-among, among-flat, flat-among}
@@ -17,36 +17,11 @@ use Rattle.lists.specs.Ascending.{numbers, length-numbers, map-numbers-at, amon
 use Rattle.lists.specs.Ascending.{Ascending, ascending-numbers, ascending-keep, ascending-map, ascending-flat, ascending-same}
 use Rattle.automaton.specs.Automaton.{Automaton, Proper, Accepts}
 use Rattle.automaton.specs.Accepted.{Agree, agree-accepts}
-use Rattle.automaton.specs.Form.{bit, headWord, letterWord, arcWord, byte0, byte2, bit8, bit9, source, target, validForm, lettersOf, alphabetOf, labelOf}
+use Rattle.automaton.specs.Form.{headWord, letterWord, arcWord, byte0, bit8, bit9, source, target, validForm, lettersOf, alphabetOf, labelOf}
 use Rattle.automaton.specs.Form.{letterWords, arcWords, followOf, endsOf, leads, view, letterOf, arcsFrom, encode}
-use Rattle.automaton.specs.Valid.{Head, Letter, Arc, Parts, Valid, valid-parts, parts-valid, valid-at, view-proper}
+use Rattle.automaton.specs.Words.{Head, Letter, Arc, head-fields, letter-fields, arc-fields}
+use Rattle.automaton.specs.Valid.{Parts, Valid, valid-parts, parts-valid, valid-at, view-proper}
 use Rattle.automaton.specs.Valid.{may-be-first, may-be-last, letter-at, length-letterWords, follow-arc, arc-among, among-follow}
-
-bit-small : (b : Bool) → bit b ≤ 1
-bit-small true = omega arith
-bit-small false = omega arith
-
-bit-read : (b : Bool) (n : ℕ) → n ≡ bit b → eqb n 1 ≡ b
-bit-read true n e = eq-eqb n 1 e
-bit-read false n e = ne-eqb n 1 (omega arith)
-
--- the fields of a word that was made of fields
-head-fields :
-    (l : ℕ) (e : Bool) (k : ℕ) → l < 256 → k < 256
-    → (byte0 (headWord l e k) ≡ l) × (bit8 (headWord l e k) ≡ e) × (byte2 (headWord l e k) ≡ k)
-head-fields l e k p q = (omega (arith, bit-small e), bit-read e (headWord l e k / 256 % 2) (omega (arith, bit-small e)), omega (arith, bit-small e))
-
-letter-fields :
-    (x : ℕ) (a b : Bool) → x < 256
-    → (byte0 (letterWord x a b) ≡ x) × (bit8 (letterWord x a b) ≡ a) × (bit9 (letterWord x a b) ≡ b)
-letter-fields x a b p = (
-  omega (arith, bit-small a, bit-small b),
-  bit-read a (letterWord x a b / 256 % 2) (omega (arith, bit-small a, bit-small b)),
-  bit-read b (letterWord x a b / 512 % 2) (omega (arith, bit-small a, bit-small b)),
-)
-
-arc-fields : (i j : ℕ) → i < 256 → j < 256 → (source (arcWord i j) ≡ i) × (target (arcWord i j) ≡ j)
-arc-fields i j p q = (omega arith, omega arith)
 
 -- a word of an automaton's arcs
 record ArcOf (A : Automaton) (w : ℕ) : Type 0 where

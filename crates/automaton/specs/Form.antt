@@ -1,7 +1,6 @@
 -- The compiled form, a list of 32-bit words (document 01, "Opening and the compiled form"): its words by their fields, which lists are
 -- valid forms, the automaton that a form stands for, and the form of an automaton. Assumes nothing.
 use Prim.Native.Nat.{ℕ, zero, suc, _+_, _*_, _/_, _%_, _^_}
-use mathlib.Core.Path.{_≡_, refl}
 use mathlib.Core.Bool.{Bool, true, false, _&&_, _||_}
 use mathlib.Core.List.{List, [], _∷_, _++_, map, flatMap}
 use lib.Dec.{leb, ltb, eqb}
@@ -90,6 +89,7 @@ ordered [] = true
 ordered (w ∷ []) = true
 ordered (w ∷ (v ∷ ws)) = before w v && ordered (v ∷ ws)
 
+-- where the head is missing it reads as 0, which is no head; all words behind the letters are arcs
 unfoldable pub validForm : List ℕ → Bool
 validForm f =
     isHead (getD f 0 0)
@@ -102,10 +102,12 @@ validForm f =
 abbrev pub leads : ℕ → ℕ → ℕ → Bool
 leads i j w = eqb (source w) i && eqb (target w) j
 
+-- behind 0 the letters that may be first, behind a letter the targets of its arcs
 unfoldable pub followOf : List ℕ → ℕ → ℕ → Bool
 followOf f zero j = within 1 j (lettersOf f) && bit8 (getD f j 0)
 followOf f (suc i) j = any (leads (suc i) j) (arcWords f)
 
+-- behind 0 if the empty word is accepted, behind a letter that may be last
 unfoldable pub endsOf : List ℕ → ℕ → Bool
 endsOf f zero = bit8 (getD f 0 0)
 endsOf f (suc i) = leb (suc i) (lettersOf f) && bit9 (getD f (suc i) 0)
@@ -121,24 +123,8 @@ letterOf A i = letterWord (A .label i) (A .follow 0 i) (A .ends i)
 abbrev pub arcsFrom : Automaton → ℕ → List ℕ
 arcsFrom A i = map (arcWord i) (keep (A .follow i) (numbers 1 (A .letters)))
 
+-- the head, the letters by number, the arcs by source and then target
 unfoldable pub encode : ℕ → Automaton → List ℕ
 encode k A =
     headWord (A .letters) (A .ends 0) k
     ∷ (map (letterOf A) (numbers 1 (A .letters)) ++ flatMap (arcsFrom A) (numbers 1 (A .letters)))
-
--- the document's `ab*` over the alphabet `ab`
-ab* : Automaton
-ab* = record {
-  letters = 2;
-  label = λ i. i;
-  follow = λ i j. eqb i 0 && eqb j 1 || (leb 1 i && leb i 2 && eqb j 2);
-  ends = λ i. within 1 i 2;
-}
-
-encodes-ab* : encode 2 ab* ≡ 0x10020002 ∷ 0x20000301 ∷ 0x20000202 ∷ 0x30000102 ∷ 0x30000202 ∷ []
-unfolding encode keep numbers flatMap ab*
-encodes-ab* = refl
-
-valid-ab* : validForm (0x10020002 ∷ 0x20000301 ∷ 0x20000202 ∷ 0x30000102 ∷ 0x30000202 ∷ []) ≡ true
-unfolding validForm all ordered
-valid-ab* = refl

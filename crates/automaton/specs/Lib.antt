@@ -1,5 +1,7 @@
 pub mod Automaton
-pub mod Form
 pub mod Accepted
+pub mod Form
+pub mod Words
 pub mod Valid
 pub mod Encode
+pub mod Examples

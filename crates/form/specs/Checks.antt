@@ -1,21 +1,21 @@
 -- The check of a form as it goes through the list: a word put together again from its fields, the arcs each compared with the last,
 -- and the five tests one behind another. Assumes nothing.
-use Prim.Native.Nat.{ℕ, zero, suc, _+_, _-_, _*_, _/_, _%_, _<_, _≤_}
-use mathlib.Core.Path.{_≡_, refl, sym, ap, ap₂, subst, _∙_}
+use Prim.Native.Nat.{ℕ, suc, _+_, _-_, _*_, _/_, _%_, _<_, _≤_}
+use mathlib.Core.Path.{_≡_, refl, sym, ap, ap₂, _∙_}
 use mathlib.Core.Bool.{Bool, true, false, _&&_}
 use mathlib.Core.Logic.{_⊎_, inl, inr}
 use mathlib.Core.List.{List, [], _∷_}
 use native.Mathlib.Numerals.{add-one}
 use native.Mathlib.Omega.{arith}
-use lib.Dec.{leb, ltb, eqb}
+use lib.Dec.{ltb, eqb}
 use lib.ListN.{length, getD, take, drop, length-drop}
 use lib.Seq.{take-all}
 use borrow.Author.Tests.{eq-eqb, ne-eqb, lt-ltb, le-ltb}
 use Rattle.lists.specs.Order.{eq-or-ne}
 use Rattle.lists.specs.Each.{all, drop-here, drop-all}
-use Rattle.automaton.specs.Form.{bit, bit8, bit9, byte0, byte2, source, target, headWord, letterWord, arcWord, isHead, isLetter, isArc, before, ordered}
+use Rattle.automaton.specs.Form.{bit, bit8, bit9, byte0, byte2, headWord, letterWord, isHead, isLetter, isArc, before, ordered}
 use Rattle.automaton.specs.Form.{validForm, lettersOf, alphabetOf, letterWords, arcWords}
-use Rattle.automaton.specs.Valid.{Arc, arc-true, before-less}
+use Rattle.automaton.specs.Words.{Arc, arc-true, before-less}
 
 -- a bit by its test
 parity : (n : ℕ) → bit (eqb (n % 2) 1) ≡ n % 2

@@ -1,7 +1,7 @@
 -- What the call Judge makes of a form and a word: accepted or not, or the refusal that applies (document 01, "What is turned away",
 -- rows 11 and 17), and what it reports. Assumes nothing.
 use Prim.Native.Nat.{ℕ, _≤_}
-use mathlib.Core.Path.{_≡_, refl, sym, ap, _∙_}
+use mathlib.Core.Path.{_≡_, ap, _∙_}
 use mathlib.Core.Bool.{Bool, true, false, not}
 use mathlib.Core.Logic.{_↔_}
 use mathlib.Core.List.{List, [], _∷_}
@@ -10,7 +10,6 @@ use lib.Dec.{leb}
 use borrow.Author.Tests.{le-leb}
 use Rattle.lists.specs.Order.{and-both}
 use Rattle.lists.specs.Each.{Each, each-all}
-use Rattle.refusal.specs.declared.Refusal.{Refusal}
 use Rattle.refusal.specs.declared.Refusal.the-variants.{BadForm, Label}
 use Rattle.refusal.specs.Number.{numberOf}
 use Rattle.refusal.specs.Verdict.{Verdict, passed, refused, check, unless, unless-holds, unless-second, unless-neither}

@@ -6,14 +6,14 @@ use mathlib.Core.Bool.{Bool, true, false}
 use mathlib.Core.Logic.{_⊎_, inl, inr, _↔_}
 use mathlib.Core.List.{List, [], _∷_}
 use native.Mathlib.Omega.{arith}
-use lib.ListN.{length, getD, drop, set, replicate, length-replicate, getD-replicate}
+use lib.ListN.{length, getD, drop, set, replicate}
 use Rattle.lists.specs.Order.{same-truth, not-both}
 use Rattle.lists.specs.Each.{drop-here, drop-all}
 use Rattle.lists.specs.Marks.{Has, has-none, Marks, Turns, marks-none, marks-one, marks-same}
-use Rattle.automaton.specs.Automaton.{Automaton, Walk, Spells, Accepts, Proper}
+use Rattle.automaton.specs.Automaton.{Automaton, Spells, Accepts, Proper}
 use Rattle.automaton.specs.Accepted.{accepts, accepts-decides, spells-letter, letter-spells}
-use Rattle.automaton.specs.Form.{lettersOf, labelOf, followOf, validForm, view, source, target}
-use Rattle.automaton.specs.Valid.{Valid, ArcAt, follow-arc, arc-follow, first-letter, follow-source, view-proper}
+use Rattle.automaton.specs.Form.{lettersOf, labelOf, followOf, view, target}
+use Rattle.automaton.specs.Valid.{Valid, follow-arc, arc-follow, first-letter, follow-source}
 use Rattle.form.specs.Starts.{Begins, range-source, source-range}
 
 -- letter j has label x and may stand behind i

@@ -1,15 +1,16 @@
 -- Where each letter's arcs begin: the arcs stand in the order of their sources, so one index tells those below a letter from the
 -- others. Assumes nothing.
 use Prim.Native.Nat.{ℕ, _+_, _<_, _≤_}
-use mathlib.Core.Path.{_≡_, refl, sym, ap, subst, _∙_}
+use mathlib.Core.Path.{_≡_, sym, subst}
 use mathlib.Core.Logic.{_⊎_, inl, inr}
 use mathlib.Core.List.{List}
 use native.Mathlib.Omega.{arith}
-use lib.ListN.{length, getD, set, length-set}
+use lib.ListN.{length, getD, set}
 use lib.Seq.{getD-set-same, getD-set-other}
 use Rattle.lists.specs.Order.{lt-or-le, eq-or-ne}
 use Rattle.automaton.specs.Form.{lettersOf, source}
-use Rattle.automaton.specs.Valid.{Valid, Arc}
+use Rattle.automaton.specs.Words.{Arc}
+use Rattle.automaton.specs.Valid.{Valid}
 
 -- from n on, r is the first index whose word has no source below i
 pub record Skipped (f : List ℕ) (n i r : ℕ) : Type 0 where

@@ -1,6 +1,6 @@
 -- `form::accepts` meets its contract: what is left of the word, from the present set, decides. Assumes nothing.
-use Prim.Native.Nat.{_≤_, _<_, _+_, _-_}
-use mathlib.Core.Path.{_≡_, refl, sym, subst, _∙_}
+use Prim.Native.Nat.{_≤_, _-_}
+use mathlib.Core.Path.{sym, subst}
 use mathlib.Core.Logic.{_↔_}
 use native.Mathlib.Omega.{arith}
 use lib.ListN.{length, drop}
@@ -9,7 +9,7 @@ use borrow.Author.Needs.{needs}
 use Rattle.automaton.specs.Automaton.{Accepts}
 use Rattle.automaton.specs.Form.{view, alphabetOf}
 use Rattle.automaton.specs.Valid.{valid-at, view-proper}
-use Rattle.form.specs.Sets.{Advanced, SpellsFrom, noLetter, begin, set-more, set-end}
+use Rattle.form.specs.Sets.{Advanced, SpellsFrom, begin, set-more, set-end}
 use Rattle.form.proofs.accepts.Statement.{statement}
 use Rattle.form.proofs.accepts.Tie as tie
 

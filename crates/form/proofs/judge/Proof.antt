@@ -6,7 +6,7 @@ use denote.Ref.{now}
 use borrow.Author.Tests.{not-true, not-false}
 use Rattle.refusal.specs.Verdict.{passed}
 use Rattle.labels.specs.Calls.{label-fault}
-use Rattle.automaton.specs.Form.{validForm, alphabetOf}
+use Rattle.automaton.specs.Form.{validForm}
 use Rattle.automaton.specs.Valid.{valid-at}
 use Rattle.form.specs.Judge.{Judgement, report, judged, judged-invalid, judged-no-word, judged-word}
 use borrow.Author.Needs.{needs}

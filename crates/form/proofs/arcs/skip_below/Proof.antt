@@ -1,10 +1,9 @@
 -- `form::arcs::skip_below` meets its contract: the sources passed are below i. Assumes nothing.
 use Prim.Native.Nat.{ℕ, _≤_, _<_, _-_}
-use mathlib.Core.Path.{_≡_, refl, sym, subst, _∙_}
+use mathlib.Core.Path.{subst}
 use native.Mathlib.Omega.{arith}
 use lib.ListN.{length, getD}
 use denote.Ref.{now}
-use Rattle.lists.specs.Order.{eq-or-ne}
 use Rattle.automaton.specs.Form.{source}
 use Rattle.form.specs.Starts.{below-more}
 use Rattle.form.proofs.arcs.skip_below.Statement.{statement}

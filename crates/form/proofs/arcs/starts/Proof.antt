@@ -1,10 +1,9 @@
 -- `form::arcs::starts` meets its contract: the starts noted so far are right, and the sources passed are below i. Assumes nothing.
-use Prim.Native.Nat.{ℕ, _≤_, _<_, _+_, _-_}
-use mathlib.Core.Path.{_≡_, refl, sym, ap, subst, _∙_}
+use Prim.Native.Nat.{ℕ, _≤_, _<_, _-_}
+use mathlib.Core.Path.{_≡_, refl, _∙_}
 use native.Mathlib.Omega.{arith}
 use lib.ListN.{length, getD, length-set}
 use denote.Ref.{now}
-use Rattle.automaton.specs.Form.{lettersOf}
 use Rattle.form.specs.Starts.{Begins, Passed, skipped-begins, begins-passed, begins-more}
 use Rattle.form.proofs.arcs.starts.Statement.{statement}
 use Rattle.form.proofs.arcs.starts.Tie as tie

@@ -1,7 +1,6 @@
 -- `form::check::is_arc` meets its contract, a test at a time. Assumes nothing.
-use mathlib.Core.Path.{_≡_, sym, ap, ap₂, _∙_}
+use mathlib.Core.Path.{sym, ap, ap₂, _∙_}
 use mathlib.Core.Bool.{_&&_}
-use lib.Dec.{eqb}
 use borrow.Author.Tests.{eq-eqb, ne-eqb, not-true, not-false}
 use Rattle.automaton.specs.Form.{arcWord, source, target, within}
 use borrow.Author.Needs.{needs}

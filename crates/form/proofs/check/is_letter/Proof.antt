@@ -1,7 +1,6 @@
 -- `form::check::is_letter` meets its contract, a test at a time. Assumes nothing.
-use mathlib.Core.Path.{_≡_, sym, ap, _∙_}
+use mathlib.Core.Path.{sym, ap, _∙_}
 use mathlib.Core.Bool.{_&&_}
-use lib.Dec.{eqb}
 use borrow.Author.Tests.{eq-eqb, ne-eqb}
 use Rattle.automaton.specs.Form.{letterWord, byte0, bit8, bit9, within}
 use Rattle.form.specs.Checks.{letter-sum}

@@ -1,10 +1,10 @@
 -- `form::check::valid` meets its contract: the five tests in their order, the last two in one loop. Assumes nothing.
-use mathlib.Core.Path.{_≡_, sym, ap, _∙_}
-use mathlib.Core.Bool.{true, _&&_}
+use mathlib.Core.Path.{sym, ap, _∙_}
+use mathlib.Core.Bool.{_&&_}
 use denote.Ref.{now}
 use borrow.Author.Tests.{not-true, not-false}
 use Rattle.lists.specs.Each.{all}
-use Rattle.automaton.specs.Form.{isHead, isLetter, isArc, ordered, lettersOf, alphabetOf}
+use Rattle.automaton.specs.Form.{isLetter, isArc, ordered, lettersOf, alphabetOf}
 use Rattle.form.specs.Checks.{valid-empty, valid-head, valid-short, valid-letters, valid-arcs, letters-part, arcs-part}
 use borrow.Author.Needs.{needs}
 use Rattle.form.proofs.check.valid.Statement.{statement}

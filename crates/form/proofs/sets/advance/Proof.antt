@@ -1,10 +1,10 @@
 -- `form::sets::advance` meets its contract: the turns so far have marked what may stand behind their letters. Assumes nothing.
-use Prim.Native.Nat.{_≤_, _<_, _+_, _-_}
-use mathlib.Core.Path.{_≡_, refl, sym, subst, _∙_}
+use Prim.Native.Nat.{_≤_, _+_, _-_}
+use mathlib.Core.Path.{_≡_, sym, subst}
 use mathlib.Core.Bool.{false}
 use mathlib.Core.Logic.{⊎-elim}
 use native.Mathlib.Omega.{arith}
-use lib.ListN.{length, replicate}
+use lib.ListN.{replicate}
 use denote.Ref.{now}
 use Rattle.lists.specs.Marks.{Marks, Turns, turns-none, turns-more}
 use Rattle.automaton.specs.Form.{lettersOf}

@@ -1,6 +1,6 @@
 -- `form::sets::mark_targets` meets its contract: the turns so far have marked the targets of their arcs. Assumes nothing.
 use Prim.Native.Nat.{_≤_, _-_}
-use mathlib.Core.Path.{_≡_, refl, sym, subst, _∙_}
+use mathlib.Core.Path.{_≡_, subst, _∙_}
 use native.Mathlib.Omega.{arith}
 use denote.Ref.{now}
 use Rattle.lists.specs.Marks.{Marks, Turns, turns-none, turns-more}

@@ -1,11 +1,11 @@
--- `judged::fill` is safe: letter i and its arcs have places in the list. Assumes nothing.
+-- `form_vectors::fill` is safe: letter i and its arcs have places in the list. Assumes nothing.
 use Prim.Native.Nat.{_≤_, _-_}
 use mathlib.Core.Path.{_≡_}
 use native.Mathlib.Omega.{arith}
 use lib.ListN.{length, length-set}
 use borrow.Author.Needs.{needs}
-use Rattle.judged.proofs.fill.Statement.{statement}
-use Rattle.judged.proofs.fill.Tie as tie
+use Rattle.form_vectors.proofs.fill.Statement.{statement}
+use Rattle.form_vectors.proofs.fill.Tie as tie
 
 abbrev Inv-loop : tie.InvT-loop
 Inv-loop form₀ i j₀ form j = (length form ≡ 16258) × (1 ≤ j) × (j ≤ 128)

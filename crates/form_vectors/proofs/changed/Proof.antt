@@ -1,9 +1,9 @@
--- `judged::changed` is safe: the part is within the list. Assumes nothing.
+-- `form_vectors::changed` is safe: the part is within the list. Assumes nothing.
 use native.Mathlib.Omega.{arith}
 use lib.ListN.{length-take, length-set}
 use borrow.Author.Needs.{needs}
-use Rattle.judged.proofs.changed.Statement.{statement}
-use Rattle.judged.proofs.changed.Tie as tie
+use Rattle.form_vectors.proofs.changed.Statement.{statement}
+use Rattle.form_vectors.proofs.changed.Tie as tie
 
 mul-form : tie.Need-mul-form
 mul-form c = search needs

@@ -24,24 +24,17 @@ const USELESS: [u32; 5] = [0x10020103, 0x20000301, 0x20000202, 0x20000002, 0x300
 
 fn say(answer: Judged) {
     match answer {
-        Judged::Accepted => {
-            io::write_all(1, b"accepted\n");
-        }
-        Judged::Rejected => {
-            io::write_all(1, b"rejected\n");
-        }
-        Judged::Refused(r) => {
-            io::write_all(1, b"refused ");
-            io::print_decimal(1, refusal::number(r) as u64);
-            io::write_all(1, b"\n");
-        }
+        Judged::Accepted => show::text(b" accepted"),
+        Judged::Rejected => show::text(b" rejected"),
+        Judged::Refused(r) => show::refusal(r),
     }
 }
 
 fn vector(name: &[u8], form: &[u32], word: &[u8]) {
-    io::write_all(1, name);
-    io::write_all(1, b": ");
+    show::text(name);
+    show::text(b":");
     say(form::judge(form, word));
+    show::text(b"\n");
 }
 
 // The first n words of `ab*`, with w at place i, on the word `ab`.
@@ -139,10 +132,10 @@ fn bits(i: usize)
 {
     let mut b = 0;
     while b < 32 {
-        io::write_all(1, &[turned(i, b)]);
+        show::text(&[turned(i, b)]);
         b += 1;
     }
-    io::write_all(1, b"\n");
+    show::text(b"\n");
 }
 
 // Letter i of the largest form, and its arcs to all letters.

@@ -1,8 +1,8 @@
--- `judged::turned` is safe: the part is within the list. Assumes nothing.
+-- `form_vectors::turned` is safe: the part is within the list. Assumes nothing.
 use lib.ListN.{length-take, length-set}
 use borrow.Author.Needs.{needs}
-use Rattle.judged.proofs.turned.Statement.{statement}
-use Rattle.judged.proofs.turned.Tie as tie
+use Rattle.form_vectors.proofs.turned.Statement.{statement}
+use Rattle.form_vectors.proofs.turned.Tie as tie
 
 mul-form : tie.Need-mul-form
 mul-form c = search needs

@@ -1,9 +1,9 @@
--- `judged::part` is safe: the part is within the list. Assumes nothing.
+-- `form_vectors::part` is safe: the part is within the list. Assumes nothing.
 use native.Mathlib.Omega.{arith}
 use lib.ListN.{length-take}
 use borrow.Author.Needs.{needs}
-use Rattle.judged.proofs.part.Statement.{statement}
-use Rattle.judged.proofs.part.Tie as tie
+use Rattle.form_vectors.proofs.part.Statement.{statement}
+use Rattle.form_vectors.proofs.part.Tie as tie
 
 slice-aggregate-vector : tie.Need-slice-aggregate-vector
 slice-aggregate-vector c = simp length-take (omega arith)

@@ -1,11 +1,11 @@
--- `judged::fill_all` is safe: the list keeps its length. Assumes nothing.
+-- `form_vectors::fill_all` is safe: the list keeps its length. Assumes nothing.
 use Prim.Native.Nat.{_≤_, _-_}
 use mathlib.Core.Path.{_≡_, _∙_}
 use native.Mathlib.Omega.{arith}
 use lib.ListN.{length, length-set}
 use borrow.Author.Needs.{needs}
-use Rattle.judged.proofs.fill_all.Statement.{statement}
-use Rattle.judged.proofs.fill_all.Tie as tie
+use Rattle.form_vectors.proofs.fill_all.Statement.{statement}
+use Rattle.form_vectors.proofs.fill_all.Tie as tie
 
 abbrev Inv-loop : tie.InvT-loop
 Inv-loop form₀ i₀ form i = (length form ≡ 16258) × (1 ≤ i) × (i ≤ 128)
