@@ -1,0 +1,29 @@
+-- `parse::product` meets its contract. Assumes nothing.
+use native.Mathlib.Omega.{arith}
+use Rattle.parse.specs.Sums.{product-none, product-zero, product-many, product-times, product-small}
+use Rattle.parse.proofs.product.Statement.{statement}
+use Rattle.parse.proofs.product.Tie as tie
+
+returns : tie.Need-returns
+returns c = product-none (c .before .args .k) (c .before .args .n) (c .if1 .taken)
+
+returns-2 : tie.Need-returns-2
+returns-2 c = product-zero (c .before .before .args .k) (c .before .before .args .n) (c .if2 .taken)
+
+returns-3 : tie.Need-returns-3
+returns-3 c = product-many (c .before .before .before .args .k) (c .before .before .before .args .n) (c .if3 .taken) (c .before .if2 .left)
+
+returns-4 : tie.Need-returns-4
+returns-4 c = product-times (c .before .before .before .before .args .k) (c .before .before .before .before .args .n) (c .if4 .taken) (c .before .before .before .if1 .left)
+
+mul-few : tie.Need-mul-few
+mul-few c = let s = product-small (c .before .before .before .before .args .k) (c .before .before .before .before .args .n) (c .before .if3 .left) (c .if4 .left) in omega arith
+
+few-requires : tie.Need-few-requires
+few-requires c κs = tt
+
+returns-5 : tie.Need-returns-5
+returns-5 c = c .few .ensures
+
+pub product-spec : {M : Type 1} → statement M
+product-spec = tie.close (tie.spec returns returns-2 returns-3 returns-4 mul-few few-requires returns-5)

@@ -1,0 +1,24 @@
+-- `tokens::bracket::is_range` meets its contract. Assumes nothing.
+use borrow.Author.Needs.{needs}
+use denote.Ref.{now}
+use Rattle.tokens.specs.Items.{ranges-short, ranges-by}
+use Rattle.tokens.proofs.bracket.is_range.Statement.{statement}
+use Rattle.tokens.proofs.bracket.is_range.Tie as tie
+
+sub-if1 : tie.Need-sub-if1
+sub-if1 c = search needs
+
+returns : tie.Need-returns
+returns c = ranges-short (now (c .before .args .inside)) (c .before .args .i) (c .if1 .taken)
+
+add-result : tie.Need-add-result
+add-result c = search needs
+
+shared-slice-read-result : tie.Need-shared-slice-read-result
+shared-slice-read-result c = search needs
+
+returns-2 : tie.Need-returns-2
+returns-2 c = ranges-by (now (c .before .before .args .inside)) (c .before .before .args .i) (c .before .if1 .left)
+
+pub is-range-spec : {M : Type 1} → statement M
+is-range-spec = tie.close (tie.spec sub-if1 returns add-result shared-slice-read-result returns-2)

@@ -1,0 +1,34 @@
+-- `tokens::bracket::item_fits` meets its contract. Assumes nothing.
+use borrow.Author.Needs.{needs}
+use denote.Ref.{now}
+use mathlib.Core.Path.{sym, ap, _∙_}
+use lib.ListN.{getD}
+use lib.Dec.{eqb, leb}
+use borrow.Author.Tests.{not-true, not-false}
+use Rattle.tokens.specs.Items.{fits-last, fits-not, fits-by}
+use Rattle.tokens.proofs.bracket.item_fits.Statement.{statement}
+use Rattle.tokens.proofs.bracket.item_fits.Tie as tie
+
+sub-if1 : tie.Need-sub-if1
+sub-if1 c = search needs
+
+returns : tie.Need-returns
+returns c = fits-last (now (c .before .before .args .inside)) (c .before .before .args .i) (eqb (c .before .before .args .i) 0) (c .if1 .taken)
+
+shared-slice-read-c : tie.Need-shared-slice-read-c
+shared-slice-read-c c = search needs
+
+may-begin-requires : tie.Need-may-begin-requires
+may-begin-requires c κs = search needs
+
+returns-2 : tie.Need-returns-2
+returns-2 c = fits-not (now (c .before .before .before .before .before .args .inside)) (c .before .before .before .before .before .args .i) (eqb (c .before .before .before .before .before .args .i) 0) (c .before .before .before .if1 .left) (sym (c .before .may-begin .ensures) ∙ not-true _ (c .if2 .taken))
+
+upto-requires : tie.Need-upto-requires
+upto-requires c κs = search needs
+
+returns-3 : tie.Need-returns-3
+returns-3 c = ap (leb (getD (now (c .before .before .before .before .before .before .args .inside)) (c .before .before .before .before .before .before .args .i) 0)) (c .upto .ensures) ∙ fits-by (now (c .before .before .before .before .before .before .args .inside)) (c .before .before .before .before .before .before .args .i) (eqb (c .before .before .before .before .before .before .args .i) 0) (c .before .before .before .before .if1 .left) (sym (c .before .before .may-begin .ensures) ∙ not-false _ (c .before .if2 .left))
+
+pub item-fits-spec : {M : Type 1} → statement M
+item-fits-spec = tie.close (tie.spec sub-if1 returns shared-slice-read-c may-begin-requires returns-2 upto-requires returns-3)

@@ -1,0 +1,19 @@
+-- `tokens::bracket::width` meets its contract. Assumes nothing.
+use borrow.Author.Needs.{needs}
+use denote.Ref.{now}
+use mathlib.Core.Path.{sym, _∙_}
+use Rattle.tokens.specs.Items.{width-range, width-single}
+use Rattle.tokens.proofs.bracket.width.Statement.{statement}
+use Rattle.tokens.proofs.bracket.width.Tie as tie
+
+is-range-requires : tie.Need-is-range-requires
+is-range-requires c κs = search needs
+
+returns : tie.Need-returns
+returns c = width-range (now (c .before .before .before .args .inside)) (c .before .before .before .args .i) (sym (c .before .is-range .ensures) ∙ c .if1 .taken)
+
+returns-2 : tie.Need-returns-2
+returns-2 c = width-single (now (c .before .before .before .args .inside)) (c .before .before .before .args .i) (sym (c .before .is-range .ensures) ∙ c .if1 .left)
+
+pub width-spec : {M : Type 1} → statement M
+width-spec = tie.close (tie.spec is-range-requires returns returns-2)

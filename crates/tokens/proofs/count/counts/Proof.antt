@@ -1,0 +1,96 @@
+-- `tokens::count::counts` meets its contract. Assumes nothing.
+use borrow.Author.Needs.{needs}
+use native.Mathlib.Omega.{arith}
+use denote.Ref.{now}
+use Prim.Native.Nat.{_+_}
+use mathlib.Core.Path.{sym, _∙_}
+use lib.Seq.{length-take-le}
+use Rattle.tokens.specs.Counts.{counts-one, counts-two, counts-onward, counts-bad}
+use Rattle.tokens.specs.Place.{part-rest}
+use Rattle.tokens.proofs.count.counts.Statement.{statement}
+use Rattle.tokens.proofs.count.counts.Tie as tie
+
+find-requires : tie.Need-find-requires
+find-requires c κs = search needs
+
+number-requires : tie.Need-number-requires
+number-requires c κs = search needs
+
+range-requires : tie.Need-range-requires
+range-requires c κs = search needs
+
+returns : tie.Need-returns
+returns c =
+    let s = now (c .before .before .before .before .before .args .inside) in
+    let k = c .before .before .before .find .result in
+    let q = c .before .before .before .find .ensures in
+    c .range .ensures ∙ counts-one s (c .before .before .before .before .before .args .end) k q (c .before .number .result) (c .before .before .if1 .taken) (c .before .number .ensures)
+
+slice-aggregate-number : tie.Need-slice-aggregate-number
+slice-aggregate-number c =
+    let s = now (c .before .before .before .before .args .inside) in
+    let k = c .before .before .find .result in
+    let q = c .before .before .find .ensures in
+    sym (length-take-le k s (omega arith))
+
+number-requires-2 : tie.Need-number-requires-2
+number-requires-2 c κs = search needs
+
+add-behind : tie.Need-add-behind
+add-behind c = search needs
+
+sub-m : tie.Need-sub-m
+sub-m c = search needs
+
+part-m-start : tie.Need-part-m-start
+part-m-start c = search needs
+
+part-m-end : tie.Need-part-m-end
+part-m-end c = search needs
+
+number-requires-3 : tie.Need-number-requires-3
+number-requires-3 c κs = search needs
+
+range-requires-2 : tie.Need-range-requires-2
+range-requires-2 c κs = search needs
+
+returns-2 : tie.Need-returns-2
+returns-2 c =
+    let s = now (c .before .before .before .before .before .before .before .before .before .args .inside) in
+    let k = c .before .before .before .before .before .before .before .find .result in
+    let q = c .before .before .before .before .before .before .before .find .ensures in
+    c .range2 .ensures ∙ counts-two s (c .before .before .before .before .before .before .before .before .before .args .end) k q (c .before .before .before .before .before .before .if1 .left) (c .before .before .before .before .number2 .result) (c .before .number3 .result) (c .before .before .before .before .number2 .ensures) (rw (part-rest s (k + 1)) at (c .before .number3 .ensures)) (rw (part-rest s (k + 1)) at (c .before .before .if2 .taken))
+
+returns-3 : tie.Need-returns-3
+returns-3 c =
+    let s = now (c .before .before .before .before .before .before .before .before .args .inside) in
+    let k = c .before .before .before .before .before .before .find .result in
+    let q = c .before .before .before .before .before .before .find .ensures in
+    counts-bad s (c .before .before .before .before .before .before .before .before .args .end) k q (c .before .before .before .before .before .if1 .left) (c .before .before .before .number2 .result) (c .before .before .before .number2 .ensures) (rw (part-rest s (k + 1)) at (c .before .if2 .left)) (c .if3 .taken)
+
+returns-4 : tie.Need-returns-4
+returns-4 c =
+    let s = now (c .before .before .before .before .before .before .before .before .args .inside) in
+    let k = c .before .before .before .before .before .before .find .result in
+    let q = c .before .before .before .before .before .before .find .ensures in
+    counts-onward s (c .before .before .before .before .before .before .before .before .args .end) k q (c .before .before .before .before .before .if1 .left) (c .before .before .before .number2 .result) (c .before .before .before .number2 .ensures) (rw (part-rest s (k + 1)) at (c .before .if2 .left)) (c .if3 .left)
+
+pub counts-spec : {M : Type 1} → statement M
+counts-spec =
+    tie.close
+    (tie.spec
+    find-requires
+    number-requires
+    range-requires
+    returns
+    slice-aggregate-number
+    number-requires-2
+    add-behind
+    sub-m
+    part-m-start
+    part-m-end
+    number-requires-3
+    range-requires-2
+    returns-2
+    returns-3
+    returns-4)

@@ -1,0 +1,66 @@
+-- `tokens::labels` meets its contract: those counted and those from i on are all. Assumes nothing.
+use native.Mathlib.Omega.{arith}
+use denote.Ref.{now}
+use Prim.Native.Nat.{_≤_, _-_, _+_}
+use mathlib.Core.Path.{_≡_}
+use lib.ListN.{length, drop}
+use Rattle.expression.specs.Letters.{labelsOf}
+use Rattle.expression.specs.Tree.{member}
+use Rattle.tokens.specs.Answers.{setAt}
+use Rattle.tokens.specs.Sets.{labels-none, labels-more, labels-end, at-most-one}
+use Rattle.tokens.proofs.labels.Statement.{statement}
+use Rattle.tokens.proofs.labels.Tie as tie
+
+abbrev Inv-loop : tie.InvT-loop
+Inv-loop alphabet text at n₀ i₀ n i = (i ≤ length alphabet) × (n ≤ i) × (n + labelsOf (drop i alphabet) (setAt text at) ≡ labelsOf alphabet (setAt text at))
+
+abbrev μ-loop : tie.MeasureT-loop
+μ-loop alphabet text at n₀ i₀ n i = length alphabet - i
+
+loop-holds : tie.Need-loop-holds Inv-loop μ-loop
+loop-holds c = (omega arith, omega arith, labels-none (now (c .before .before .args .alphabet)) (setAt (now (c .before .before .args .text)) (c .before .before .args .at)))
+
+shared-slice-read-member : tie.Need-shared-slice-read-member Inv-loop μ-loop
+shared-slice-read-member c = omega arith
+
+member-requires : tie.Need-member-requires Inv-loop μ-loop
+member-requires c κs = c .before .before .before .before .before .pre
+
+one-if-requires : tie.Need-one-if-requires Inv-loop μ-loop
+one-if-requires c κs = tt
+
+add-n : tie.Need-add-n Inv-loop μ-loop
+add-n c = let o = at-most-one _ (c .before .member .result) (c .one-if .ensures) in omega arith
+
+add-i : tie.Need-add-i Inv-loop μ-loop
+add-i c = omega arith
+
+loop-less : tie.Need-loop-less Inv-loop μ-loop
+loop-less c = omega arith
+
+loop-again : tie.Need-loop-again Inv-loop μ-loop
+loop-again c =
+    let A = now (c .before .before .before .before .before .before .before .args .alphabet) in
+    let s = setAt (now (c .before .before .before .before .before .before .before .args .text)) (c .before .before .before .before .before .before .before .args .at) in
+    let l = c .before .before .before .before .loop in
+    let o = at-most-one _ (c .before .member .result) (c .one-if .ensures) in
+    (omega arith, omega arith, rw (c .one-if .ensures, c .before .member .ensures) (labels-more A s (l .i) (l .n) (omega arith) (l .inv .2)))
+
+returns : tie.Need-returns Inv-loop μ-loop
+returns c = labels-end (now (c .before .before .before .before .args .alphabet)) (setAt (now (c .before .before .before .before .args .text)) (c .before .before .before .before .args .at)) (c .before .loop .i) (c .before .loop .n) (omega arith) (c .before .loop .inv .2)
+
+pub labels-spec : {M : Type 1} → statement M
+labels-spec =
+    tie.close
+    (tie.spec
+    Inv-loop
+    μ-loop
+    loop-holds
+    shared-slice-read-member
+    member-requires
+    one-if-requires
+    add-n
+    add-i
+    loop-less
+    loop-again
+    returns)

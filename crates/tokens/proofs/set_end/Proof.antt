@@ -1,0 +1,82 @@
+-- `tokens::set_end` meets its contract. Assumes nothing.
+use borrow.Author.Needs.{needs}
+use denote.Ref.{now}
+use mathlib.Core.Path.{sym, _∙_}
+use Rattle.tokens.specs.Sets.{end-none, end-escape, end-dot, end-bracket, end-special, end-alone}
+use Rattle.tokens.proofs.set_end.Statement.{statement}
+use Rattle.tokens.proofs.set_end.Tie as tie
+
+returns : tie.Need-returns
+returns c =
+    let text = now (c .before .before .args .text) in
+    let at = c .before .before .args .at in
+    end-none text at (c .if1 .taken)
+
+shared-slice-read-b : tie.Need-shared-slice-read-b
+shared-slice-read-b c = search needs
+
+escape-end-requires : tie.Need-escape-end-requires
+escape-end-requires c κs = search needs
+
+returns-2 : tie.Need-returns-2
+returns-2 c =
+    let text = now (c .before .before .before .before .before .args .text) in
+    let at = c .before .before .before .before .before .args .at in
+    c .escape-end .ensures ∙ end-escape text at (c .before .before .before .if1 .left) (c .before .if2 .taken)
+
+add-t10 : tie.Need-add-t10
+add-t10 c = search needs
+
+returns-3 : tie.Need-returns-3
+returns-3 c =
+    let text = now (c .before .before .before .before .before .args .text) in
+    let at = c .before .before .before .before .before .args .at in
+    end-dot text at (c .before .before .before .if1 .left) (c .if3 .taken)
+
+bracket-end-requires : tie.Need-bracket-end-requires
+bracket-end-requires c κs = search needs
+
+returns-4 : tie.Need-returns-4
+returns-4 c =
+    let text = now (c .before .before .before .before .before .before .before .args .text) in
+    let at = c .before .before .before .before .before .before .before .args .at in
+    c .bracket-end .ensures ∙ end-bracket text at (c .before .before .before .before .before .if1 .left) (c .before .if4 .taken)
+
+slice-aggregate-one-of : tie.Need-slice-aggregate-one-of
+slice-aggregate-one-of c = search needs
+
+one-of-requires : tie.Need-one-of-requires
+one-of-requires c κs = search needs
+
+returns-5 : tie.Need-returns-5
+returns-5 c =
+    let text = now (c .before .before .before .before .before .before .before .before .before .args .text) in
+    let at = c .before .before .before .before .before .before .before .before .before .args .at in
+    end-special text at (c .before .before .before .before .before .before .before .if1 .left) (c .before .before .before .before .before .if2 .left) (c .before .before .before .before .if3 .left) (c .before .before .before .if4 .left) (sym (c .before .one-of .ensures) ∙ c .if5 .taken)
+
+add-t5 : tie.Need-add-t5
+add-t5 c = search needs
+
+returns-6 : tie.Need-returns-6
+returns-6 c =
+    let text = now (c .before .before .before .before .before .before .before .before .before .args .text) in
+    let at = c .before .before .before .before .before .before .before .before .before .args .at in
+    end-alone text at (c .before .before .before .before .before .before .before .if1 .left) (c .before .before .before .before .before .if2 .left) (c .before .before .before .before .if3 .left) (c .before .before .before .if4 .left) (sym (c .before .one-of .ensures) ∙ c .if5 .left)
+
+pub set-end-spec : {M : Type 1} → statement M
+set-end-spec =
+    tie.close
+    (tie.spec
+    returns
+    shared-slice-read-b
+    escape-end-requires
+    returns-2
+    add-t10
+    returns-3
+    bracket-end-requires
+    returns-4
+    slice-aggregate-one-of
+    one-of-requires
+    returns-5
+    add-t5
+    returns-6)

@@ -1,0 +1,170 @@
+// What stands at a place of an expression's text (document 01, "Expression text"): a set, that is an ordinary character, `.` or a
+// bracket; or a repetition. Each answer is that of crate `expression`'s definition on the text from that place on. The text may have
+// any bytes.
+pub mod bracket; // bracket.rt: brackets
+pub mod count; // count.rt: repetitions
+
+use bracket::bracket_end;
+use bracket::bracket_has;
+use refusal::Refusal;
+ghost use mathlib.Core.Path.{_≡_};
+ghost use mathlib.Core.Bool.{cond};
+ghost use Prim.Native.Nat.{_+_, _<_};
+ghost use lib.ListN.{length, getD, drop};
+ghost use Rattle.expression.specs.Tree.{member as memberOf};
+ghost use Rattle.expression.specs.Letters.{labelsOf};
+ghost use Rattle.expression.specs.Text.{one-of};
+ghost use Rattle.expression.specs.Sets.{escaped, a-set};
+ghost use Rattle.tokens.specs.Place.{until};
+ghost use Rattle.expression.specs.Sense.{few as fewOf};
+ghost use Rattle.tokens.specs.Answers.{endOf, partOf, SetAt, setAt};
+ghost use Rattle.tokens.specs.Sets.{a-label};
+
+// Where a set ends, or why it is turned away.
+pub enum End {
+    At(usize),
+    Refused(Refusal),
+}
+
+// A part of the text: where it ends, and how many letters it opens into, counted up to 128; or why it is turned away.
+pub enum Part {
+    Read(usize, usize),
+    Refused(Refusal),
+}
+
+// A repetition: at least and at most so many, or so many and more; then where it ends. Or why it is turned away.
+pub enum Repeats {
+    Between(usize, usize, usize),
+    Onward(usize, usize),
+    Refused(Refusal),
+}
+
+// The byte at a place, or 0 past the end.
+pub fn peek(text: &[u8], at: usize) -> u8
+    ensures { λ r. ⌜ r ≡ getD (now (text .entry)) at 0 ⌝ }
+{
+    if at < text.len() { text[at] } else { 0 }
+}
+
+// Is the byte one of these signs?
+pub fn one_of(signs: &[u8], b: u8) -> bool
+    ensures { λ r. ⌜ r ≡ one-of (now (signs .entry)) b ⌝ }
+{
+    let mut i = 0;
+    while i < signs.len() {
+        if b == signs[i] {
+            return true;
+        }
+        i += 1;
+    }
+    false
+}
+
+// Where the first such sign stands from a place on; past the end if there is none.
+fn find(text: &[u8], from: usize, sign: u8) -> usize
+    ensures { λ r. ⌜ r ≡ from + until sign (drop from (now (text .entry))) ⌝ }
+{
+    let mut i = from;
+    while i < text.len() {
+        if text[i] == sign {
+            return i;
+        }
+        i += 1;
+    }
+    i
+}
+
+// Where the escaped character ends whose `\` stands here.
+fn escape_end(text: &[u8], at: usize) -> End
+    requires { ⌜ at < length (now text) ⌝ }
+    ensures { λ r. ⌜ r ≡ endOf (now (text .entry)) (escaped (drop at (now (text .entry))) (drop (at + 1) (now (text .entry)))) ⌝ }
+{
+    if one_of(b"^.[$()|*+?{\\", peek(text, at + 1)) {
+        return End::At(at + 2);
+    }
+    End::Refused(Refusal::MisplacedSign)
+}
+
+// Where the set ends that begins here, or why there is none.
+pub fn set_end(text: &[u8], at: usize) -> End
+    ensures { λ r. ⌜ r ≡ endOf (now (text .entry)) (a-set (drop at (now (text .entry)))) ⌝ }
+{
+    if text.len() <= at {
+        return End::Refused(Refusal::MisplacedSign);
+    }
+    let b = text[at];
+    if b == 92 {
+        return escape_end(text, at);
+    }
+    if b == 46 {
+        return End::At(at + 1);
+    }
+    if b == 91 {
+        return bracket_end(text, at);
+    }
+    if one_of(b"^.[$()|*+?{\\", b) {
+        return End::Refused(Refusal::MisplacedSign);
+    }
+    End::At(at + 1)
+}
+
+// Is the byte a member of the set that begins here?
+pub fn member(text: &[u8], at: usize, b: u8) -> bool
+    requires { ⌜ SetAt (now text) at ⌝ }
+    ensures { λ r. ⌜ r ≡ memberOf (setAt (now (text .entry)) at) b ⌝ }
+{
+    let c = peek(text, at);
+    if c == 92 {
+        return peek(text, at + 1) == b;
+    }
+    if c == 46 {
+        return true;
+    }
+    if c == 91 {
+        return bracket_has(text, at, b);
+    }
+    c == b
+}
+
+// How many labels of the alphabet the set has that begins here.
+pub fn labels(alphabet: &[u8], text: &[u8], at: usize) -> usize
+    requires { ⌜ SetAt (now text) at ⌝ }
+    ensures { λ r. ⌜ r ≡ labelsOf (now (alphabet .entry)) (setAt (now (text .entry)) at) ⌝ }
+{
+    let mut n = 0;
+    let mut i = 0;
+    while i < alphabet.len() {
+        n += one_if(member(text, at, alphabet[i]));
+        i += 1;
+    }
+    n
+}
+
+fn one_if(t: bool) -> usize
+    ensures { λ r. ⌜ r ≡ cond t 1 0 ⌝ }
+{
+    if t { 1 } else { 0 }
+}
+
+// A number up to 128.
+pub fn few(n: usize) -> usize
+    ensures { λ r. ⌜ r ≡ fewOf n ⌝ }
+{
+    if n < 128 { n } else { 128 }
+}
+
+// The set that begins here, as a part of the text: 8 if the alphabet has none of its labels.
+pub fn set(alphabet: &[u8], text: &[u8], at: usize) -> Part
+    ensures { λ r. ⌜ r ≡ partOf (now (alphabet .entry)) (now (text .entry)) (a-label (now (alphabet .entry)) (drop at (now (text .entry)))) ⌝ }
+{
+    match set_end(text, at) {
+        End::Refused(x) => Part::Refused(x),
+        End::At(e) => {
+            let n = labels(alphabet, text, at);
+            if n == 0 {
+                return Part::Refused(Refusal::Foreign);
+            }
+            Part::Read(e, few(n))
+        }
+    }
+}
