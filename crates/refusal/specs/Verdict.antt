@@ -23,6 +23,11 @@ unless [] a = passed a
 unless (check true n ∷ cs) a = refused n
 unless (check false n ∷ cs) a = unless cs a
 
+-- going on with what passed
+unfoldable pub then : {A B : Type 0} → Verdict A → (A → Verdict B) → Verdict B
+then (passed a) f = f a
+then (refused n) f = refused n
+
 module _ {A : Type 0} (a : A) where
   pub unless-none : unless [] a ≡ passed a
   unfolding unless

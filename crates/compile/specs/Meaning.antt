@@ -1,0 +1,62 @@
+-- Demand 2, stated at Compile: the form that it writes is valid, and accepts a word exactly if the expression's set of words, by its
+-- text, has it. Assumes nothing.
+use Prim.Native.Nat.{ℕ, _≤_}
+use mathlib.Core.Path.{_≡_, refl, sym, ap, _∙_, subst}
+use mathlib.Core.Bool.{Bool, true, false, not, _&&_}
+use mathlib.Core.Logic.{_↔_, Iff·trans, Iff·symm}
+use mathlib.Core.List.{List, [], _∷_}
+use native.Mathlib.Omega.{arith}
+use lib.ListN.{length}
+use lib.Dec.{leb, ltb}
+use borrow.Author.Tests.{leb-true, ltb-false, not-false}
+use Rattle.lists.specs.Order.{and-left, and-right}
+use Rattle.lists.specs.Each.{all}
+use Rattle.refusal.specs.declared.Refusal.{Refusal}
+use Rattle.refusal.specs.declared.Refusal.the-variants.{Alphabet, TextLength, TextByte, Letters, FormMemory}
+use Rattle.refusal.specs.Verdict.{Verdict, passed, refused, Check, check, unless, then}
+use Rattle.automaton.specs.Automaton.{Accepts}
+use Rattle.automaton.specs.Form.{validForm, view, lettersOf as formLetters, alphabetOf}
+use Rattle.labels.specs.Calls.{between}
+use Rattle.expression.specs.Tree.{Tree}
+use Rattle.expression.specs.Text.{Reads, found, fault}
+use Rattle.expression.specs.Letters.{lettersOf}
+use Rattle.expression.specs.Read.{expressionOf}
+use Rattle.expression.specs.Grammar.{WordsOf}
+use Rattle.expression.specs.Exact.{exact, words-of-text, expression-whole}
+use Rattle.expression.specs.Sense.{sensible}
+use Rattle.positions.specs.Compiled.{formOf, form-valid, form-words}
+use Rattle.compile.specs.Call.{is-alphabet, text-checks, formed, read-form, compile-call}
+
+pub record Means (A s f : List ℕ) : Type 0 where
+  pub valid : validForm f ≡ true
+  pub words : (w : List ℕ) → Accepts (view f) w ↔ WordsOf A s w
+
+-- what passed a list of checks, passed each
+unless-passed : {X : Type 0} (t : Bool) (n : Refusal) (cs : List Check) (a b : X) → unless (check t n ∷ cs) a ≡ passed b → (t ≡ false) × (unless cs a ≡ passed b)
+unfolding unless
+unless-passed true n cs a b e = let z : _≡_ {A = ℕ} 0 1 = cc in absurd (omega arith)
+unless-passed false n cs a b e = (refl, e)
+
+unless-same : {X : Type 0} (a b : X) → unless [] a ≡ passed b → a ≡ b
+unfolding unless
+unless-same a b e = cc
+
+module _ (A s : List ℕ) (room : ℕ) (f : List ℕ) where
+  tree : (low : 1 ≤ length A) (high : length A ≤ 95) (y : Reads Tree) → expressionOf A s ≡ y → read-form A room y ≡ passed f → Means A s f
+  tree low high (fault n rest) e h = let z : _≡_ {A = ℕ} 0 1 = cc in absurd (omega arith)
+  tree low high (found t rest) e h =
+      let a = unless-passed (ltb 127 (lettersOf A t)) Letters (check (ltb room (length (formOf A t))) FormMemory ∷ []) (formOf A t) f h in
+      let b = unless-passed (ltb room (length (formOf A t))) FormMemory [] (formOf A t) f (a .1) in
+      let same = unless-same (formOf A t) f (b .1) in
+      let few : lettersOf A t ≤ 127 = ltb-false 127 (lettersOf A t) (a .0) in
+      let whole : expressionOf A s ≡ found t [] = e ∙ ap (found t) (expression-whole A s t rest e) in
+      let o = sensible A t 16 s (exact A s t .0 whole) in
+      subst (Means A s) same
+      (record {
+        valid = form-valid A t o low high few;
+        words = λ w. Iff·trans (form-words A t o low high few w) (Iff·symm (words-of-text A s t whole w));
+      })
+
+  -- the theorem a user reads
+  pub compiled-means : compile-call A s room ≡ passed f → Means A s f
+  compiled-means e = ?
