@@ -1,6 +1,6 @@
 -- What Decode promises (demand 3, of every valid form), for any set of words. Assumes nothing.
 use Prim.Native.Nat.{ℕ}
-use mathlib.Core.Path.{_≡_}
+use mathlib.Core.Path.{_≡_, refl}
 use mathlib.Core.Option.{Option, some, none}
 use mathlib.Core.List.{List, []}
 use lib.ListN.{length, drop}
@@ -16,6 +16,8 @@ use Rattle.automaton.specs.Automaton.{Accepts}
 use Rattle.automaton.specs.Form.{view, lettersOf}
 use Rattle.reading.specs.Matrix.{Matrix, price}
 use Rattle.reading.specs.Reading.{Outcome}
+use Rattle.decode.specs.declared.Decoded.{Decoded}
+use Rattle.decode.specs.declared.Decoded.the-variants as answer
 use Rattle.decode.specs.Checks.{Rooms, needed, decode-checks}
 
 -- the lent lists
@@ -27,11 +29,20 @@ pub record Lent : Type 0 where
 abbrev pub rooms : Lent → Rooms
 rooms m = record { path = length (m .path); word = length (m .word); work = length (m .work) }
 
+-- the price and the length of a path's word
+abbrev pub decoded : (price length : ℕ) → Report
+decoded p n = record { number = 0; price = p; filled = n; form = 0 }
+
+-- what Decode's answer reports
+abbrev pub reported : Decoded → Report
+reported (answer.Path p n) = decoded p n
+reported (answer.Refused n) = turned-away n
+
 -- What is reported of an outcome, and what stands in path and word memory.
 
 abbrev pub outcome-report : Matrix → Option (List ℕ) → Report
 outcome-report M none = turned-away NoReading
-outcome-report M (some p) = record { number = 0; price = price M p; filled = length (collapse p); form = 0 }
+outcome-report M (some p) = decoded (price M p) (length (collapse p))
 
 abbrev pub path-of : Option (List ℕ) → List ℕ
 path-of none = []
@@ -54,6 +65,13 @@ pub record Answers (Word : List ℕ → Type 0) (M : Matrix) (need : ℕ) (befor
 abbrev pub Checks : Checked → (Word : List ℕ → Type 0) (M : Matrix) (need : ℕ) (before after : Lent) (answer : Report) → Type 0
 Checks (Refused n) Word M need before after answer = (answer ≡ turned-away n) × (after ≡ before)
 Checks Passed Word M need before after answer = Answers Word M need before after answer
+
+module _ (c : Checked) (Word : List ℕ → Type 0) (M : Matrix) (need : ℕ) where
+  pub checks-refused : (n : Refusal) (memory : Lent) → c ≡ Refused n → Checks c Word M need memory memory (turned-away n)
+  checks-refused n memory e = rw e (refl, refl)
+
+  pub checks-passed : (before after : Lent) (answer : Report) → c ≡ Passed → Answers Word M need before after answer → Checks c Word M need before after answer
+  checks-passed before after answer e h = rw e h
 
 -- Decode's promise
 abbrev pub Decodes : (form : List ℕ) (M : Matrix) (before after : Lent) (answer : Report) → Type 0

@@ -1,5 +1,8 @@
 // Decode: the cheapest path whose collapse the form accepts, and among equals the first by labels (document 01, "Extended states and
 // decoding").
+use form::alphabet;
+use form::letters;
+use form::valid;
 use refusal::Checked;
 use refusal::Refusal;
 ghost use mathlib.Core.Path.{_≡_};
@@ -8,11 +11,21 @@ ghost use Prim.Native.Nat.{ℕ, _+_, _*_, _<_, _≤_};
 ghost use lib.ListN.{length};
 ghost use Rattle.lists.specs.Each.{all};
 ghost use Rattle.refusal.specs.Verdict.{first-of};
-ghost use Rattle.automaton.specs.Form.{validForm};
-ghost use Rattle.reading.specs.Matrix.{Matrix};
-ghost use Rattle.decode.specs.Checks.{Rooms, passes, needed, matrix-fault, matrix-checks, decode-checks};
+ghost use Rattle.automaton.specs.Automaton.{Accepts};
+ghost use Rattle.automaton.specs.Form.{view, alphabetOf, lettersOf};
+ghost use Rattle.automaton.specs.Valid.{Valid};
+ghost use Rattle.reading.specs.Matrix.{matrix};
+ghost use Rattle.decode.specs.Checks.{passes, needed, matrix-fault, matrix-checks};
+ghost use Rattle.decode.specs.Passing.{Fits};
+ghost use Rattle.decode.specs.Promise.{rooms, Answers, Decodes, reported};
 
-// Does one of the costs go over 1,000,000?
+// What Decode answers: the price of the path and the length of its word, or why it turned the input away.
+pub enum Decoded {
+    Path { price: u32, length: usize },
+    Refused(Refusal),
+}
+
+// Is no cost over 1,000,000?
 fn all_pass(costs: &[u32]) -> bool
     ensures { λ r. ⌜ r ≡ all passes (now (costs .entry)) ⌝ }
 {
@@ -29,7 +42,7 @@ fn all_pass(costs: &[u32]) -> bool
 // Is the matrix turned away by its size, for an alphabet of k characters? (Row 12; no product overflows.)
 fn has_fault(k: usize, costs: &[u32], width: usize, count: usize) -> bool
     requires { ⌜ k ≤ 95 ⌝ }
-    ensures { λ r. ⌜ r ≡ matrix-fault k (record { costs = now (costs .entry); width = width; count = count }) ⌝ }
+    ensures { λ r. ⌜ r ≡ matrix-fault k (matrix (now (costs .entry)) width count) ⌝ }
 {
     if 255 < count {
         return true;
@@ -52,7 +65,7 @@ pub fn check_matrix(
     work: usize,
 ) -> Checked
     requires { ⌜ (k ≤ 95) × (l ≤ 127) ⌝ }
-    ensures { λ r. ⌜ r ≡ first-of (matrix-checks k l (record { costs = now (costs .entry); width = width; count = count }) (record { path = path; word = word; work = work })) ⌝ }
+    ensures { λ r. ⌜ r ≡ first-of (matrix-checks k l (matrix (now (costs .entry)) width count) (record { path = path; word = word; work = work })) ⌝ }
 {
     if has_fault(k, costs, width, count) {
         return Checked::Refused(Refusal::Matrix);
@@ -70,4 +83,59 @@ pub fn check_matrix(
         return Checked::Refused(Refusal::Work);
     }
     Checked::Passed
+}
+
+// Past the checks: the costs to go, and the best path traced through them.
+pub fn decode_valid(
+    form: &[u32],
+    costs: &[u32],
+    width: usize,
+    count: usize,
+    path: &mut [u8],
+    word: &mut [u8],
+    work: &mut [u32],
+) -> Decoded
+    requires { ⌜ Valid (now form) × Fits (alphabetOf (now form)) (lettersOf (now form)) (matrix (now costs) width count) (rooms (record { path = now path; word = now word; work = now work })) ⌝ }
+    ensures { λ r. ⌜ Answers (Accepts (view (now (form .entry)))) (matrix (now (costs .entry)) width count) (needed count (lettersOf (now (form .entry)))) (record { path = now (path .entry); word = now (word .entry); work = now (work .entry) }) (record { path = now (path .exit); word = now (word .exit); work = now (work .exit) }) (reported r) ⌝ }
+{
+    let stride = 2 * letters(form) + 1;
+    let price = table::fill(form, costs, width, count, work);
+    if 1000000000 <= price {
+        return Decoded::Refused(Refusal::NoReading);
+    }
+    trace::trace(form, costs, width, count, work, 0, stride, path);
+    let length = labels::write_collapse(&path[..count], word);
+    Decoded::Path { price, length }
+}
+
+// Document 01's Decode.
+pub fn decode(
+    form: &[u32],
+    costs: &[u32],
+    width: usize,
+    count: usize,
+    path: &mut [u8],
+    word: &mut [u8],
+    work: &mut [u32],
+) -> Decoded
+    ensures { λ r. ⌜ Decodes (now (form .entry)) (matrix (now (costs .entry)) width count) (record { path = now (path .entry); word = now (word .entry); work = now (work .entry) }) (record { path = now (path .exit); word = now (word .exit); work = now (work .exit) }) (reported r) ⌝ }
+{
+    if !valid(form) {
+        return Decoded::Refused(Refusal::BadForm);
+    }
+    let k = alphabet(form);
+    let l = letters(form);
+    match check_matrix(
+        k,
+        l,
+        costs,
+        width,
+        count,
+        path.len(),
+        word.len(),
+        work.len(),
+    ) {
+        Checked::Refused(r) => Decoded::Refused(r),
+        Checked::Passed => decode_valid(form, costs, width, count, path, word, work),
+    }
 }

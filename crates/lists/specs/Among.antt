@@ -87,6 +87,7 @@ module _ {A : Type 0} where
       by (inl l) = inl (inr l)
       by (inr r) = inr r
 
+  -- tests that agree on the list keep the same
   pub keep-same : (p q : A → Bool) (xs : List A) → ((x : A) → Among x xs → p x ≡ q x) → keep p xs ≡ keep q xs
   unfolding keep
   keep-same p q [] h = refl
@@ -117,6 +118,16 @@ module _ {A : Type 0} where
       by true e (inl q) ih = (inl q, ap p q ∙ e)
       by true e (inr r) ih = (inr (ih r .0), ih r .1)
       by false e r ih = (inr (ih r .0), ih r .1)
+
+module _ {A B : Type 0} where
+  pub map-same : (f g : A → B) (xs : List A) → ((x : A) → Among x xs → f x ≡ g x) → map f xs ≡ map g xs
+  map-same f g [] e = refl
+  map-same f g (x ∷ xs) e = ap₂ _∷_ (e x (inl refl)) (map-same f g xs (λ y m. e y (inr m)))
+
+  pub flat-same : (f g : A → List B) (xs : List A) → ((x : A) → Among x xs → f x ≡ g x) → flatMap f xs ≡ flatMap g xs
+  unfolding flatMap
+  flat-same f g [] e = refl
+  flat-same f g (x ∷ xs) e = ap₂ _++_ (e x (inl refl)) (flat-same f g xs (λ y m. e y (inr m)))
 
 module _ {A B : Type 0} (f : A → B) where
   pub among-map : (a : A) (xs : List A) → Among a xs → Among (f a) (map f xs)

@@ -1,11 +1,12 @@
 -- Lists of numbers in ascending order: the numbers from one on, what keeps the order, and that a list is known by its elements.
 -- Assumes nothing.
-use Prim.Native.Nat.{ℕ, zero, suc, _+_, _<_, _≤_}
-use mathlib.Core.Path.{_≡_, refl, ap, ap₂, _∙_}
+use Prim.Native.Nat.{ℕ, zero, suc, _+_, _-_, _<_, _≤_}
+use mathlib.Core.Path.{_≡_, refl, sym, ap, ap₂, subst, _∙_}
 use mathlib.Core.Bool.{Bool, true, false}
 use mathlib.Core.Logic.{_⊎_, inl, inr}
 use mathlib.Core.List.{List, [], _∷_, _++_, map, flatMap}
 use native.Mathlib.Nat.{le-of-suc-le-suc, not-suc-le-zero}
+use native.Mathlib.Numerals.{add-one}
 use native.Mathlib.Omega.{arith}
 use lib.ListN.{length, getD}
 use Rattle.lists.specs.Each.{Each, each-append, each-at}
@@ -21,6 +22,17 @@ pub length-numbers : (a n : ℕ) → length (numbers a n) ≡ n
 unfolding numbers
 length-numbers a zero = refl
 length-numbers a (suc n) = ap suc (length-numbers (suc a) n)
+
+-- what is left of the numbers up to e at a loop's j, and where the loop ends
+pub numbers-here : (j e : ℕ) → j < e → numbers j (e - j) ≡ j ∷ numbers (j + 1) (e - (j + 1))
+unfolding numbers
+numbers-here j e l =
+    let size : e - j ≡ suc (e - (j + 1)) = omega arith in
+    ap (numbers j) size ∙ ap (λ a. j ∷ numbers a (e - (j + 1))) (sym (add-one j))
+
+pub numbers-past : (j e : ℕ) → e ≤ j → numbers j (e - j) ≡ []
+unfolding numbers
+numbers-past j e l = let size : e - j ≡ 0 = omega arith in ap (numbers j) size
 
 pub map-numbers-at : {A : Type 0} (f : ℕ → A) (a n i : ℕ) (d : A) → i < n → getD (map f (numbers a n)) i d ≡ f (a + i)
 unfolding numbers

@@ -4,4 +4,6 @@ pub mod Least
 pub mod Written
 pub mod Among
 pub mod Ascending
+pub mod Outside
 pub mod Marks
+pub mod Upto

@@ -5,8 +5,8 @@ use mathlib.Core.Path.{_≡_, refl, sym, ap, ap₂, _∙_, subst}
 use mathlib.Core.List.{List, [], _∷_, _++_, append-assoc, append-nil}
 use native.Mathlib.Numerals.{add-one}
 use native.Mathlib.Omega.{arith}
-use lib.ListN.{length, getD, take, drop, set, length-append, length-take, length-drop}
-use lib.Seq.{drop-cons, take-suc, set-at, sets, length-take-le, take-length, drop-drop, take-all}
+use lib.ListN.{length, getD, take, drop, set, length-append, length-take, length-drop, take-append-drop}
+use lib.Seq.{drop-cons, take-suc, set-at, sets, length-take-le, take-length, drop-drop, take-all, take-at, drop-at}
 
 module _ {A : Type 0} where
   -- the list in front, and behind it the memory as it was
@@ -106,3 +106,31 @@ module _ {A : Type 0} where
         let w = f .within in
         let e : n ≡ length whole = let l = ap length (f .left) in omega (arith, length-drop n whole) in
         record { count = e; memory = f .so-far ∙ ap (λ l. written l memory) (ap (λ k. take k whole) e ∙ take-length whole) }
+
+  -- Storing a list from place n on is such a loop too: what stands in front of the place is written already.
+  module _ (c memory : List A) (n : ℕ) (room : n + length c ≤ length memory) where
+    front : length (take n memory) ≡ n
+    front = length-take-le n memory (omega arith)
+
+    pub filling-from : Filling (take n memory ++ c) memory memory c n
+    unfolding written
+    filling-from =
+        let size : length (take n memory ++ c) ≡ n + length c = length-append (take n memory) c ∙ ap (λ k. k + length c) front in
+        record {
+          room = omega arith;
+          within = omega arith;
+          left = drop-at (take n memory) c n front;
+          so-far =
+              sym
+              (ap (λ l. written l memory) (take-at (take n memory) c n front)
+              ∙ ap (λ k. take n memory ++ drop k memory) front
+              ∙ take-append-drop n memory);
+        }
+
+    pub filling-stored-all : (after : List A) (next : ℕ) → Filling (take n memory ++ c) memory after [] next → Stored c n memory after next
+    filling-stored-all after next f =
+        let whole = take n memory ++ c in
+        let start : Filling whole memory memory (c ++ []) n = rw append-nil filling-from in
+        let direct = filling-all whole memory (sets memory n c) (n + length c) (filling-some whole memory c memory [] n start) in
+        let wrote = filling-all whole memory after next f in
+        record { next = wrote .count ∙ sym (direct .count); memory = wrote .memory ∙ sym (direct .memory) }

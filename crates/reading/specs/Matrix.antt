@@ -16,6 +16,9 @@ pub record Matrix : Type 0 where
   pub width : ℕ
   pub count : ℕ
 
+abbrev pub matrix : (costs : List ℕ) (width count : ℕ) → Matrix
+matrix costs width count = record { costs = costs; width = width; count = count }
+
 -- the cost of label x in column t
 abbrev pub cost : Matrix → ℕ → ℕ → ℕ
 cost M t x = getD (M .costs) (t * M .width + x) 0

@@ -1,0 +1,4 @@
+pub mod Arrays
+pub mod Parts
+pub mod Turns
+pub mod Whole

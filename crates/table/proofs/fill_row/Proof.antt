@@ -1,0 +1,88 @@
+-- `table::fill_row` meets its contract. Assumes nothing.
+use Prim.Native.Nat.{_+_, _≤_}
+use mathlib.Core.Path.{_≡_, ap₂, subst, _∙_}
+use native.Mathlib.Omega.{arith}
+use lib.ListN.{length, getD}
+use borrow.Author.Needs.{needs}
+use denote.Ref.{now}
+use Rattle.trellis.specs.Impossible.{TOP}
+use Rattle.table.specs.Rows.{row-filled}
+use Rattle.table.proofs.fill_row.Statement.{statement}
+use Rattle.table.proofs.fill_row.Tie as tie
+
+mul-blank : tie.Need-mul-blank
+mul-blank c = search needs
+
+shared-slice-read-blank : tie.Need-shared-slice-read-blank
+shared-slice-read-blank c = search needs
+
+candidates-requires : tie.Need-candidates-requires
+candidates-requires c κs = let p = c .before .before .before .before .before .before .pre in (p .0, p .2, p .4)
+
+mul-plus : tie.Need-mul-plus
+mul-plus c = search needs
+
+slice-read-plus : tie.Need-slice-read-plus
+slice-read-plus c = search needs
+
+plus-requires : tie.Need-plus-requires
+plus-requires c κs =
+    let a = c .before .before .before .before .before .before .before .before .args in
+    let e : a .next + 0 ≡ a .next = omega arith in
+    subst (λ k. getD (now (a .work)) k 0 ≤ TOP) e (c .before .before .before .before .before .before .before .before .pre .4 .top 0 (omega arith))
+
+slice-aggregate-to-first : tie.Need-slice-aggregate-to-first
+slice-aggregate-to-first c = search needs
+
+to-first-requires : tie.Need-to-first-requires
+to-first-requires c κs = search needs
+
+least-requires : tie.Need-least-requires
+least-requires c κs = search needs
+
+slice-aggregate-fill-letters : tie.Need-slice-aggregate-fill-letters
+slice-aggregate-fill-letters c = search needs
+
+fill-letters-requires : tie.Need-fill-letters-requires
+fill-letters-requires c κs =
+    let p = c .before .before .before .before .before .before .before .before .before .before .before .before .before .before .pre in
+    (p .0, p .1, c .before .before .before .before .before .before .before .candidates .ensures .good, p .3, p .4)
+
+mul-work : tie.Need-mul-work
+mul-work c = search needs
+
+slice-write-work : tie.Need-slice-write-work
+slice-write-work c = search needs
+
+same-length : tie.Need-same-length
+same-length c = search needs
+
+returns : tie.Need-returns
+returns c =
+    let a = c .before .before .before .before .before .before .before .before .before .before .before .before .before .before .before .before .before .args in
+    let p = c .before .before .before .before .before .before .before .before .before .before .before .before .before .before .before .before .before .pre in
+    let letters = c .before .before .fill-letters in
+    row-filled (p .0) (now (a .costs)) (a .at) (now (a .work)) (a .here) (a .next) (c .before .before .before .before .before .before .before .before .before .before .candidates .result) (c .before .before .before .before .before .before .before .before .before .before .candidates .ensures)
+    (letters .last .1 .1 .1 .1 .0) (let r = p .4 .room in let l = letters .ensures .outside .size in omega (arith, p .3)) (letters .ensures)
+    (c .before .before .before .before .before .before .to-first .result) (c .before .before .before .before .before .least .result) (c .before .before .before .before .before .before .to-first .ensures)
+    (cc (c .before .before .before .before .before .least .ensures, c .before .before .before .before .before .before .before .before .plus .ensures))
+
+pub fill-row-spec : {M : Type 1} → statement M
+fill-row-spec =
+    tie.close
+    (tie.spec
+    mul-blank
+    shared-slice-read-blank
+    candidates-requires
+    mul-plus
+    slice-read-plus
+    plus-requires
+    slice-aggregate-to-first
+    to-first-requires
+    least-requires
+    slice-aggregate-fill-letters
+    fill-letters-requires
+    mul-work
+    slice-write-work
+    same-length
+    returns)

@@ -1,0 +1,144 @@
+-- `table::fill_rows` meets its contract: the rows from that of column t on. Assumes nothing.
+use Prim.Native.Nat.{_+_, _*_, _-_, _<_, _≤_}
+use mathlib.Core.Path.{_≡_, sym, subst, _∙_}
+use native.Mathlib.Omega.{arith}
+use lib.ListN.{length}
+use borrow.Author.Needs.{needs}
+use denote.Ref.{now}
+use Rattle.automaton.specs.Form.{alphabetOf}
+use Rattle.table.specs.Fill.{matrix, RowsFilled, rows-last, cost-inside, row-inside, next-bounded, rows-more}
+use Rattle.table.proofs.fill_rows.Statement.{statement}
+use Rattle.table.proofs.fill_rows.Tie as tie
+
+abbrev Inv-loop : tie.InvT-loop
+Inv-loop form costs width count work₀ stride begins t₀ work t = (t ≤ count) × RowsFilled form (matrix costs width count) work₀ work stride t
+
+abbrev μ-loop : tie.MeasureT-loop
+μ-loop form costs width count work₀ stride begins t₀ work t = t
+
+starts-requires : tie.Need-starts-requires Inv-loop μ-loop
+starts-requires c κs = c .before .before .before .pre .0 .valid
+
+loop-holds : tie.Need-loop-holds Inv-loop μ-loop
+loop-holds c =
+    let a = c .before .before .before .before .args in
+    (omega arith, rows-last (matrix (now (a .costs)) (a .width) (a .count)) (now (a .work)) (a .stride) (c .before .before .before .before .pre .1))
+
+sub-t : tie.Need-sub-t Inv-loop μ-loop
+sub-t c = omega (arith, c .loop-test .taken)
+
+slice-aggregate-fill-row : tie.Need-slice-aggregate-fill-row Inv-loop μ-loop
+slice-aggregate-fill-row c = sym (c .before .before .before .starts .ensures .size)
+
+mul-fill-row : tie.Need-mul-fill-row Inv-loop μ-loop
+mul-fill-row c =
+    let a = c .before .before .before .before .before .before .before .args in
+    let p = c .before .before .before .before .before .before .before .pre in
+    let l = c .before .before .loop in
+    let h = c .before .loop-test .taken in
+    let m = matrix (now (a .costs)) (a .width) (a .count) in
+    let few : l .t - 1 < a .count = omega (arith, l .inv .0) in
+    let inside = cost-inside m (now (a .work)) (a .stride) (p .0) (l .t - 1) few in
+    let good = c .before .before .before .before .before .before .before .good in
+    omega (arith, inside)
+
+mul-fill-row-2 : tie.Need-mul-fill-row-2 Inv-loop μ-loop
+mul-fill-row-2 c =
+    let a = c .before .before .before .before .before .before .before .before .args in
+    let p = c .before .before .before .before .before .before .before .before .pre in
+    let l = c .before .before .before .loop in
+    let h = c .before .before .loop-test .taken in
+    let m = matrix (now (a .costs)) (a .width) (a .count) in
+    let few : l .t - 1 < a .count = omega (arith, l .inv .0) in
+    let inside = row-inside m (now (a .work)) (a .stride) (p .0) (l .t - 1) few in
+    let good = c .before .before .before .before .before .before .before .before .good in
+    omega (arith, inside)
+
+mul-fill-row-3 : tie.Need-mul-fill-row-3 Inv-loop μ-loop
+mul-fill-row-3 c =
+    let a = c .before .before .before .before .before .before .before .before .args in
+    let p = c .before .before .before .before .before .before .before .before .pre in
+    let l = c .before .before .before .loop in
+    let h = c .before .before .loop-test .taken in
+    let m = matrix (now (a .costs)) (a .width) (a .count) in
+    let few : l .t - 1 < a .count = omega (arith, l .inv .0) in
+    let inside = row-inside m (now (a .work)) (a .stride) (p .0) (l .t - 1) few in
+    let good = c .before .before .before .before .before .before .before .before .good in
+    omega (arith, inside)
+
+add-fill-row : tie.Need-add-fill-row Inv-loop μ-loop
+add-fill-row c =
+    let a = c .before .before .before .before .before .before .before .before .args in
+    let p = c .before .before .before .before .before .before .before .before .pre in
+    let l = c .before .before .before .loop in
+    let h = c .before .before .loop-test .taken in
+    let m = matrix (now (a .costs)) (a .width) (a .count) in
+    let few : l .t - 1 < a .count = omega (arith, l .inv .0) in
+    let inside = row-inside m (now (a .work)) (a .stride) (p .0) (l .t - 1) few in
+    let good = c .before .before .before .before .before .before .before .before .good in
+    omega (arith, inside)
+
+fill-row-requires : tie.Need-fill-row-requires Inv-loop μ-loop
+fill-row-requires c κs =
+    let a = c .before .before .before .before .before .before .before .before .args in
+    let p = c .before .before .before .before .before .before .before .before .pre in
+    let l = c .before .before .before .loop in
+    let h = c .before .before .loop-test .taken in
+    let m = matrix (now (a .costs)) (a .width) (a .count) in
+    let few : l .t - 1 < a .count = omega (arith, l .inv .0) in
+    let e : l .t ≡ l .t - 1 + 1 = omega arith in
+    let done = subst (RowsFilled (now (a .form)) m (now (a .work)) (l .work) (a .stride)) e (l .inv .1) in
+    let wide = p .0 .row in (
+      p .0 .valid,
+      c .before .before .before .before .starts .ensures,
+      cost-inside m (now (a .work)) (a .stride) (p .0) (l .t - 1) few,
+      omega arith,
+      next-bounded m (now (a .work)) (a .stride) (p .0) (l .t - 1) few (l .work) done,
+    )
+
+loop-less : tie.Need-loop-less Inv-loop μ-loop
+loop-less c = omega (arith, c .before .before .before .before .before .loop-test .taken)
+
+loop-again : tie.Need-loop-again Inv-loop μ-loop
+loop-again c =
+    let a = c .before .before .before .before .before .before .before .before .before .before .before .args in
+    let p = c .before .before .before .before .before .before .before .before .before .before .before .pre in
+    let l = c .before .before .before .before .before .before .loop in
+    let h = c .before .before .before .before .before .loop-test .taken in
+    let m = matrix (now (a .costs)) (a .width) (a .count) in
+    let few : l .t - 1 < a .count = omega (arith, l .inv .0) in
+    let e : l .t ≡ l .t - 1 + 1 = omega arith in
+    let done = subst (RowsFilled (now (a .form)) m (now (a .work)) (l .work) (a .stride)) e (l .inv .1) in
+    let row = c .before .before .fill-row in
+    (omega arith, rows-more m (now (a .work)) (a .stride) (p .0) (l .t - 1) few (l .work) done (row .last .1 .1 .1 .1 .0) (row .ensures))
+
+same-length : tie.Need-same-length Inv-loop μ-loop
+same-length c = c .before .loop .inv .1 .outside .size
+
+returns : tie.Need-returns Inv-loop μ-loop
+returns c =
+    let a = c .before .before .before .before .before .before .args in
+    let l = c .before .loop in
+    let h = c .loop-test .left in
+    let e : l .t ≡ 0 = omega arith in
+    subst (RowsFilled (now (a .form)) (matrix (now (a .costs)) (a .width) (a .count)) (now (a .work)) (l .work) (a .stride)) e (l .inv .1)
+
+pub fill-rows-spec : {M : Type 1} → statement M
+fill-rows-spec =
+    tie.close
+    (tie.spec
+    Inv-loop
+    μ-loop
+    starts-requires
+    loop-holds
+    sub-t
+    slice-aggregate-fill-row
+    mul-fill-row
+    mul-fill-row-2
+    mul-fill-row-3
+    add-fill-row
+    fill-row-requires
+    loop-less
+    loop-again
+    same-length
+    returns)

@@ -1,0 +1,5 @@
+pub mod Offers
+pub mod Column
+pub mod Letters
+pub mod Rows
+pub mod Fill

@@ -1,0 +1,54 @@
+// The best path, traced forward through the table of costs to go (document 01, "Extended states and decoding"): the set of all
+// equally cheap states is taken on column by column, by the lowest label that keeps to the price.
+mod column;
+mod steps;
+
+use column::advance;
+use form::letters;
+use form::starts;
+ghost use Prim.Native.Nat.{_≤_};
+ghost use lib.ListN.{length};
+ghost use Rattle.automaton.specs.Form.{view};
+ghost use Rattle.trace.specs.Traced.{matrix, Ready, Traced};
+
+// Where the trace stands: the label of the last column, what is left to pay, and the states that share it.
+pub struct Front {
+    label: u8,
+    left: u32,
+    set: [bool; 255],
+}
+
+// Writes the best path, one label for each column. The row of column t begins at base + t * stride of the work memory.
+pub fn trace(
+    form: &[u32],
+    costs: &[u32],
+    width: usize,
+    count: usize,
+    work: &[u32],
+    base: usize,
+    stride: usize,
+    path: &mut [u8],
+)
+    requires { ⌜ Ready (now form) (matrix (now costs) width count) (now work) base stride × (count ≤ length (now path)) ⌝ }
+    ensures { λ _. ⌜ Traced (view (now (form .entry))) (matrix (now (costs .entry)) width count) (now (path .entry)) (now (path .exit)) ⌝ }
+{
+    let begins = starts(form);
+    let states = 2 * letters(form) + 1;
+    let mut set = [false; 255];
+    set[0] = true;
+    let mut front = Front {
+        label: 0,
+        left: work[base],
+        set: set,
+    };
+    let mut t = 0;
+    while t < count {
+        let at = t * width;
+        let end = at + width;
+        let row = base + (t + 1) * stride;
+        let past = row + states;
+        front = advance(form, &begins, &costs[at..end], &work[row..past], front);
+        path[t] = front.label;
+        t += 1;
+    }
+}
