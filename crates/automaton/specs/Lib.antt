@@ -5,3 +5,4 @@ pub mod Words
 pub mod Valid
 pub mod Encode
 pub mod Examples
+pub mod Same
