@@ -5,4 +5,3 @@ pub mod Words
 pub mod Valid
 pub mod Encode
 pub mod Examples
-pub mod Same

@@ -25,7 +25,7 @@ use Rattle.expression.specs.Grammar.{WordsOf}
 use Rattle.expression.specs.Exact.{exact, words-of-text, expression-whole}
 use Rattle.expression.specs.Sense.{sensible}
 use Rattle.positions.specs.Compiled.{formOf, form-valid, form-words}
-use Rattle.compile.specs.Call.{is-alphabet, text-checks, formed, read-form, compile-call}
+use Rattle.compile.specs.Call.{distinct, is-alphabet, text-checks, formed, read-form, compile-call}
 
 pub record Means (A s f : List ℕ) : Type 0 where
   pub valid : validForm f ≡ true
@@ -59,4 +59,15 @@ module _ (A s : List ℕ) (room : ℕ) (f : List ℕ) where
 
   -- the theorem a user reads
   pub compiled-means : compile-call A s room ≡ passed f → Means A s f
-  compiled-means e = ?
+  unfolding compile-call then
+  compiled-means e = by (unless (text-checks A s) s) refl e
+    where
+      by : (v : Verdict (List ℕ)) → unless (text-checks A s) s ≡ v → then v (λ s. read-form A room (expressionOf A s)) ≡ passed f → Means A s f
+      by (refused n) h g = let z : _≡_ {A = ℕ} 0 1 = cc in absurd (omega arith)
+      by (passed s′) h g =
+          let a = unless-passed (not (is-alphabet A)) Alphabet (check (not (between 1 255 (length s))) TextLength ∷ (check (not (all (between 32 126) s)) TextByte ∷ [])) s s′ h in
+          let b = unless-passed (not (between 1 255 (length s))) TextLength (check (not (all (between 32 126) s)) TextByte ∷ []) s s′ (a .1) in
+          let c = unless-passed (not (all (between 32 126) s)) TextByte [] s s′ (b .1) in
+          let size = and-left (between 1 95 (length A)) (all (between 32 126) A && distinct A) (not-false (is-alphabet A) (a .0)) in
+          tree (leb-true 1 (length A) (and-left (leb 1 (length A)) (leb (length A) 95) size)) (leb-true (length A) 95 (and-right (leb 1 (length A)) (leb (length A) 95) size))
+          (expressionOf A s) refl (rw (sym (unless-same s s′ (c .1))) at g)
