@@ -1,2 +1,4 @@
 pub mod Call
 pub mod Meaning
+pub mod Tests
+pub mod Turns

@@ -67,3 +67,17 @@ pub first-passed : (t : Bool) (n : Refusal) (cs : List Check) → first-of (chec
 unfolding first-of
 first-passed true n cs e = let z : _≡_ {A = ℕ} 0 1 = cc in absurd (omega arith)
 first-passed false n cs e = (refl, e)
+
+-- the checks alone decide what the input gets
+module _ {A : Type 0} (a : A) where
+  pub first-refused : (n : Refusal) (cs : List Check) → first-of cs ≡ Refused n → unless cs a ≡ refused n
+  unfolding first-of unless
+  first-refused n [] e = let z : _≡_ {A = ℕ} 0 1 = cc in absurd (omega arith)
+  first-refused n (check true m ∷ cs) e = let q : m ≡ n = cc in ap refused q
+  first-refused n (check false m ∷ cs) e = first-refused n cs e
+
+  pub first-all : (cs : List Check) → first-of cs ≡ Passed → unless cs a ≡ passed a
+  unfolding first-of unless
+  first-all [] e = refl
+  first-all (check true m ∷ cs) e = let z : _≡_ {A = ℕ} 0 1 = cc in absurd (omega arith)
+  first-all (check false m ∷ cs) e = first-all cs e
