@@ -125,10 +125,12 @@ module _ {f : List ℕ} (cs : List ℕ) {i b e : ℕ} (valid : Valid f) (first :
             let p = first .past in
             let q = next .inside in
             let h = o .1 in
-            let g = o .2 in
-            (target (getD f k 0),
-            arc-follow f i (target (getD f k 0)) low (record { index = k; past = omega arith; inside = omega arith; from = range-source f i b e first next k h g; to = refl }),
-            o .3 .0, o .3 .1)
+            let g = o .2 in (
+              target (getD f k 0),
+              arc-follow f i (target (getD f k 0)) low (record { index = k; past = omega arith; inside = omega arith; from = range-source f i b e first next k h g; to = refl }),
+              o .3 .0,
+              o .3 .1,
+            )
 
         from : (barred n : ℕ) → ByArc (view f) (candidate cs) i barred n → Among b e (Along f cs barred) n
         from barred n o =

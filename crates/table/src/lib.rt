@@ -1,5 +1,10 @@
 // The table of costs to go of Decode, filled backward, row by row (document 01, "Extended states and decoding").
-use form::{label, letters, may_be_first, may_end, starts, target};
+use form::label;
+use form::letters;
+use form::may_be_first;
+use form::may_end;
+use form::starts;
+use form::target;
 ghost use mathlib.Core.Path.{_≡_};
 ghost use Prim.Native.Nat.{ℕ, _+_, _*_, _/_, _<_, _≤_, min};
 ghost use lib.ListN.{length, getD};
@@ -122,7 +127,16 @@ fn to_first(form: &[u32], candidates: &[u32]) -> u32
 }
 
 // Writes the two states of letter i into the row at `here`, by the row at `next`.
-fn fill_letter(form: &[u32], begins: &[usize], candidates: &[u32], blank: u32, work: &mut [u32], here: usize, next: usize, i: usize)
+fn fill_letter(
+    form: &[u32],
+    begins: &[usize],
+    candidates: &[u32],
+    blank: u32,
+    work: &mut [u32],
+    here: usize,
+    next: usize,
+    i: usize,
+)
     requires { ⌜ Valid (now form) × ArcStarts (now form) (now begins) × Candidates (now candidates) × (here + 2 * lettersOf (now form) < next) × Bounded (now form) (now work) next × (1 ≤ i) × (i ≤ lettersOf (now form)) ⌝ }
     ensures { λ _. ⌜ LetterFilled (now (form .entry)) (now (candidates .entry)) blank (now (work .entry)) (now (work .exit)) here next i ⌝ }
 {
@@ -133,7 +147,15 @@ fn fill_letter(form: &[u32], begins: &[usize], candidates: &[u32], blank: u32, w
 }
 
 // Writes the states of all letters into the row at `here`, by the row at `next`.
-fn fill_letters(form: &[u32], begins: &[usize], candidates: &[u32], blank: u32, work: &mut [u32], here: usize, next: usize)
+fn fill_letters(
+    form: &[u32],
+    begins: &[usize],
+    candidates: &[u32],
+    blank: u32,
+    work: &mut [u32],
+    here: usize,
+    next: usize,
+)
     requires { ⌜ Valid (now form) × ArcStarts (now form) (now begins) × Candidates (now candidates) × (here + 2 * lettersOf (now form) < next) × Bounded (now form) (now work) next ⌝ }
     ensures { λ _. ⌜ LettersFilled (now (form .entry)) (now (candidates .entry)) blank (now (work .entry)) (now (work .exit)) here next (lettersOf (now (form .entry)) + 1) ⌝ }
 {
@@ -146,7 +168,15 @@ fn fill_letters(form: &[u32], begins: &[usize], candidates: &[u32], blank: u32, 
 }
 
 // Writes the row at `here` for the column of costs at `at`, by the row of the next column at `next`.
-fn fill_row(form: &[u32], begins: &[usize], costs: &[u32], at: usize, work: &mut [u32], here: usize, next: usize)
+fn fill_row(
+    form: &[u32],
+    begins: &[usize],
+    costs: &[u32],
+    at: usize,
+    work: &mut [u32],
+    here: usize,
+    next: usize,
+)
     requires { ⌜ Valid (now form) × ArcStarts (now form) (now begins) × (at + alphabetOf (now form) < length (now costs)) × (here + 2 * lettersOf (now form) < next) × Bounded (now form) (now work) next ⌝ }
     ensures { λ _. ⌜ RowFilled (now (form .entry)) (now (costs .entry)) at (now (work .entry)) (now (work .exit)) here next ⌝ }
 {
@@ -182,7 +212,14 @@ fn fill_last(form: &[u32], work: &mut [u32], base: usize)
 }
 
 // Writes the rows of all columns, `stride` apart, from the last column to the first; the last row stands behind them.
-fn fill_rows(form: &[u32], costs: &[u32], width: usize, count: usize, work: &mut [u32], stride: usize)
+fn fill_rows(
+    form: &[u32],
+    costs: &[u32],
+    width: usize,
+    count: usize,
+    work: &mut [u32],
+    stride: usize,
+)
     requires { ⌜ Sized (now form) (matrix (now costs) width count) (now work) stride × Row (view (now form)) (matrix (now costs) width count) (now work) (count * stride) count 0 ⌝ }
     ensures { λ _. ⌜ RowsFilled (now (form .entry)) (matrix (now (costs .entry)) width count) (now (work .entry)) (now (work .exit)) stride 0 ⌝ }
 {
@@ -190,7 +227,15 @@ fn fill_rows(form: &[u32], costs: &[u32], width: usize, count: usize, work: &mut
     let mut t = count;
     while 0 < t {
         t -= 1;
-        fill_row(form, &begins, costs, t * width, work, t * stride, t * stride + stride);
+        fill_row(
+            form,
+            &begins,
+            costs,
+            t * width,
+            work,
+            t * stride,
+            t * stride + stride,
+        );
     }
 }
 

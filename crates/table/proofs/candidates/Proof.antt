@@ -43,9 +43,11 @@ loop-again c =
     let l = c .before .before .loop in
     let few = c .before .before .before .before .before .before .before .pre .0 .head .letters-high in
     let h = c .before .loop-test .taken in
-    let e = c .before .before .before .letters .ensures in
-    (omega arith, omega arith,
-    candidates-more (now (a .form)) (now (a .costs)) (a .at) (now (a .work)) (a .next) (l .c) (l .j) (c .candidate .result) (omega arith) (l .inv .2) (c .candidate .ensures))
+    let e = c .before .before .before .letters .ensures in (
+      omega arith,
+      omega arith,
+      candidates-more (now (a .form)) (now (a .costs)) (a .at) (now (a .work)) (a .next) (l .c) (l .j) (c .candidate .result) (omega arith) (l .inv .2) (c .candidate .ensures),
+    )
 
 returns : tie.Need-returns Inv-loop μ-loop
 returns c =

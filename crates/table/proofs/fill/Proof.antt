@@ -15,10 +15,10 @@ letters-requires : tie.Need-letters-requires
 letters-requires c κs = search needs
 
 mul-stride : tie.Need-mul-stride
-mul-stride c = search needs
+mul-stride c = omega arith
 
 add-stride : tie.Need-add-stride
-add-stride c = search needs
+add-stride c = omega arith
 
 mul-fill-last : tie.Need-mul-fill-last
 mul-fill-last c = let room = c .before .before .before .before .before .pre .room in rw (c .before .letters .ensures) (omega arith)
@@ -35,12 +35,13 @@ fill-rows-requires c κs =
     let m = matrix (now (a .costs)) (a .width) (a .count) in
     let room = p .room in
     let l = last .kept .1 .0 in
-    rw (c .before .before .before .before .before .letters .ensures)
-    (record { valid = p .valid; width = p .width; size = p .size; row = omega arith; room = omega arith },
-    (rw (c .before .before .before .before .before .letters .ensures) at (last .ensures)) .row m (a .count))
+    rw (c .before .before .before .before .before .letters .ensures) (
+      record { valid = p .valid; width = p .width; size = p .size; row = omega arith; room = omega arith },
+      (rw (c .before .before .before .before .before .letters .ensures) at (last .ensures)) .row m (a .count),
+    )
 
 slice-read-result : tie.Need-slice-read-result
-slice-read-result c = search needs
+slice-read-result c = omega arith
 
 same-length : tie.Need-same-length
 same-length c = search needs

@@ -26,10 +26,15 @@ fill-letter-requires : tie.Need-fill-letter-requires Inv-loop μ-loop
 fill-letter-requires c κs =
     let a = c .before .before .before .before .before .before .before .before .args in
     let p = c .before .before .before .before .before .before .before .before .pre in
-    let l = c .before .before .loop in
-    (p .0, p .1, p .2, p .3,
-    next-bounded (now (a .form)) (now (a .candidates)) (a .blank) (now (a .work)) (a .here) (a .next) (p .3) (l .work) (l .inv .2 .outside) (p .4),
-    l .inv .0, omega (arith, c .before .before .before .letters .ensures, c .before .loop-test .taken))
+    let l = c .before .before .loop in (
+      p .0,
+      p .1,
+      p .2,
+      p .3,
+      next-bounded (now (a .form)) (now (a .candidates)) (a .blank) (now (a .work)) (a .here) (a .next) (p .3) (l .work) (l .inv .2 .outside) (p .4),
+      l .inv .0,
+      omega (arith, c .before .before .before .letters .ensures, c .before .loop-test .taken),
+    )
 
 add-i : tie.Need-add-i Inv-loop μ-loop
 add-i c = let few = c .before .before .before .before .before .before .before .before .before .before .before .pre .0 .head .letters-high in omega (arith, c .before .before .before .before .before .before .letters .ensures, c .before .before .before .before .loop-test .taken)
@@ -43,10 +48,12 @@ loop-again c =
     let p = c .before .before .before .before .before .before .before .before .before .before .before .pre in
     let l = c .before .before .before .before .before .loop in
     let h = c .before .before .before .before .loop-test .taken in
-    let filled = c .before .before .fill-letter in
-    (omega arith, omega arith,
-    letters-more (now (a .form)) (now (a .candidates)) (a .blank) (now (a .work)) (a .here) (a .next) (p .3) (l .work) (filled .last .1 .1 .1 .1 .0) (l .i)
-    (l .inv .0) (omega (arith, c .before .before .before .before .before .before .letters .ensures)) (l .inv .2) (filled .ensures))
+    let filled = c .before .before .fill-letter in (
+      omega arith,
+      omega arith,
+      letters-more (now (a .form)) (now (a .candidates)) (a .blank) (now (a .work)) (a .here) (a .next) (p .3) (l .work) (filled .last .1 .1 .1 .1 .0) (l .i)
+          (l .inv .0) (omega (arith, c .before .before .before .before .before .before .letters .ensures)) (l .inv .2) (filled .ensures),
+    )
 
 same-length : tie.Need-same-length Inv-loop μ-loop
 same-length c = c .before .loop .inv .2 .outside .size

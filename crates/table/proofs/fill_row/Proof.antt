@@ -11,19 +11,19 @@ use Rattle.table.proofs.fill_row.Statement.{statement}
 use Rattle.table.proofs.fill_row.Tie as tie
 
 mul-blank : tie.Need-mul-blank
-mul-blank c = search needs
+mul-blank c = omega arith
 
 shared-slice-read-blank : tie.Need-shared-slice-read-blank
-shared-slice-read-blank c = search needs
+shared-slice-read-blank c = omega arith
 
 candidates-requires : tie.Need-candidates-requires
 candidates-requires c κs = let p = c .before .before .before .before .before .before .pre in (p .0, p .2, p .4)
 
 mul-plus : tie.Need-mul-plus
-mul-plus c = search needs
+mul-plus c = omega arith
 
 slice-read-plus : tie.Need-slice-read-plus
-slice-read-plus c = search needs
+slice-read-plus c = omega arith
 
 plus-requires : tie.Need-plus-requires
 plus-requires c κs =
@@ -49,10 +49,10 @@ fill-letters-requires c κs =
     (p .0, p .1, c .before .before .before .before .before .before .before .candidates .ensures .good, p .3, p .4)
 
 mul-work : tie.Need-mul-work
-mul-work c = search needs
+mul-work c = omega arith
 
 slice-write-work : tie.Need-slice-write-work
-slice-write-work c = search needs
+slice-write-work c = omega arith
 
 same-length : tie.Need-same-length
 same-length c = search needs

@@ -88,9 +88,13 @@ fill-row-requires c κs =
     let few : l .t - 1 < a .count = omega (arith, l .inv .0) in
     let e : l .t ≡ l .t - 1 + 1 = omega arith in
     let done = subst (RowsFilled (now (a .form)) m (now (a .work)) (l .work) (a .stride)) e (l .inv .1) in
-    let wide = p .0 .row in
-    (p .0 .valid, c .before .before .before .before .starts .ensures, cost-inside m (now (a .work)) (a .stride) (p .0) (l .t - 1) few, omega arith,
-    next-bounded m (now (a .work)) (a .stride) (p .0) (l .t - 1) few (l .work) done)
+    let wide = p .0 .row in (
+      p .0 .valid,
+      c .before .before .before .before .starts .ensures,
+      cost-inside m (now (a .work)) (a .stride) (p .0) (l .t - 1) few,
+      omega arith,
+      next-bounded m (now (a .work)) (a .stride) (p .0) (l .t - 1) few (l .work) done,
+    )
 
 loop-less : tie.Need-loop-less Inv-loop μ-loop
 loop-less c = omega (arith, c .before .before .before .before .before .loop-test .taken)

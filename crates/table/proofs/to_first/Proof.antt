@@ -55,9 +55,11 @@ loop-again : tie.Need-loop-again Inv-loop μ-loop
 loop-again c =
     let a = c .before .before .before .before .before .before .before .before .args in
     let l = c .before .before .before .before .loop in
-    let h = c .before .before .before .loop-test .taken in
-    (omega arith, omega arith,
-    rw (c .least .ensures, c .before .if-first .ensures) (first-more (now (a .form)) (now (a .candidates)) (c .before .before .before .before .before .before .before .before .pre .1) (l .inv .0) (l .inv .2)))
+    let h = c .before .before .before .loop-test .taken in (
+      omega arith,
+      omega arith,
+      rw (c .least .ensures, c .before .if-first .ensures) (first-more (now (a .form)) (now (a .candidates)) (c .before .before .before .before .before .before .before .before .pre .1) (l .inv .0) (l .inv .2)),
+    )
 
 returns : tie.Need-returns Inv-loop μ-loop
 returns c =
