@@ -8,7 +8,8 @@ use native.Mathlib.Omega.{arith}
 use lib.ListN.{length, getD, set, replicate, length-set, length-replicate}
 use lib.Seq.{getD-set-same, getD-set-other}
 use Rattle.lists.specs.Order.{eq-or-ne}
-use Rattle.automaton.specs.Form.{lettersOf, labelOf}
+use Rattle.automaton.specs.Form.{lettersOf, alphabetOf, labelOf}
+use Rattle.automaton.specs.Valid.{Valid}
 use Rattle.trellis.specs.Impossible.{TOP, plus}
 use Rattle.table.specs.Offers.{Candidates, candidate}
 
@@ -16,6 +17,12 @@ use Rattle.table.specs.Offers.{Candidates, candidate}
 pub record Bounded (f work : List ℕ) (base : ℕ) : Type 0 where
   pub room : base + 2 * lettersOf f < length work
   pub top : (s : ℕ) → s ≤ 2 * lettersOf f → getD work (base + s) 0 ≤ TOP
+
+-- what the candidates of a column are found from: its costs, at `at`, and the row of the next column, at `next`
+pub record Ahead (f costs : List ℕ) (at : ℕ) (work : List ℕ) (next : ℕ) : Type 0 where
+  pub valid : Valid f
+  pub column : at + alphabetOf f < length costs
+  pub row : Bounded f work next
 
 -- the cost of letter j, and what there is to pay behind it
 abbrev pub onward : (f costs : List ℕ) (at : ℕ) (work : List ℕ) (next j : ℕ) → ℕ

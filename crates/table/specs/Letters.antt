@@ -10,9 +10,20 @@ use lib.Seq.{getD-set-same, getD-set-other}
 use Rattle.lists.specs.Order.{eq-or-ne}
 use Rattle.lists.specs.Outside.{Outside, outside-none, outside-set, outside-then, outside-wider, front-at, behind-at}
 use Rattle.automaton.specs.Form.{lettersOf}
+use Rattle.automaton.specs.Valid.{Valid}
+use Rattle.form.specs.Starts.{ArcStarts}
 use Rattle.trellis.specs.Impossible.{plus}
-use Rattle.table.specs.Offers.{Offers, candidate}
+use Rattle.table.specs.Offers.{Candidates, Offers, candidate}
 use Rattle.table.specs.Column.{Bounded}
+
+-- what the letters' states are found from: where the arcs begin, the candidates, and the row of the next column, at `next`, which lies
+-- behind the row to be written, at `here`
+pub record Ready (f starts cs work : List ℕ) (here next : ℕ) : Type 0 where
+  pub valid : Valid f
+  pub begins : ArcStarts f starts
+  pub candidates : Candidates cs
+  pub apart : here + 2 * lettersOf f < next
+  pub row : Bounded f work next
 
 -- the costs of letter i's states, on it and in the blanks after it; `rest` is the cost of going on in the blanks
 pub record LetterCells (f cs : List ℕ) (rest i on blanks : ℕ) : Type 0 where

@@ -13,13 +13,14 @@ use Rattle.lists.specs.Outside.{Outside, outside-none, outside-set, outside-the
 use Rattle.reading.specs.Matrix.{Matrix, cost}
 use Rattle.automaton.specs.Form.{lettersOf, labelOf, endsOf, view}
 use Rattle.automaton.specs.Valid.{Valid, valid-proper}
+use Rattle.form.specs.Starts.{ArcStarts}
 use Rattle.trellis.specs.Impossible.{TOP, plus}
 use Rattle.trellis.specs.CostToGo.{CostToGo}
 use Rattle.trellis.specs.Extended.{extended, AtLetter}
 use Rattle.trellis.specs.Cells.{ByArc, ending, last-cell, blanks-cell, letter-cell}
 use Rattle.trellis.specs.Table.{Row}
 use Rattle.table.specs.Offers.{candidate}
-use Rattle.table.specs.Column.{CandidatesOf, onward}
+use Rattle.table.specs.Column.{Ahead, CandidatesOf}
 use Rattle.table.specs.Letters.{LettersFilled, CellsAt}
 
 -- the letter that a state is on or behind
@@ -33,6 +34,12 @@ at-letter s = by (eq-or-ne s (2 * ((s + 1) / 2)))
 -- the costs of column t stand at `at`
 abbrev pub ColumnAt : Matrix → ℕ → List ℕ → ℕ → Type 0
 ColumnAt M t costs at = (x : ℕ) → cost M t x ≡ getD costs (at + x) 0
+
+-- what a row is found from
+pub record RowReady (f starts costs : List ℕ) (at : ℕ) (work : List ℕ) (here next : ℕ) : Type 0 where
+  pub begins : ArcStarts f starts
+  pub ahead : Ahead f costs at work next
+  pub apart : here + 2 * lettersOf f < next
 
 -- the row at `here` was written, and nothing else: if the row of the next column stands at `next`, it is the row of the column at `at`
 pub record RowFilled (f costs : List ℕ) (at : ℕ) (before after : List ℕ) (here next : ℕ) : Type 0 where

@@ -22,7 +22,7 @@ slice-read-plus : tie.Need-slice-read-plus
 slice-read-plus c = omega arith
 
 plus-requires : tie.Need-plus-requires
-plus-requires c κs = let p = c .before .before .before .before .before .pre in p .4 .top (2 * c .before .before .before .before .before .args .i) (omega arith)
+plus-requires c κs = let p = c .before .before .before .before .before .pre in p .0 .row .top (2 * c .before .before .before .before .before .args .i) (omega arith)
 
 mul-along-arcs : tie.Need-mul-along-arcs
 mul-along-arcs c = omega arith
@@ -43,8 +43,15 @@ along-arcs-requires : tie.Need-along-arcs-requires
 along-arcs-requires c κs =
     let p = c .before .before .before .before .before .before .before .before .pre in
     let i = c .before .before .before .before .before .before .before .before .args .i in
-    let few = p .0 .head .letters-high in
-    (p .0, p .2, p .5, p .6, p .1 .begins i (omega arith), p .1 .begins (i + 1) (omega arith))
+    let few = p .0 .valid .head .letters-high in
+    record {
+      valid = p .0 .valid;
+      candidates = p .0 .candidates;
+      low = p .1;
+      high = p .2;
+      first = p .0 .begins .begins i (omega arith);
+      next = p .0 .begins .begins (i + 1) (omega arith);
+    }
 
 mul-least : tie.Need-mul-least
 mul-least c = omega arith
@@ -86,7 +93,7 @@ mul-work-4 : tie.Need-mul-work-4
 mul-work-4 c = omega arith
 
 slice-write-work-2 : tie.Need-slice-write-work-2
-slice-write-work-2 c = let p = c .before .before .before .before .before .before .before .before .before .before .before .before .before .pre in let room = p .4 .room in simp length-set (omega arith)
+slice-write-work-2 c = let p = c .before .before .before .before .before .before .before .before .before .before .before .before .before .pre in let room = p .0 .row .room in simp length-set (omega (arith, p .0 .apart))
 
 same-length : tie.Need-same-length
 same-length c = search needs
@@ -95,10 +102,10 @@ returns : tie.Need-returns
 returns c =
     let a = c .before .before .before .before .before .before .before .before .before .before .before .before .before .args in
     let p = c .before .before .before .before .before .before .before .before .before .before .before .before .before .pre in
-    let room = p .4 .room in
+    let room = p .0 .row .room in
     let offers = c .before .before .before .before .along-arcs in
-    letter-filled (now (a .form)) (now (a .candidates)) (a .blank) (now (a .work)) (a .here) (a .next) (a .i) (offers .result .all) (offers .result .other) (p .5) (p .6) (omega arith)
-    (offers .ensures) (c .before .least2 .result) (c .least3 .result) (c .before .before .before .before .before .before .before .plus .result) (c .before .before .before .before .before .before .before .plus .ensures)
+    letter-filled (now (a .form)) (now (a .candidates)) (a .blank) (now (a .work)) (a .here) (a .next) (a .i) (offers .result .all) (offers .result .other) (p .1) (p .2)
+    (omega (arith, p .0 .apart)) (offers .ensures) (c .before .least2 .result) (c .least3 .result) (c .before .before .before .before .before .before .before .plus .result) (c .before .before .before .before .before .before .before .plus .ensures)
     (cc (c .before .before .least .ensures, c .before .least2 .ensures)) (c .least3 .ensures)
 
 pub fill-letter-spec : {M : Type 1} → statement M
