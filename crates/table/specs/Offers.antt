@@ -1,7 +1,7 @@
 -- What the candidates of a column offer along a letter's arcs, and to the letters that may be first: index by index of the loops that
 -- look for the least. Assumes nothing.
 use Prim.Native.Nat.{ℕ, _+_, _<_, _≤_, min}
-use mathlib.Core.Path.{_≡_, refl, sym, ap, subst, _∙_}
+use mathlib.Core.Path.{_≡_, refl, sym, ap, _∙_}
 use mathlib.Core.Bool.{Bool, true, false, cond}
 use mathlib.Core.Logic.{_⊎_, inl, inr}
 use mathlib.Core.List.{List}
@@ -100,7 +100,7 @@ module _ {f cs : List ℕ} {i b e : ℕ} (arcs : Arcs f cs i b e) where
           let a = arcs .valid .arc k (omega arith) arc-inside in
           (a .target-low, a .target-high)
 
-      -- no letter has the label 0
+      -- one arc more; no letter has the label 0
       pub sofar-more :
           (j : ℕ) → j ≡ target (getD f k 0)
           → Sofar f cs own b e (min all (candidate cs j)) (min other (unless (labelOf f j) own (candidate cs j))) (k + 1)

@@ -6,8 +6,8 @@ use form::may_end;
 use form::starts;
 use form::target;
 ghost use mathlib.Core.Path.{_≡_};
-ghost use Prim.Native.Nat.{ℕ, _+_, _*_, _/_, _<_, _≤_, min};
-ghost use lib.ListN.{length, getD};
+ghost use Prim.Native.Nat.{_+_, _*_, _/_, _<_, _≤_, min};
+ghost use lib.ListN.{length};
 ghost use Rattle.lists.specs.Least.{Least};
 ghost use Rattle.automaton.specs.Form.{lettersOf, labelOf, followOf, endsOf, view};
 ghost use Rattle.automaton.specs.Valid.{Valid};
@@ -15,10 +15,10 @@ ghost use Rattle.trellis.specs.Impossible.{TOP as top, plus as plusOf};
 ghost use Rattle.trellis.specs.Cells.{ByArc, ending};
 ghost use Rattle.trellis.specs.Table.{Row};
 ghost use Rattle.table.specs.Offers.{Candidates, Arcs, Offers as OffersOf, candidate as candidateOf, unless, provided};
-ghost use Rattle.table.specs.Column.{Ahead, onward, CandidatesOf};
+ghost use Rattle.table.specs.Column.{states, Ahead, onward, CandidatesOf};
 ghost use Rattle.table.specs.Letters.{Ready, LetterFilled, LettersFilled};
 ghost use Rattle.table.specs.Rows.{RowReady, RowFilled, LastFilled};
-ghost use Rattle.table.specs.Fill.{matrix, states, Sized, RowsFilled, Filled};
+ghost use Rattle.table.specs.Fill.{matrix, Sized, RowsFilled, Filled};
 
 // The mark for the impossible: no path of usable costs reaches this price.
 pub const TOP: u32 = 1000000000;

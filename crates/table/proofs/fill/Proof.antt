@@ -1,13 +1,8 @@
 -- `table::fill` meets its contract: the last row, and then the others. Assumes nothing.
-use Prim.Native.Nat.{_+_, _*_, _<_, _≤_}
-use mathlib.Core.Path.{_≡_, subst, _∙_}
 use native.Mathlib.Omega.{arith}
-use lib.ListN.{length}
 use borrow.Author.Needs.{needs}
 use denote.Ref.{now}
-use Rattle.automaton.specs.Form.{lettersOf}
-use Rattle.table.specs.Rows.{LastFilled}
-use Rattle.table.specs.Fill.{matrix, states, RowsFilled, filled}
+use Rattle.table.specs.Fill.{matrix, filled}
 use Rattle.table.proofs.fill.Statement.{statement}
 use Rattle.table.proofs.fill.Tie as tie
 

@@ -1,10 +1,9 @@
 -- `table::fill_letter` meets its contract. Assumes nothing.
-use Prim.Native.Nat.{_+_, _*_, _<_}
+use Prim.Native.Nat.{_+_, _*_}
 use native.Mathlib.Omega.{arith}
-use lib.ListN.{length, length-set}
+use lib.ListN.{length-set}
 use borrow.Author.Needs.{needs}
 use denote.Ref.{now}
-use Rattle.automaton.specs.Form.{lettersOf}
 use Rattle.table.specs.Letters.{letter-filled}
 use Rattle.table.proofs.fill_letter.Statement.{statement}
 use Rattle.table.proofs.fill_letter.Tie as tie

@@ -4,7 +4,7 @@ use mathlib.Core.Path.{_≡_, subst}
 use native.Mathlib.Omega.{arith}
 use denote.Ref.{now}
 use Rattle.automaton.specs.Form.{lettersOf}
-use Rattle.table.specs.Letters.{LettersFilled, letters-none, letters-more, next-bounded}
+use Rattle.table.specs.Letters.{LettersFilled, letters-none, letters-more, bounded-kept}
 use Rattle.table.proofs.fill_letters.Statement.{statement}
 use Rattle.table.proofs.fill_letters.Tie as tie
 
@@ -33,7 +33,7 @@ fill-letter-requires c κs =
         begins = p .begins;
         candidates = p .candidates;
         apart = p .apart;
-        row = next-bounded (now (a .form)) (now (a .candidates)) (a .blank) (now (a .work)) (a .here) (a .next) (p .apart) (l .work) kept (p .row);
+        row = bounded-kept (now (a .form)) (now (a .candidates)) (a .blank) (now (a .work)) (a .here) (a .next) (p .apart) (l .work) kept (p .row);
       },
       l .inv .0,
       omega (arith, c .before .before .before .letters .ensures, c .before .loop-test .taken),

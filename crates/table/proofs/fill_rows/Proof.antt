@@ -1,9 +1,8 @@
 -- `table::fill_rows` meets its contract: the rows from that of column t on. Assumes nothing.
 use Prim.Native.Nat.{_+_, _*_, _-_, _<_, _≤_}
-use mathlib.Core.Path.{_≡_, sym, subst, _∙_}
+use mathlib.Core.Path.{_≡_, sym, subst}
 use native.Mathlib.Omega.{arith}
 use lib.ListN.{length}
-use borrow.Author.Needs.{needs}
 use denote.Ref.{now}
 use Rattle.automaton.specs.Form.{alphabetOf}
 use Rattle.table.specs.Fill.{matrix, RowsFilled, rows-last, cost-inside, row-inside, next-bounded, rows-more}
