@@ -1,21 +1,32 @@
 -- The candidates of a column: for each letter the cost of its label, and what there is to pay behind it by the row of the next column.
 -- Assumes nothing.
 use Prim.Native.Nat.{ℕ, zero, suc, _+_, _*_, _-_, _<_, _≤_}
-use mathlib.Core.Path.{_≡_, refl, sym, ap, subst, _∙_}
+use mathlib.Core.Path.{_≡_, refl, sym, subst, _∙_}
 use mathlib.Core.Logic.{_⊎_, inl, inr}
 use mathlib.Core.List.{List}
 use native.Mathlib.Omega.{arith}
 use lib.ListN.{length, getD, set, replicate, length-set, length-replicate}
 use lib.Seq.{getD-set-same, getD-set-other}
 use Rattle.lists.specs.Order.{eq-or-ne}
-use Rattle.automaton.specs.Form.{lettersOf, labelOf}
+use Rattle.automaton.specs.Form.{lettersOf, alphabetOf, labelOf}
+use Rattle.automaton.specs.Valid.{Valid}
 use Rattle.trellis.specs.Impossible.{TOP, plus}
 use Rattle.table.specs.Offers.{Candidates, candidate}
+
+-- how many states there are: 0 to 2L
+abbrev pub states : List ℕ → ℕ
+states f = 2 * lettersOf f + 1
 
 -- a row stands at `base`, with a number for each state that is at most TOP
 pub record Bounded (f work : List ℕ) (base : ℕ) : Type 0 where
   pub room : base + 2 * lettersOf f < length work
   pub top : (s : ℕ) → s ≤ 2 * lettersOf f → getD work (base + s) 0 ≤ TOP
+
+-- what the candidates of a column are found from: its costs, at `at`, and the row of the next column, at `next`
+pub record Ahead (f costs : List ℕ) (at : ℕ) (work : List ℕ) (next : ℕ) : Type 0 where
+  pub valid : Valid f
+  pub column : at + alphabetOf f < length costs
+  pub row : Bounded f work next
 
 -- the cost of letter j, and what there is to pay behind it
 abbrev pub onward : (f costs : List ℕ) (at : ℕ) (work : List ℕ) (next j : ℕ) → ℕ
@@ -30,6 +41,7 @@ pub record CandidatesBelow (f costs : List ℕ) (at : ℕ) (work : List ℕ) (ne
 abbrev pub CandidatesOf : (f costs : List ℕ) (at : ℕ) (work : List ℕ) (next : ℕ) (cs : List ℕ) → Type 0
 CandidatesOf f costs at work next cs = CandidatesBelow f costs at work next cs (lettersOf f + 1)
 
+-- a list of one number, read past its end too
 zeros : (n d j : ℕ) → getD (replicate n d) j d ≡ d
 zeros zero d j = refl
 zeros (suc n) d zero = refl

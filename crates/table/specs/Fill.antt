@@ -9,20 +9,17 @@ use lib.ListN.{length, getD, drop}
 use Rattle.lists.specs.Order.{eq-or-ne}
 use Rattle.lists.specs.Outside.{Outside, outside-none, outside-then, outside-wider, behind-at}
 use Rattle.reading.specs.Matrix.{Matrix}
-use Rattle.automaton.specs.Form.{lettersOf, alphabetOf, view}
+use Rattle.automaton.specs.Form.{alphabetOf, view}
 use Rattle.automaton.specs.Valid.{Valid}
 use Rattle.trellis.specs.CostToGo.{CostToGo}
 use Rattle.trellis.specs.Extended.{extended}
 use Rattle.trellis.specs.Table.{Row, Table}
-use Rattle.table.specs.Column.{Bounded}
+use Rattle.table.specs.Column.{states, Bounded}
 use Rattle.table.specs.Rows.{RowFilled, LastFilled}
 
+-- the matrix as it is lent
 abbrev pub matrix : List ℕ → ℕ → ℕ → Matrix
 matrix costs width count = record { costs = costs; width = width; count = count }
-
--- the number of states, 0 to 2L
-abbrev pub states : List ℕ → ℕ
-states f = 2 * lettersOf f + 1
 
 -- the matrix has the form's width and as many costs as it says, and the memory has room for a table whose rows are `stride` apart
 pub record Sized (f : List ℕ) (M : Matrix) (work : List ℕ) (stride : ℕ) : Type 0 where

@@ -1,7 +1,7 @@
 -- The two states of a letter in a row, by the candidates and the row of the next column; and those of all letters, one behind another.
 -- Assumes nothing.
 use Prim.Native.Nat.{ℕ, _+_, _*_, _-_, _<_, _≤_, min}
-use mathlib.Core.Path.{_≡_, refl, sym, ap, ap₂, subst, _∙_}
+use mathlib.Core.Path.{_≡_, ap, _∙_}
 use mathlib.Core.Logic.{_⊎_, inl, inr}
 use mathlib.Core.List.{List}
 use native.Mathlib.Omega.{arith}
@@ -10,9 +10,20 @@ use lib.Seq.{getD-set-same, getD-set-other}
 use Rattle.lists.specs.Order.{eq-or-ne}
 use Rattle.lists.specs.Outside.{Outside, outside-none, outside-set, outside-then, outside-wider, front-at, behind-at}
 use Rattle.automaton.specs.Form.{lettersOf}
+use Rattle.automaton.specs.Valid.{Valid}
+use Rattle.form.specs.Starts.{ArcStarts}
 use Rattle.trellis.specs.Impossible.{plus}
-use Rattle.table.specs.Offers.{Offers, candidate}
-use Rattle.table.specs.Column.{Bounded}
+use Rattle.table.specs.Offers.{Candidates, Offers, candidate}
+use Rattle.table.specs.Column.{states, Bounded}
+
+-- what the letters' states are found from: where the arcs begin, the candidates, and the row of the next column, at `next`, which lies
+-- behind the row to be written, at `here`
+pub record Ready (f starts cs work : List ℕ) (here next : ℕ) : Type 0 where
+  pub valid : Valid f
+  pub begins : ArcStarts f starts
+  pub candidates : Candidates cs
+  pub apart : here + 2 * lettersOf f < next
+  pub row : Bounded f work next
 
 -- the costs of letter i's states, on it and in the blanks after it; `rest` is the cost of going on in the blanks
 pub record LetterCells (f cs : List ℕ) (rest i on blanks : ℕ) : Type 0 where
@@ -35,7 +46,7 @@ pub record LetterFilled (f cs : List ℕ) (blank : ℕ) (before after : List ℕ
 -- the states of the letters below n were written, and nothing else but states of letters
 pub record LettersFilled (f cs : List ℕ) (blank : ℕ) (before after : List ℕ) (here next n : ℕ) : Type 0 where
   pub cells : (i : ℕ) → 1 ≤ i → i < n → CellsAt f cs blank before after here next i
-  pub outside : Outside (here + 1) (here + (2 * lettersOf f + 1)) before after
+  pub outside : Outside (here + 1) (here + states f) before after
 
 pub letter-filled :
     (f cs : List ℕ) (blank : ℕ) (work : List ℕ) (here next i all other : ℕ) → 1 ≤ i → i ≤ lettersOf f → here + 2 * lettersOf f < length work → Offers f cs i all other
@@ -57,15 +68,15 @@ letter-filled f cs blank work here next i all other low high room offers on blan
 
 module _ (f cs : List ℕ) (blank : ℕ) (before : List ℕ) (here next : ℕ) (apart : here + 2 * lettersOf f < next) where
   pub letters-none : LettersFilled f cs blank before before here next 1
-  letters-none = record { cells = λ i l h. absurd (omega arith); outside = outside-none (here + 1) (here + (2 * lettersOf f + 1)) before }
+  letters-none = record { cells = λ i l h. absurd (omega arith); outside = outside-none (here + 1) (here + states f) before }
 
   -- the row of the next column stays
-  module _ (work : List ℕ) (outside : Outside (here + 1) (here + (2 * lettersOf f + 1)) before work) where
+  module _ (work : List ℕ) (outside : Outside (here + 1) (here + states f) before work) where
     pub next-at : (s : ℕ) → getD work (next + s) 0 ≡ getD before (next + s) 0
     next-at s = behind-at 0 (next + s) outside (omega arith)
 
-    pub next-bounded : Bounded f before next → Bounded f work next
-    next-bounded b =
+    pub bounded-kept : Bounded f before next → Bounded f work next
+    bounded-kept b =
         record {
           room = let l = outside .size in let r = b .room in omega arith;
           top = λ s h. rw (next-at s) (b .top s h);
@@ -77,7 +88,7 @@ module _ (f cs : List ℕ) (blank : ℕ) (before : List ℕ) (here next : ℕ) (
   letters-more work after n low high l m =
       record {
         cells = λ i a b. by i a b (eq-or-ne i n);
-        outside = outside-then (l .outside) (outside-wider (here + 1) (here + (2 * lettersOf f + 1)) (omega arith) (omega arith) (m .outside));
+        outside = outside-then (l .outside) (outside-wider (here + 1) (here + states f) (omega arith) (omega arith) (m .outside));
       }
     where
       by : (i : ℕ) → 1 ≤ i → i < n + 1 → (i ≡ n) ⊎ (i ≡ n → ⊥) → CellsAt f cs blank before after here next i

@@ -1,7 +1,7 @@
 -- What the candidates of a column offer along a letter's arcs, and to the letters that may be first: index by index of the loops that
 -- look for the least. Assumes nothing.
 use Prim.Native.Nat.{ℕ, _+_, _<_, _≤_, min}
-use mathlib.Core.Path.{_≡_, refl, sym, ap, subst, _∙_}
+use mathlib.Core.Path.{_≡_, refl, sym, ap, _∙_}
 use mathlib.Core.Bool.{Bool, true, false, cond}
 use mathlib.Core.Logic.{_⊎_, inl, inr}
 use mathlib.Core.List.{List}
@@ -41,6 +41,15 @@ least-unless label barred c h = by (eqb label barred) refl
     by true e = least-none Offered (λ n o. o .0 (eqb-true label barred e))
     by false e = least-same Offered (λ n o. (eqb-false label barred e, o)) (λ n o. o .1) (least-one c h)
 
+-- the candidates, and the arcs of letter i, which stand from b up to e
+pub record Arcs (f cs : List ℕ) (i b e : ℕ) : Type 0 where
+  pub valid : Valid f
+  pub candidates : Candidates cs
+  pub low : 1 ≤ i
+  pub high : i ≤ lettersOf f
+  pub first : Begins f i b
+  pub next : Begins f (i + 1) e
+
 -- the least prices that a letter's arcs offer: along all arcs, and along those to another label
 pub record Offers (f cs : List ℕ) (i all other : ℕ) : Type 0 where
   pub along-all : Least TOP (ByArc (view f) (candidate cs) i 0) all
@@ -61,17 +70,17 @@ pub record Sofar (f cs : List ℕ) (own b e all other k : ℕ) : Type 0 where
   pub along-all : LeastAlong f cs b 0 k all
   pub along-other : LeastAlong f cs b own k other
 
-module _ {f : List ℕ} (cs : List ℕ) {i b e : ℕ} (valid : Valid f) (first : Begins f i b) (next : Begins f (i + 1) e) where
+module _ {f cs : List ℕ} {i b e : ℕ} (arcs : Arcs f cs i b e) where
   -- a letter's arcs begin before the next letter's
   ascend : b ≤ e
   ascend = by (lt-or-le e b)
     where
       by : (e < b) ⊎ (b ≤ e) → b ≤ e
       by (inl h) =
-          let p = next .past in
-          let q = first .inside in
-          let x = first .below e p h in
-          let y = next .above e (omega arith) (omega arith) in
+          let p = arcs .next .past in
+          let q = arcs .first .inside in
+          let x = arcs .first .below e p h in
+          let y = arcs .next .above e (omega arith) (omega arith) in
           absurd (omega arith)
       by (inr h) = h
 
@@ -82,22 +91,23 @@ module _ {f : List ℕ} (cs : List ℕ) {i b e : ℕ} (valid : Valid f) (first :
   module _ {own all other k : ℕ} (sofar : Sofar f cs own b e all other k) where
     module _ (turn : k < e) where
       pub arc-inside : k < length f
-      arc-inside = let h = next .inside in omega arith
+      arc-inside = let h = arcs .next .inside in omega arith
 
       pub arc-target : (1 ≤ target (getD f k 0)) × (target (getD f k 0) ≤ lettersOf f)
       arc-target =
-          let p = first .past in
+          let p = arcs .first .past in
           let l = sofar .low in
-          let a = valid .arc k (omega arith) arc-inside in
+          let a = arcs .valid .arc k (omega arith) arc-inside in
           (a .target-low, a .target-high)
 
-      -- no letter has the label 0
-      pub sofar-more : (j : ℕ) → Candidates cs → j ≡ target (getD f k 0)
+      -- one arc more; no letter has the label 0
+      pub sofar-more :
+          (j : ℕ) → j ≡ target (getD f k 0)
           → Sofar f cs own b e (min all (candidate cs j)) (min other (unless (labelOf f j) own (candidate cs j))) (k + 1)
-      sofar-more j good at = rw at
+      sofar-more j at = rw at
           (let t = arc-target in
-          let low = valid .letter (target (getD f k 0)) (t .0) (t .1) .low in
-          let top = good .top (target (getD f k 0)) in
+          let low = arcs .valid .letter (target (getD f k 0)) (t .0) (t .1) .low in
+          let top = arcs .candidates .top (target (getD f k 0)) in
           let from = sofar .low in
           record {
             low = omega arith;
@@ -110,36 +120,36 @@ module _ {f : List ℕ} (cs : List ℕ) {i b e : ℕ} (valid : Valid f) (first :
           })
 
     -- the arcs of letter i are the arc words from b up to e
-    pub sofar-end : 1 ≤ i → own ≡ labelOf f i → e ≤ k → Offers f cs i all other
-    sofar-end low same end =
+    pub sofar-end : own ≡ labelOf f i → e ≤ k → Offers f cs i all other
+    sofar-end same end =
         let h = sofar .high in
         let q : k ≡ e = omega arith in
         record {
-          along-all = arcs 0 (rw q at (sofar .along-all));
-          along-other = arcs (labelOf f i) (rw (same, q) at (sofar .along-other));
+          along-all = over 0 (rw q at (sofar .along-all));
+          along-other = over (labelOf f i) (rw (same, q) at (sofar .along-other));
         }
       where
         to : (barred n : ℕ) → Among b e (Along f cs barred) n → ByArc (view f) (candidate cs) i barred n
         to barred n o =
             let k = o .0 in
-            let p = first .past in
-            let q = next .inside in
+            let p = arcs .first .past in
+            let q = arcs .next .inside in
             let h = o .1 in
             let g = o .2 in (
               target (getD f k 0),
-              arc-follow f i (target (getD f k 0)) low (record { index = k; past = omega arith; inside = omega arith; from = range-source f i b e first next k h g; to = refl }),
+              arc-follow f i (target (getD f k 0)) (arcs .low) (record { index = k; past = omega arith; inside = omega arith; from = range-source f i b e (arcs .first) (arcs .next) k h g; to = refl }),
               o .3 .0,
               o .3 .1,
             )
 
         from : (barred n : ℕ) → ByArc (view f) (candidate cs) i barred n → Among b e (Along f cs barred) n
         from barred n o =
-            let a = follow-arc f i (o .0) low (o .1) in
-            let r = source-range f i b e first next (a .index) (a .past) (a .inside) (a .from) in
+            let a = follow-arc f i (o .0) (arcs .low) (o .1) in
+            let r = source-range f i b e (arcs .first) (arcs .next) (a .index) (a .past) (a .inside) (a .from) in
             (a .index, r .0, r .1, (λ z. o .2 (sym (ap (labelOf f) (a .to)) ∙ z), o .3 ∙ sym (ap (candidate cs) (a .to))))
 
-        arcs : (barred : ℕ) {v : ℕ} → LeastAlong f cs b barred e v → Least TOP (ByArc (view f) (candidate cs) i barred) v
-        arcs barred l = least-same (ByArc (view f) (candidate cs) i barred) (to barred) (from barred) l
+        over : (barred : ℕ) {v : ℕ} → LeastAlong f cs b barred e v → Least TOP (ByArc (view f) (candidate cs) i barred) v
+        over barred l = least-same (ByArc (view f) (candidate cs) i barred) (to barred) (from barred) l
 
 -- what letter j offers to state 0, if it may be first
 abbrev pub ToFirst : (f cs : List ℕ) (j n : ℕ) → Type 0

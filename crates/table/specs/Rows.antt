@@ -1,11 +1,11 @@
 -- A row of the table from the row of the next column, with the places of both as separate numbers; and the last row.
 -- Assumes nothing.
 use Prim.Native.Nat.{ℕ, _+_, _*_, _-_, _/_, _<_, _≤_, min}
-use mathlib.Core.Path.{_≡_, refl, sym, ap, ap₂, subst, _∙_}
+use mathlib.Core.Path.{_≡_, sym, ap, ap₂, subst, _∙_}
 use mathlib.Core.Logic.{_⊎_, inl, inr}
 use mathlib.Core.List.{List}
 use native.Mathlib.Omega.{arith}
-use lib.ListN.{length, getD, set, length-set}
+use lib.ListN.{length, getD, set}
 use lib.Seq.{getD-set-same, getD-set-other}
 use Rattle.lists.specs.Order.{eq-or-ne}
 use Rattle.lists.specs.Least.{Least}
@@ -13,13 +13,14 @@ use Rattle.lists.specs.Outside.{Outside, outside-none, outside-set, outside-the
 use Rattle.reading.specs.Matrix.{Matrix, cost}
 use Rattle.automaton.specs.Form.{lettersOf, labelOf, endsOf, view}
 use Rattle.automaton.specs.Valid.{Valid, valid-proper}
+use Rattle.form.specs.Starts.{ArcStarts}
 use Rattle.trellis.specs.Impossible.{TOP, plus}
 use Rattle.trellis.specs.CostToGo.{CostToGo}
 use Rattle.trellis.specs.Extended.{extended, AtLetter}
 use Rattle.trellis.specs.Cells.{ByArc, ending, last-cell, blanks-cell, letter-cell}
 use Rattle.trellis.specs.Table.{Row}
 use Rattle.table.specs.Offers.{candidate}
-use Rattle.table.specs.Column.{CandidatesOf, onward}
+use Rattle.table.specs.Column.{states, Ahead, CandidatesOf}
 use Rattle.table.specs.Letters.{LettersFilled, CellsAt}
 
 -- the letter that a state is on or behind
@@ -34,10 +35,16 @@ at-letter s = by (eq-or-ne s (2 * ((s + 1) / 2)))
 abbrev pub ColumnAt : Matrix → ℕ → List ℕ → ℕ → Type 0
 ColumnAt M t costs at = (x : ℕ) → cost M t x ≡ getD costs (at + x) 0
 
+-- what a row is found from
+pub record RowReady (f starts costs : List ℕ) (at : ℕ) (work : List ℕ) (here next : ℕ) : Type 0 where
+  pub begins : ArcStarts f starts
+  pub ahead : Ahead f costs at work next
+  pub apart : here + 2 * lettersOf f < next
+
 -- the row at `here` was written, and nothing else: if the row of the next column stands at `next`, it is the row of the column at `at`
 pub record RowFilled (f costs : List ℕ) (at : ℕ) (before after : List ℕ) (here next : ℕ) : Type 0 where
   pub row : (M : Matrix) (t n : ℕ) → ColumnAt M t costs at → Row (view f) M before next (t + 1) n → Row (view f) M after here t (n + 1)
-  pub outside : Outside here (here + (2 * lettersOf f + 1)) before after
+  pub outside : Outside here (here + states f) before after
 
 -- the column's states by its candidates
 module _ {f : List ℕ} (valid : Valid f) (costs : List ℕ) (at : ℕ) (before : List ℕ) (next : ℕ) (cs : List ℕ) (given : CandidatesOf f costs at before next cs)
@@ -92,8 +99,8 @@ module _ {f : List ℕ} (valid : Valid f) (costs : List ℕ) (at : ℕ) (before 
       record {
         row = λ M t n column behind. states-filled valid costs at before next cs given M t n column behind (set work here v) here m cells first zero;
         outside =
-            outside-then (outside-wider here (here + (2 * lettersOf f + 1)) (omega arith) (omega arith) (letters .outside))
-            (outside-set here (here + (2 * lettersOf f + 1)) work here v (omega arith) (omega arith));
+            outside-then (outside-wider here (here + states f) (omega arith) (omega arith) (letters .outside))
+            (outside-set here (here + states f) work here v (omega arith) (omega arith));
       }
     where
       other : (k : ℕ) → here < k → getD (set work here v) k 0 ≡ getD work k 0
@@ -111,16 +118,16 @@ module _ {f : List ℕ} (valid : Valid f) (costs : List ℕ) (at : ℕ) (before 
 -- the last row, at `base`: what there is to pay where no column is left
 pub record LastFilled (f before after : List ℕ) (base : ℕ) : Type 0 where
   pub row : (M : Matrix) (t : ℕ) → Row (view f) M after base t 0
-  pub outside : Outside base (base + (2 * lettersOf f + 1)) before after
+  pub outside : Outside base (base + states f) before after
 
 -- its states below n
 pub record LastBelow (f before after : List ℕ) (base n : ℕ) : Type 0 where
   pub cells : (s : ℕ) → s < n → getD after (base + s) 0 ≡ ending (endsOf f ((s + 1) / 2))
-  pub outside : Outside base (base + (2 * lettersOf f + 1)) before after
+  pub outside : Outside base (base + states f) before after
 
 module _ (f before : List ℕ) (base : ℕ) where
   pub last-none : LastBelow f before before base 0
-  last-none = record { cells = λ s h. absurd (omega arith); outside = outside-none base (base + (2 * lettersOf f + 1)) before }
+  last-none = record { cells = λ s h. absurd (omega arith); outside = outside-none base (base + states f) before }
 
   pub last-more :
       (work : List ℕ) (n v : ℕ) → n ≤ 2 * lettersOf f → base + n < length work → LastBelow f before work base n → v ≡ ending (endsOf f ((n + 1) / 2))
@@ -128,12 +135,12 @@ module _ (f before : List ℕ) (base : ℕ) where
   last-more work n v high room l e =
       record {
         cells = λ s h. by s h (eq-or-ne s n);
-        outside = outside-then (l .outside) (outside-set base (base + (2 * lettersOf f + 1)) work (base + n) v (omega arith) (omega arith));
+        outside = outside-then (l .outside) (outside-set base (base + states f) work (base + n) v (omega arith) (omega arith));
       }
     where
       by : (s : ℕ) → s < n + 1 → (s ≡ n) ⊎ (s ≡ n → ⊥) → getD (set work (base + n) v) (base + s) 0 ≡ ending (endsOf f ((s + 1) / 2))
       by s h (inl q) = rw q (getD-set-same work (base + n) v 0 room ∙ e)
       by s h (inr d) = getD-set-other work (base + n) (base + s) v 0 (λ z. d (omega arith)) ∙ l .cells s (omega arith)
 
-  pub last-filled : (after : List ℕ) → LastBelow f before after base (2 * lettersOf f + 1) → LastFilled f before after base
+  pub last-filled : (after : List ℕ) → LastBelow f before after base (states f) → LastFilled f before after base
   last-filled after l = record { row = λ M t s h. rw (l .cells s (omega arith)) (last-cell (view f) M t ((s + 1) / 2) s (at-letter s)); outside = l .outside }

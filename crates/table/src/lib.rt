@@ -6,28 +6,27 @@ use form::may_end;
 use form::starts;
 use form::target;
 ghost use mathlib.Core.Path.{_≡_};
-ghost use Prim.Native.Nat.{ℕ, _+_, _*_, _/_, _<_, _≤_, min};
-ghost use lib.ListN.{length, getD};
+ghost use Prim.Native.Nat.{_+_, _*_, _/_, _<_, _≤_, min};
+ghost use lib.ListN.{length};
 ghost use Rattle.lists.specs.Least.{Least};
-ghost use Rattle.automaton.specs.Form.{lettersOf, alphabetOf, labelOf, followOf, endsOf, view};
+ghost use Rattle.automaton.specs.Form.{lettersOf, labelOf, followOf, endsOf, view};
 ghost use Rattle.automaton.specs.Valid.{Valid};
 ghost use Rattle.trellis.specs.Impossible.{TOP as top, plus as plusOf};
 ghost use Rattle.trellis.specs.Cells.{ByArc, ending};
 ghost use Rattle.trellis.specs.Table.{Row};
-ghost use Rattle.form.specs.Starts.{Begins, ArcStarts};
-ghost use Rattle.table.specs.Offers.{Candidates, Offers as OffersOf, candidate as candidateOf, unless, provided};
-ghost use Rattle.table.specs.Column.{Bounded, onward, CandidatesOf};
-ghost use Rattle.table.specs.Letters.{LetterFilled, LettersFilled};
-ghost use Rattle.table.specs.Rows.{RowFilled, LastFilled};
-ghost use Rattle.table.specs.Fill.{matrix, states, Sized, RowsFilled, Filled};
+ghost use Rattle.table.specs.Offers.{Candidates, Arcs, Offers as OffersOf, candidate as candidateOf, unless, provided};
+ghost use Rattle.table.specs.Column.{states, Ahead, onward, CandidatesOf};
+ghost use Rattle.table.specs.Letters.{Ready, LetterFilled, LettersFilled};
+ghost use Rattle.table.specs.Rows.{RowReady, RowFilled, LastFilled};
+ghost use Rattle.table.specs.Fill.{matrix, Sized, RowsFilled, Filled};
 
 // The mark for the impossible: no path of usable costs reaches this price.
-const TOP: u32 = 1000000000;
+pub const TOP: u32 = 1000000000;
 
 // The least prices that a letter's arcs offer: along all arcs, and along those to another label.
-pub struct Offers {
-    pub all: u32,
-    pub other: u32,
+struct Offers {
+    all: u32,
+    other: u32,
 }
 
 fn least(a: u32, b: u32) -> u32
@@ -60,7 +59,7 @@ fn unless_barred(form: &[u32], j: usize, barred: usize, v: u32) -> u32
 
 // What the arcs of letter i offer, which stand from b up to e.
 fn along_arcs(form: &[u32], candidates: &[u32], i: usize, b: usize, e: usize) -> Offers
-    requires { ⌜ Valid (now form) × Candidates (now candidates) × (1 ≤ i) × (i ≤ lettersOf (now form)) × Begins (now form) i b × Begins (now form) (i + 1) e ⌝ }
+    requires { ⌜ Arcs (now form) (now candidates) i b e ⌝ }
     ensures { λ r. ⌜ OffersOf (now (form .entry)) (now (candidates .entry)) i (r .all) (r .other) ⌝ }
 {
     let own = label(form, i);
@@ -79,7 +78,7 @@ fn along_arcs(form: &[u32], candidates: &[u32], i: usize, b: usize, e: usize) ->
 
 // The candidate of letter j: the cost of its label in the column at `at`, and what there is to pay behind it by the row at `next`.
 fn candidate(form: &[u32], costs: &[u32], at: usize, work: &[u32], next: usize, j: usize) -> u32
-    requires { ⌜ Valid (now form) × (at + alphabetOf (now form) < length (now costs)) × Bounded (now form) (now work) next × (1 ≤ j) × (j ≤ lettersOf (now form)) ⌝ }
+    requires { ⌜ Ahead (now form) (now costs) at (now work) next × (1 ≤ j) × (j ≤ lettersOf (now form)) ⌝ }
     ensures { λ r. ⌜ r ≡ onward (now (form .entry)) (now (costs .entry)) at (now (work .entry)) next j ⌝ }
 {
     plus(costs[at + label(form, j)], work[next + (2 * j - 1)])
@@ -87,7 +86,7 @@ fn candidate(form: &[u32], costs: &[u32], at: usize, work: &[u32], next: usize, 
 
 // The candidates of all letters.
 fn candidates(form: &[u32], costs: &[u32], at: usize, work: &[u32], next: usize) -> [u32; 128]
-    requires { ⌜ Valid (now form) × (at + alphabetOf (now form) < length (now costs)) × Bounded (now form) (now work) next ⌝ }
+    requires { ⌜ Ahead (now form) (now costs) at (now work) next ⌝ }
     ensures { λ r. ⌜ CandidatesOf (now (form .entry)) (now (costs .entry)) at (now (work .entry)) next r ⌝ }
 {
     let l = letters(form);
@@ -137,7 +136,7 @@ fn fill_letter(
     next: usize,
     i: usize,
 )
-    requires { ⌜ Valid (now form) × ArcStarts (now form) (now begins) × Candidates (now candidates) × (here + 2 * lettersOf (now form) < next) × Bounded (now form) (now work) next × (1 ≤ i) × (i ≤ lettersOf (now form)) ⌝ }
+    requires { ⌜ Ready (now form) (now begins) (now candidates) (now work) here next × (1 ≤ i) × (i ≤ lettersOf (now form)) ⌝ }
     ensures { λ _. ⌜ LetterFilled (now (form .entry)) (now (candidates .entry)) blank (now (work .entry)) (now (work .exit)) here next i ⌝ }
 {
     let rest = plus(blank, work[next + 2 * i]);
@@ -156,7 +155,7 @@ fn fill_letters(
     here: usize,
     next: usize,
 )
-    requires { ⌜ Valid (now form) × ArcStarts (now form) (now begins) × Candidates (now candidates) × (here + 2 * lettersOf (now form) < next) × Bounded (now form) (now work) next ⌝ }
+    requires { ⌜ Ready (now form) (now begins) (now candidates) (now work) here next ⌝ }
     ensures { λ _. ⌜ LettersFilled (now (form .entry)) (now (candidates .entry)) blank (now (work .entry)) (now (work .exit)) here next (lettersOf (now (form .entry)) + 1) ⌝ }
 {
     let l = letters(form);
@@ -177,14 +176,14 @@ fn fill_row(
     here: usize,
     next: usize,
 )
-    requires { ⌜ Valid (now form) × ArcStarts (now form) (now begins) × (at + alphabetOf (now form) < length (now costs)) × (here + 2 * lettersOf (now form) < next) × Bounded (now form) (now work) next ⌝ }
+    requires { ⌜ RowReady (now form) (now begins) (now costs) at (now work) here next ⌝ }
     ensures { λ _. ⌜ RowFilled (now (form .entry)) (now (costs .entry)) at (now (work .entry)) (now (work .exit)) here next ⌝ }
 {
     let blank = costs[at];
     let c = candidates(form, costs, at, work, next);
-    let none = least(plus(blank, work[next]), to_first(form, &c));
+    let start = least(plus(blank, work[next]), to_first(form, &c));
     fill_letters(form, begins, &c, blank, work, here, next);
-    work[here] = none;
+    work[here] = start;
 }
 
 // What there is to pay in state s where no column is left.

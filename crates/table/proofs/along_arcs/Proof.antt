@@ -1,11 +1,9 @@
 -- `table::along_arcs` meets its contract: the least along the arc words that are passed. Assumes nothing.
-use Prim.Native.Nat.{_-_, _<_}
-use mathlib.Core.Path.{_≡_, sym, ap, _∙_}
+use Prim.Native.Nat.{_-_, _≤_}
 use native.Mathlib.Omega.{arith}
-use lib.ListN.{length, getD}
 use borrow.Author.Needs.{needs}
 use denote.Ref.{now}
-use Rattle.automaton.specs.Form.{lettersOf, target}
+use Rattle.automaton.specs.Form.{lettersOf}
 use Rattle.table.specs.Offers.{Sofar, sofar-start, arc-inside, arc-target, sofar-more, sofar-end}
 use Rattle.table.proofs.along_arcs.Statement.{statement}
 use Rattle.table.proofs.along_arcs.Tie as tie
@@ -17,45 +15,32 @@ abbrev μ-loop : tie.MeasureT-loop
 μ-loop form candidates i b e own all₀ other₀ k₀ all other k = e - k
 
 label-requires : tie.Need-label-requires Inv-loop μ-loop
-label-requires c κs = let p = c .before .before .pre in let l = p .0 .long in omega arith
+label-requires c κs = let p = c .before .before .pre in let long = p .valid .long in omega (arith, p .high)
 
 loop-holds : tie.Need-loop-holds Inv-loop μ-loop
-loop-holds c =
-    let p = c .before .before .before .pre in
-    sofar-start (now (c .before .before .before .args .candidates)) (p .0) (p .4) (p .5) (c .label .result)
+loop-holds c = sofar-start (c .before .before .before .pre) (c .label .result)
 
 target-requires : tie.Need-target-requires Inv-loop μ-loop
-target-requires c κs =
-    let p = c .before .before .before .before .before .pre in
-    arc-inside (now (c .before .before .before .before .before .args .candidates)) (p .0) (p .4) (p .5) (c .before .loop .inv) (c .loop-test .taken)
+target-requires c κs = arc-inside (c .before .before .before .before .before .pre) (c .before .loop .inv) (c .loop-test .taken)
+
+-- the arc leads to a letter
+letter : (c : tie.After-target Inv-loop μ-loop) → (c .target .result ≤ lettersOf (now (c .before .before .before .before .before .before .args .form))) × (lettersOf (now (c .before .before .before .before .before .before .args .form)) ≤ 127)
+letter c =
+    let p = c .before .before .before .before .before .before .pre in
+    let t = arc-target p (c .before .before .loop .inv) (c .before .loop-test .taken) in
+    (omega (arith, c .target .ensures), p .valid .head .letters-high)
 
 mul-v : tie.Need-mul-v Inv-loop μ-loop
-mul-v c =
-    let p = c .before .before .before .before .before .before .pre in
-    let t = arc-target (now (c .before .before .before .before .before .before .args .candidates)) (p .0) (p .4) (p .5) (c .before .before .loop .inv) (c .before .loop-test .taken) in
-    let j = c .target .ensures in
-    let few = p .0 .head .letters-high in
-    omega arith
+mul-v c = let h = letter c in omega arith
 
 shared-slice-read-v : tie.Need-shared-slice-read-v Inv-loop μ-loop
-shared-slice-read-v c =
-    let p = c .before .before .before .before .before .before .before .pre in
-    let t = arc-target (now (c .before .before .before .before .before .before .before .args .candidates)) (p .0) (p .4) (p .5) (c .before .before .before .loop .inv) (c .before .before .loop-test .taken) in
-    let j = c .before .target .ensures in
-    let few = p .0 .head .letters-high in
-    let size = p .1 .size in
-    omega arith
+shared-slice-read-v c = let h = letter (c .before) in let size = c .before .before .before .before .before .before .before .pre .candidates .size in omega arith
 
 least-requires : tie.Need-least-requires Inv-loop μ-loop
 least-requires c κs = search needs
 
 unless-barred-requires : tie.Need-unless-barred-requires Inv-loop μ-loop
-unless-barred-requires c κs =
-    let p = c .before .before .before .before .before .before .before .before .pre in
-    let t = arc-target (now (c .before .before .before .before .before .before .before .before .args .candidates)) (p .0) (p .4) (p .5) (c .before .before .before .before .loop .inv) (c .before .before .before .loop-test .taken) in
-    let j = c .before .before .target .ensures in
-    let long = p .0 .long in
-    omega arith
+unless-barred-requires c κs = let h = letter (c .before .before) in let long = c .before .before .before .before .before .before .before .before .pre .valid .long in omega arith
 
 least-requires-2 : tie.Need-least-requires-2 Inv-loop μ-loop
 least-requires-2 c κs = search needs
@@ -68,15 +53,11 @@ loop-less c = omega (arith, c .before .before .before .before .before .loop-test
 
 loop-again : tie.Need-loop-again Inv-loop μ-loop
 loop-again c =
-    let p = c .before .before .before .before .before .before .before .before .before .before .pre in
     rw (c .before .before .least .ensures, c .least2 .ensures, c .before .unless-barred .ensures)
-    (sofar-more (now (c .before .before .before .before .before .before .before .before .before .before .args .candidates)) (p .0) (p .4) (p .5) (c .before .before .before .before .before .before .loop .inv) (c .before .before .before .before .before .loop-test .taken)
-    (c .before .before .before .before .target .result) (p .1) (c .before .before .before .before .target .ensures))
+    (sofar-more (c .before .before .before .before .before .before .before .before .before .before .pre) (c .before .before .before .before .before .before .loop .inv) (c .before .before .before .before .before .loop-test .taken) (c .before .before .before .before .target .result) (c .before .before .before .before .target .ensures))
 
 returns : tie.Need-returns Inv-loop μ-loop
-returns c =
-    let p = c .before .before .before .before .before .pre in
-    sofar-end (now (c .before .before .before .before .before .args .candidates)) (p .0) (p .4) (p .5) (c .before .loop .inv) (p .2) (c .before .before .label .ensures) (c .loop-test .left)
+returns c = sofar-end (c .before .before .before .before .before .pre) (c .before .loop .inv) (c .before .before .label .ensures) (c .loop-test .left)
 
 pub along-arcs-spec : {M : Type 1} → statement M
 along-arcs-spec =

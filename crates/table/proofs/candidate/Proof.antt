@@ -13,35 +13,36 @@ label-requires : tie.Need-label-requires
 label-requires c κs = search needs
 
 add-plus : tie.Need-add-plus
-add-plus c = search needs
+add-plus c = omega arith
 
 mul-plus : tie.Need-mul-plus
-mul-plus c = search needs
+mul-plus c = omega arith
 
 shared-slice-read-plus : tie.Need-shared-slice-read-plus
 shared-slice-read-plus c =
     let p = c .before .before .before .before .before .pre in
-    let x = p .0 .letter (c .before .before .before .before .before .args .j) (p .3) (p .4) .high in
+    let x = p .0 .valid .letter (c .before .before .before .before .before .args .j) (p .1) (p .2) .high in
     let e = c .before .label .ensures in
+    let h = p .0 .column in
     omega arith
 
 mul-plus-2 : tie.Need-mul-plus-2
-mul-plus-2 c = search needs
+mul-plus-2 c = omega arith
 
 sub-plus : tie.Need-sub-plus
-sub-plus c = search needs
+sub-plus c = omega arith
 
 add-plus-2 : tie.Need-add-plus-2
-add-plus-2 c = search needs
+add-plus-2 c = omega arith
 
 mul-plus-3 : tie.Need-mul-plus-3
-mul-plus-3 c = search needs
+mul-plus-3 c = omega arith
 
 shared-slice-read-plus-2 : tie.Need-shared-slice-read-plus-2
-shared-slice-read-plus-2 c = search needs
+shared-slice-read-plus-2 c = omega arith
 
 plus-requires : tie.Need-plus-requires
-plus-requires c κs = let p = c .before .before .before .before .before .before .pre in p .2 .top (2 * c .before .before .before .before .before .before .args .j - 1) (omega arith)
+plus-requires c κs = let p = c .before .before .before .before .before .before .pre in p .0 .row .top (2 * c .before .before .before .before .before .before .args .j - 1) (omega arith)
 
 returns : tie.Need-returns
 returns c =

@@ -15,24 +15,28 @@ abbrev μ-loop : tie.MeasureT-loop
 μ-loop form costs at work next l c₀ j₀ c j = l + 1 - j
 
 letters-requires : tie.Need-letters-requires Inv-loop μ-loop
-letters-requires c κs = let h = c .before .before .before .pre .0 .long in omega arith
+letters-requires c κs = let h = c .before .before .before .pre .valid .long in omega arith
 
 loop-holds : tie.Need-loop-holds Inv-loop μ-loop
 loop-holds c =
     let a = c .before .before .before .before .args in
     (omega arith, omega arith, candidates-none (now (a .form)) (now (a .costs)) (a .at) (now (a .work)) (a .next))
 
+-- a letter, of which there are at most 127
+letter : (c : tie.In-loop Inv-loop μ-loop) → (c .before .loop .j ≤ lettersOf (now (c .before .before .before .before .before .before .args .form))) × (lettersOf (now (c .before .before .before .before .before .before .args .form)) ≤ 127)
+letter c = (omega (arith, c .before .before .letters .ensures, c .loop-test .taken), c .before .before .before .before .before .before .pre .valid .head .letters-high)
+
 candidate-requires : tie.Need-candidate-requires Inv-loop μ-loop
-candidate-requires c κs = let p = c .before .before .before .before .before .before .pre in (p .0, p .1, p .2, c .before .loop .inv .0, omega (arith, c .before .before .letters .ensures, c .loop-test .taken))
+candidate-requires c κs = (c .before .before .before .before .before .before .pre, c .before .loop .inv .0, letter c .0)
 
 mul-c : tie.Need-mul-c Inv-loop μ-loop
-mul-c c = let few = c .before .before .before .before .before .before .before .pre .0 .head .letters-high in omega (arith, c .before .before .before .letters .ensures, c .before .loop-test .taken)
+mul-c c = let h = letter (c .before) in omega arith
 
 array-write-c : tie.Need-array-write-c Inv-loop μ-loop
-array-write-c c = let few = c .before .before .before .before .before .before .before .pre .0 .head .letters-high in omega (arith, c .before .before .before .letters .ensures, c .before .loop-test .taken, c .before .before .loop .inv .2 .good .size)
+array-write-c c = let h = letter (c .before) in omega (arith, c .before .before .loop .inv .2 .good .size)
 
 add-j : tie.Need-add-j Inv-loop μ-loop
-add-j c = let few = c .before .before .before .before .before .before .before .pre .0 .head .letters-high in omega (arith, c .before .before .before .letters .ensures, c .before .loop-test .taken)
+add-j c = let h = letter (c .before) in omega arith
 
 loop-less : tie.Need-loop-less Inv-loop μ-loop
 loop-less c = omega (arith, c .before .loop-test .taken)
@@ -41,12 +45,12 @@ loop-again : tie.Need-loop-again Inv-loop μ-loop
 loop-again c =
     let a = c .before .before .before .before .before .before .before .args in
     let l = c .before .before .loop in
-    let few = c .before .before .before .before .before .before .before .pre .0 .head .letters-high in
-    let h = c .before .loop-test .taken in
-    let e = c .before .before .before .letters .ensures in (
+    let h = letter (c .before) in
+    let e = c .before .before .before .letters .ensures in
+    let new = c .candidate in (
       omega arith,
       omega arith,
-      candidates-more (now (a .form)) (now (a .costs)) (a .at) (now (a .work)) (a .next) (l .c) (l .j) (c .candidate .result) (omega arith) (l .inv .2) (c .candidate .ensures),
+      candidates-more (now (a .form)) (now (a .costs)) (a .at) (now (a .work)) (a .next) (l .c) (l .j) (new .result) (omega arith) (l .inv .2) (new .ensures),
     )
 
 returns : tie.Need-returns Inv-loop μ-loop

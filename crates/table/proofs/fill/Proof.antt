@@ -1,13 +1,8 @@
 -- `table::fill` meets its contract: the last row, and then the others. Assumes nothing.
-use Prim.Native.Nat.{_+_, _*_, _<_, _≤_}
-use mathlib.Core.Path.{_≡_, subst, _∙_}
 use native.Mathlib.Omega.{arith}
-use lib.ListN.{length}
 use borrow.Author.Needs.{needs}
 use denote.Ref.{now}
-use Rattle.automaton.specs.Form.{lettersOf}
-use Rattle.table.specs.Rows.{LastFilled}
-use Rattle.table.specs.Fill.{matrix, states, RowsFilled, filled}
+use Rattle.table.specs.Fill.{matrix, filled}
 use Rattle.table.proofs.fill.Statement.{statement}
 use Rattle.table.proofs.fill.Tie as tie
 
@@ -15,10 +10,10 @@ letters-requires : tie.Need-letters-requires
 letters-requires c κs = search needs
 
 mul-stride : tie.Need-mul-stride
-mul-stride c = search needs
+mul-stride c = omega arith
 
 add-stride : tie.Need-add-stride
-add-stride c = search needs
+add-stride c = omega arith
 
 mul-fill-last : tie.Need-mul-fill-last
 mul-fill-last c = let room = c .before .before .before .before .before .pre .room in rw (c .before .letters .ensures) (omega arith)
@@ -41,7 +36,7 @@ fill-rows-requires c κs =
     )
 
 slice-read-result : tie.Need-slice-read-result
-slice-read-result c = search needs
+slice-read-result c = omega arith
 
 same-length : tie.Need-same-length
 same-length c = search needs

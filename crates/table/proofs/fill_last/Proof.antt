@@ -1,6 +1,6 @@
 -- `table::fill_last` meets its contract: the states that are passed. Assumes nothing.
 use Prim.Native.Nat.{_+_, _*_, _-_, _<_, _≤_}
-use mathlib.Core.Path.{_≡_, subst, _∙_}
+use mathlib.Core.Path.{_≡_, subst}
 use native.Mathlib.Omega.{arith}
 use lib.ListN.{length}
 use denote.Ref.{now}
@@ -30,17 +30,27 @@ loop-holds c = let a = c .before .before .before .args in (omega arith, last-non
 last-cost-requires : tie.Need-last-cost-requires Inv-loop μ-loop
 last-cost-requires c κs = (c .before .before .before .before .before .pre .0, omega (arith, c .before .before .letters .ensures, c .loop-test .taken))
 
+-- the place of state s lies in the memory
+inside : (c : tie.After-last-cost Inv-loop μ-loop) → (c .before .before .loop .s ≤ 254) × (c .before .before .before .before .before .before .args .base + c .before .before .loop .s < length (c .before .before .loop .work))
+inside c =
+    let few = c .before .before .before .before .before .before .pre .0 .head .letters-high in
+    let e = c .before .before .before .letters .ensures in
+    let h = c .before .loop-test .taken in
+    let room = c .before .before .before .before .before .before .pre .1 in
+    let size = c .before .before .loop .inv .1 .outside .size in
+    (omega arith, omega arith)
+
 add-work : tie.Need-add-work Inv-loop μ-loop
-add-work c = let few = c .before .before .before .before .before .before .pre .0 .head .letters-high in let e = c .before .before .before .letters .ensures in let h = c .before .loop-test .taken in let room = c .before .before .before .before .before .before .pre .1 in let size = c .before .before .loop .inv .1 .outside .size in omega arith
+add-work c = let h = inside c in let size = c .before .before .loop .inv .1 .outside .size in omega arith
 
 mul-work : tie.Need-mul-work Inv-loop μ-loop
-mul-work c = let few = c .before .before .before .before .before .before .pre .0 .head .letters-high in let e = c .before .before .before .letters .ensures in let h = c .before .loop-test .taken in let room = c .before .before .before .before .before .before .pre .1 in let size = c .before .before .loop .inv .1 .outside .size in omega arith
+mul-work c = let h = inside c in let size = c .before .before .loop .inv .1 .outside .size in omega arith
 
 slice-write-work : tie.Need-slice-write-work Inv-loop μ-loop
-slice-write-work c = let few = c .before .before .before .before .before .before .pre .0 .head .letters-high in let e = c .before .before .before .letters .ensures in let h = c .before .loop-test .taken in let room = c .before .before .before .before .before .before .pre .1 in let size = c .before .before .loop .inv .1 .outside .size in omega arith
+slice-write-work c = inside c .1
 
 add-s : tie.Need-add-s Inv-loop μ-loop
-add-s c = let few = c .before .before .before .before .before .before .pre .0 .head .letters-high in let e = c .before .before .before .letters .ensures in let h = c .before .loop-test .taken in let room = c .before .before .before .before .before .before .pre .1 in let size = c .before .before .loop .inv .1 .outside .size in omega arith
+add-s c = let h = inside c .0 in omega arith
 
 loop-less : tie.Need-loop-less Inv-loop μ-loop
 loop-less c = omega (arith, c .before .loop-test .taken)
@@ -51,9 +61,8 @@ loop-again c =
     let l = c .before .before .loop in
     let e = c .before .before .before .letters .ensures in
     let h = c .before .loop-test .taken in
-    let room = c .before .before .before .before .before .before .pre .1 in
-    let size = l .inv .1 .outside .size in
-    (omega arith, last-more (now (a .form)) (now (a .work)) (a .base) (l .work) (l .s) (c .last-cost .result) (omega arith) (omega arith) (l .inv .1) (c .last-cost .ensures))
+    let new = c .last-cost in
+    (omega arith, last-more (now (a .form)) (now (a .work)) (a .base) (l .work) (l .s) (new .result) (omega arith) (inside c .1) (l .inv .1) (new .ensures))
 
 same-length : tie.Need-same-length Inv-loop μ-loop
 same-length c = c .before .loop .inv .1 .outside .size

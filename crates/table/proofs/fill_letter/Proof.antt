@@ -1,56 +1,62 @@
 -- `table::fill_letter` meets its contract. Assumes nothing.
-use Prim.Native.Nat.{_+_, _*_, _<_}
+use Prim.Native.Nat.{_+_, _*_}
 use native.Mathlib.Omega.{arith}
-use lib.ListN.{length, length-set}
+use lib.ListN.{length-set}
 use borrow.Author.Needs.{needs}
 use denote.Ref.{now}
-use Rattle.automaton.specs.Form.{lettersOf}
 use Rattle.table.specs.Letters.{letter-filled}
 use Rattle.table.proofs.fill_letter.Statement.{statement}
 use Rattle.table.proofs.fill_letter.Tie as tie
 
 mul-plus : tie.Need-mul-plus
-mul-plus c = search needs
+mul-plus c = omega arith
 
 add-plus : tie.Need-add-plus
-add-plus c = search needs
+add-plus c = omega arith
 
 mul-plus-2 : tie.Need-mul-plus-2
-mul-plus-2 c = search needs
+mul-plus-2 c = omega arith
 
 slice-read-plus : tie.Need-slice-read-plus
-slice-read-plus c = search needs
+slice-read-plus c = omega arith
 
 plus-requires : tie.Need-plus-requires
-plus-requires c κs = let p = c .before .before .before .before .before .pre in p .4 .top (2 * c .before .before .before .before .before .args .i) (omega arith)
+plus-requires c κs = let p = c .before .before .before .before .before .pre in p .0 .row .top (2 * c .before .before .before .before .before .args .i) (omega arith)
 
 mul-along-arcs : tie.Need-mul-along-arcs
-mul-along-arcs c = search needs
+mul-along-arcs c = omega arith
 
 shared-slice-read-along-arcs : tie.Need-shared-slice-read-along-arcs
-shared-slice-read-along-arcs c = search needs
+shared-slice-read-along-arcs c = omega arith
 
 add-along-arcs : tie.Need-add-along-arcs
-add-along-arcs c = search needs
+add-along-arcs c = omega arith
 
 mul-along-arcs-2 : tie.Need-mul-along-arcs-2
-mul-along-arcs-2 c = search needs
+mul-along-arcs-2 c = omega arith
 
 shared-slice-read-along-arcs-2 : tie.Need-shared-slice-read-along-arcs-2
-shared-slice-read-along-arcs-2 c = search needs
+shared-slice-read-along-arcs-2 c = omega arith
 
 along-arcs-requires : tie.Need-along-arcs-requires
 along-arcs-requires c κs =
     let p = c .before .before .before .before .before .before .before .before .pre in
     let i = c .before .before .before .before .before .before .before .before .args .i in
-    let few = p .0 .head .letters-high in
-    (p .0, p .2, p .5, p .6, p .1 .begins i (omega arith), p .1 .begins (i + 1) (omega arith))
+    let few = p .0 .valid .head .letters-high in
+    record {
+      valid = p .0 .valid;
+      candidates = p .0 .candidates;
+      low = p .1;
+      high = p .2;
+      first = p .0 .begins .begins i (omega arith);
+      next = p .0 .begins .begins (i + 1) (omega arith);
+    }
 
 mul-least : tie.Need-mul-least
-mul-least c = search needs
+mul-least c = omega arith
 
 shared-slice-read-least : tie.Need-shared-slice-read-least
-shared-slice-read-least c = search needs
+shared-slice-read-least c = omega arith
 
 least-requires : tie.Need-least-requires
 least-requires c κs = search needs
@@ -59,34 +65,34 @@ least-requires-2 : tie.Need-least-requires-2
 least-requires-2 c κs = search needs
 
 mul-work : tie.Need-mul-work
-mul-work c = search needs
+mul-work c = omega arith
 
 sub-work : tie.Need-sub-work
-sub-work c = search needs
+sub-work c = omega arith
 
 add-work : tie.Need-add-work
-add-work c = search needs
+add-work c = omega arith
 
 mul-work-2 : tie.Need-mul-work-2
-mul-work-2 c = search needs
+mul-work-2 c = omega arith
 
 slice-write-work : tie.Need-slice-write-work
-slice-write-work c = search needs
+slice-write-work c = omega arith
 
 least-requires-3 : tie.Need-least-requires-3
 least-requires-3 c κs = search needs
 
 mul-work-3 : tie.Need-mul-work-3
-mul-work-3 c = search needs
+mul-work-3 c = omega arith
 
 add-work-2 : tie.Need-add-work-2
-add-work-2 c = search needs
+add-work-2 c = omega arith
 
 mul-work-4 : tie.Need-mul-work-4
-mul-work-4 c = search needs
+mul-work-4 c = omega arith
 
 slice-write-work-2 : tie.Need-slice-write-work-2
-slice-write-work-2 c = let p = c .before .before .before .before .before .before .before .before .before .before .before .before .before .pre in let room = p .4 .room in simp length-set (omega arith)
+slice-write-work-2 c = let p = c .before .before .before .before .before .before .before .before .before .before .before .before .before .pre in let room = p .0 .row .room in simp length-set (omega (arith, p .0 .apart))
 
 same-length : tie.Need-same-length
 same-length c = search needs
@@ -95,10 +101,10 @@ returns : tie.Need-returns
 returns c =
     let a = c .before .before .before .before .before .before .before .before .before .before .before .before .before .args in
     let p = c .before .before .before .before .before .before .before .before .before .before .before .before .before .pre in
-    let room = p .4 .room in
+    let room = p .0 .row .room in
     let offers = c .before .before .before .before .along-arcs in
-    letter-filled (now (a .form)) (now (a .candidates)) (a .blank) (now (a .work)) (a .here) (a .next) (a .i) (offers .result .all) (offers .result .other) (p .5) (p .6) (omega arith)
-    (offers .ensures) (c .before .least2 .result) (c .least3 .result) (c .before .before .before .before .before .before .before .plus .result) (c .before .before .before .before .before .before .before .plus .ensures)
+    letter-filled (now (a .form)) (now (a .candidates)) (a .blank) (now (a .work)) (a .here) (a .next) (a .i) (offers .result .all) (offers .result .other) (p .1) (p .2)
+    (omega (arith, p .0 .apart)) (offers .ensures) (c .before .least2 .result) (c .least3 .result) (c .before .before .before .before .before .before .before .plus .result) (c .before .before .before .before .before .before .before .plus .ensures)
     (cc (c .before .before .least .ensures, c .before .least2 .ensures)) (c .least3 .ensures)
 
 pub fill-letter-spec : {M : Type 1} → statement M

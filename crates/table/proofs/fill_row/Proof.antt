@@ -1,8 +1,8 @@
 -- `table::fill_row` meets its contract. Assumes nothing.
 use Prim.Native.Nat.{_+_, _≤_}
-use mathlib.Core.Path.{_≡_, ap₂, subst, _∙_}
+use mathlib.Core.Path.{_≡_, subst}
 use native.Mathlib.Omega.{arith}
-use lib.ListN.{length, getD}
+use lib.ListN.{getD}
 use borrow.Author.Needs.{needs}
 use denote.Ref.{now}
 use Rattle.trellis.specs.Impossible.{TOP}
@@ -11,25 +11,25 @@ use Rattle.table.proofs.fill_row.Statement.{statement}
 use Rattle.table.proofs.fill_row.Tie as tie
 
 mul-blank : tie.Need-mul-blank
-mul-blank c = search needs
+mul-blank c = omega arith
 
 shared-slice-read-blank : tie.Need-shared-slice-read-blank
-shared-slice-read-blank c = search needs
+shared-slice-read-blank c = omega arith
 
 candidates-requires : tie.Need-candidates-requires
-candidates-requires c κs = let p = c .before .before .before .before .before .before .pre in (p .0, p .2, p .4)
+candidates-requires c κs = c .before .before .before .before .before .before .pre .ahead
 
 mul-plus : tie.Need-mul-plus
-mul-plus c = search needs
+mul-plus c = omega arith
 
 slice-read-plus : tie.Need-slice-read-plus
-slice-read-plus c = search needs
+slice-read-plus c = omega arith
 
 plus-requires : tie.Need-plus-requires
 plus-requires c κs =
     let a = c .before .before .before .before .before .before .before .before .args in
     let e : a .next + 0 ≡ a .next = omega arith in
-    subst (λ k. getD (now (a .work)) k 0 ≤ TOP) e (c .before .before .before .before .before .before .before .before .pre .4 .top 0 (omega arith))
+    subst (λ k. getD (now (a .work)) k 0 ≤ TOP) e (c .before .before .before .before .before .before .before .before .pre .ahead .row .top 0 (omega arith))
 
 slice-aggregate-to-first : tie.Need-slice-aggregate-to-first
 slice-aggregate-to-first c = search needs
@@ -46,13 +46,13 @@ slice-aggregate-fill-letters c = search needs
 fill-letters-requires : tie.Need-fill-letters-requires
 fill-letters-requires c κs =
     let p = c .before .before .before .before .before .before .before .before .before .before .before .before .before .before .pre in
-    (p .0, p .1, c .before .before .before .before .before .before .before .candidates .ensures .good, p .3, p .4)
+    record { valid = p .ahead .valid; begins = p .begins; candidates = c .before .before .before .before .before .before .before .candidates .ensures .good; apart = p .apart; row = p .ahead .row }
 
 mul-work : tie.Need-mul-work
-mul-work c = search needs
+mul-work c = omega arith
 
 slice-write-work : tie.Need-slice-write-work
-slice-write-work c = search needs
+slice-write-work c = omega arith
 
 same-length : tie.Need-same-length
 same-length c = search needs
@@ -61,10 +61,13 @@ returns : tie.Need-returns
 returns c =
     let a = c .before .before .before .before .before .before .before .before .before .before .before .before .before .before .before .before .before .args in
     let p = c .before .before .before .before .before .before .before .before .before .before .before .before .before .before .before .before .before .pre in
+    let cs = c .before .before .before .before .before .before .before .before .before .before .candidates in
+    let first = c .before .before .before .before .before .before .to-first in
     let letters = c .before .before .fill-letters in
-    row-filled (p .0) (now (a .costs)) (a .at) (now (a .work)) (a .here) (a .next) (c .before .before .before .before .before .before .before .before .before .before .candidates .result) (c .before .before .before .before .before .before .before .before .before .before .candidates .ensures)
-    (letters .last .1 .1 .1 .1 .0) (let r = p .4 .room in let l = letters .ensures .outside .size in omega (arith, p .3)) (letters .ensures)
-    (c .before .before .before .before .before .before .to-first .result) (c .before .before .before .before .before .least .result) (c .before .before .before .before .before .before .to-first .ensures)
+    let room = p .ahead .row .room in
+    let size = letters .ensures .outside .size in
+    row-filled (p .ahead .valid) (now (a .costs)) (a .at) (now (a .work)) (a .here) (a .next) (cs .result) (cs .ensures) (letters .last .1 .1 .1 .1 .0)
+    (omega (arith, p .apart)) (letters .ensures) (first .result) (c .before .before .before .before .before .least .result) (first .ensures)
     (cc (c .before .before .before .before .before .least .ensures, c .before .before .before .before .before .before .before .before .plus .ensures))
 
 pub fill-row-spec : {M : Type 1} → statement M

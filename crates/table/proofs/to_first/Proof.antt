@@ -25,28 +25,24 @@ loop-holds c =
     let a = c .before .before .before .args in
     (omega arith, omega arith, first-start (now (a .form)) (now (a .candidates)) (c .before .before .before .pre .1))
 
+-- a letter, of which there are at most 127
+letter : (c : tie.In-loop Inv-loop μ-loop) → (c .before .loop .j ≤ lettersOf (now (c .before .before .before .before .before .args .form))) × (lettersOf (now (c .before .before .before .before .before .args .form)) ≤ 127)
+letter c = (omega (arith, c .before .before .letters .ensures, c .loop-test .taken), c .before .before .before .before .before .pre .0 .head .letters-high)
+
 mul-if-first : tie.Need-mul-if-first Inv-loop μ-loop
-mul-if-first c =
-    let few = c .before .before .before .before .before .pre .0 .head .letters-high in
-    omega (arith, c .before .before .letters .ensures, c .loop-test .taken)
+mul-if-first c = let h = letter c in omega arith
 
 shared-slice-read-if-first : tie.Need-shared-slice-read-if-first Inv-loop μ-loop
-shared-slice-read-if-first c =
-    let few = c .before .before .before .before .before .before .pre .0 .head .letters-high in
-    let size = c .before .before .before .before .before .before .pre .1 .size in
-    omega (arith, c .before .before .before .letters .ensures, c .before .loop-test .taken)
+shared-slice-read-if-first c = let h = letter (c .before) in let size = c .before .before .before .before .before .before .pre .1 .size in omega arith
 
 if-first-requires : tie.Need-if-first-requires Inv-loop μ-loop
-if-first-requires c κs =
-    (c .before .before .before .before .before .before .pre .0, c .before .before .loop .inv .0, omega (arith, c .before .before .before .letters .ensures, c .before .loop-test .taken))
+if-first-requires c κs = (c .before .before .before .before .before .before .pre .0, c .before .before .loop .inv .0, letter (c .before) .0)
 
 least-requires : tie.Need-least-requires Inv-loop μ-loop
 least-requires c κs = search needs
 
 add-j : tie.Need-add-j Inv-loop μ-loop
-add-j c =
-    let few = c .before .before .before .before .before .before .before .before .pre .0 .head .letters-high in
-    omega (arith, c .before .before .before .before .before .letters .ensures, c .before .before .before .loop-test .taken)
+add-j c = let h = letter (c .before .before .before) in omega arith
 
 loop-less : tie.Need-loop-less Inv-loop μ-loop
 loop-less c = omega (arith, c .before .before .before .loop-test .taken)
