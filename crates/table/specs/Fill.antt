@@ -14,7 +14,8 @@ use Rattle.automaton.specs.Valid.{Valid}
 use Rattle.trellis.specs.CostToGo.{CostToGo}
 use Rattle.trellis.specs.Extended.{extended}
 use Rattle.trellis.specs.Table.{Row, Table}
-use Rattle.table.specs.Column.{states, Bounded}
+pub use Rattle.table.specs.Column.{states}
+use Rattle.table.specs.Column.{Bounded}
 use Rattle.table.specs.Rows.{RowFilled, LastFilled}
 
 -- the matrix as it is lent
