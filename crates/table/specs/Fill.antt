@@ -18,10 +18,6 @@ pub use Rattle.table.specs.Column.{states}
 use Rattle.table.specs.Column.{Bounded}
 use Rattle.table.specs.Rows.{RowFilled, LastFilled}
 
--- the matrix as it is lent
-abbrev pub matrix : List ℕ → ℕ → ℕ → Matrix
-matrix costs width count = record { costs = costs; width = width; count = count }
-
 -- the matrix has the form's width and as many costs as it says, and the memory has room for a table whose rows are `stride` apart
 pub record Sized (f : List ℕ) (M : Matrix) (work : List ℕ) (stride : ℕ) : Type 0 where
   pub valid : Valid f

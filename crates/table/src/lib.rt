@@ -18,7 +18,8 @@ ghost use Rattle.table.specs.Offers.{Candidates, Arcs, Offers as OffersO
 ghost use Rattle.table.specs.Column.{states, Ahead, onward, CandidatesOf};
 ghost use Rattle.table.specs.Letters.{Ready, LetterFilled, LettersFilled};
 ghost use Rattle.table.specs.Rows.{RowReady, RowFilled, LastFilled};
-ghost use Rattle.table.specs.Fill.{matrix, Sized, RowsFilled, Filled};
+ghost use Rattle.reading.specs.Matrix.{matrix};
+ghost use Rattle.table.specs.Fill.{Sized, RowsFilled, Filled};
 
 // The mark for the impossible: no path of usable costs reaches this price.
 pub const TOP: u32 = 1000000000;

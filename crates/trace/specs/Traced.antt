@@ -25,9 +25,6 @@ use Rattle.trace.specs.declared.Front.{Front}
 use Rattle.trace.specs.Steps.{Within, entering-high}
 use Rattle.trace.specs.Column.{Sized, KeptOf, SomeKept, Taken}
 
-abbrev pub matrix : (costs : List ℕ) (width count : ℕ) → Matrix
-matrix costs width count = record { costs = costs; width = width; count = count }
-
 -- what the trace relies on: a valid form, a matrix of its width, and the table of costs to go, by which there is a way from state 0
 pub record Ready (f : List ℕ) (M : Matrix) (work : List ℕ) (base stride : ℕ) : Type 0 where
   pub valid : Valid f

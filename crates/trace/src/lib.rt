@@ -9,7 +9,8 @@ use form::starts;
 ghost use Prim.Native.Nat.{_≤_};
 ghost use lib.ListN.{length};
 ghost use Rattle.automaton.specs.Form.{view};
-ghost use Rattle.trace.specs.Traced.{matrix, Ready, Traced};
+ghost use Rattle.reading.specs.Matrix.{matrix};
+ghost use Rattle.trace.specs.Traced.{Ready, Traced};
 
 // Where the trace stands: the label of the last column, what is left to pay, and the states that share it.
 struct Front {

@@ -5,7 +5,8 @@ use native.Mathlib.Omega.{arith}
 use lib.ListN.{length}
 use denote.Ref.{now}
 use Rattle.automaton.specs.Form.{alphabetOf}
-use Rattle.table.specs.Fill.{matrix, RowsFilled, rows-last, cost-inside, row-inside, next-bounded, rows-more}
+use Rattle.reading.specs.Matrix.{matrix}
+use Rattle.table.specs.Fill.{RowsFilled, rows-last, cost-inside, row-inside, next-bounded, rows-more}
 use Rattle.table.proofs.fill_rows.Statement.{statement}
 use Rattle.table.proofs.fill_rows.Tie as tie
 

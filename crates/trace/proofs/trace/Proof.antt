@@ -5,7 +5,8 @@ use native.Mathlib.Omega.{arith}
 use lib.ListN.{length}
 use denote.Ref.{now}
 use borrow.Author.Needs.{needs}
-use Rattle.trace.specs.Traced.{matrix, Standing, standing-none, standing-all, standing-length, standing-sized, standing-kept, standing-more}
+use Rattle.reading.specs.Matrix.{matrix}
+use Rattle.trace.specs.Traced.{Standing, standing-none, standing-all, standing-length, standing-sized, standing-kept, standing-more}
 use Rattle.trace.specs.Traced.{column-inside, row-inside, parts-of}
 use Rattle.trace.proofs.trace.Statement.{statement}
 use Rattle.trace.proofs.trace.Tie as tie
