@@ -1,12 +1,11 @@
 // The compiled form (document 01, "Opening and the compiled form"): its fields, its check, where each letter's arcs begin, sets of
 // letters, and the call Judge.
 mod arcs;
-mod check;
 mod fields;
 mod sets;
+mod validity;
 
 pub use arcs::starts;
-pub use check::valid;
 pub use fields::alphabet;
 pub use fields::label;
 pub use fields::letters;
@@ -18,6 +17,7 @@ use refusal::Refusal;
 pub use sets::advance;
 pub use sets::no_letter;
 pub use sets::some_may_end;
+pub use validity::valid;
 ghost use mathlib.Core.Path.{_≡_};
 ghost use mathlib.Core.Bool.{true};
 ghost use Rattle.automaton.specs.Form.{validForm, view};

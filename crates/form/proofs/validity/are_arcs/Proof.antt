@@ -10,8 +10,8 @@ use borrow.Author.Tests.{not-true, not-false}
 use Rattle.lists.specs.Each.{all}
 use Rattle.automaton.specs.Form.{isArc, ordered}
 use Rattle.form.specs.Checks.{behind, behind-none, behind-more, behind-bad, behind-late, behind-end}
-use Rattle.form.proofs.check.are_arcs.Statement.{statement}
-use Rattle.form.proofs.check.are_arcs.Tie as tie
+use Rattle.form.proofs.validity.are_arcs.Statement.{statement}
+use Rattle.form.proofs.validity.are_arcs.Tie as tie
 
 abbrev Inv-loop : tie.InvT-loop
 Inv-loop l words last₀ n₀ last n = (n ≤ length words) × (behind l last (drop n words) ≡ (all (isArc l) words && ordered words))

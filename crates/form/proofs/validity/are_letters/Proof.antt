@@ -8,8 +8,8 @@ use borrow.Author.Needs.{needs}
 use borrow.Author.Tests.{not-true, not-false}
 use Rattle.lists.specs.Each.{all, all-more, all-fails, all-end}
 use Rattle.automaton.specs.Form.{isLetter}
-use Rattle.form.proofs.check.are_letters.Statement.{statement}
-use Rattle.form.proofs.check.are_letters.Tie as tie
+use Rattle.form.proofs.validity.are_letters.Statement.{statement}
+use Rattle.form.proofs.validity.are_letters.Tie as tie
 
 abbrev Inv-loop : tie.InvT-loop
 Inv-loop k words n₀ n = (n ≤ length words) × (all (isLetter k) (drop n words) ≡ all (isLetter k) words)

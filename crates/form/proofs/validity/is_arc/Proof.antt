@@ -4,8 +4,8 @@ use mathlib.Core.Bool.{_&&_}
 use borrow.Author.Tests.{eq-eqb, ne-eqb, not-true, not-false}
 use Rattle.automaton.specs.Form.{arcWord, source, target, within}
 use borrow.Author.Needs.{needs}
-use Rattle.form.proofs.check.is_arc.Statement.{statement}
-use Rattle.form.proofs.check.is_arc.Tie as tie
+use Rattle.form.proofs.validity.is_arc.Statement.{statement}
+use Rattle.form.proofs.validity.is_arc.Tie as tie
 
 mul-if1 : tie.Need-mul-if1
 mul-if1 c = search needs

@@ -6,8 +6,8 @@ use borrow.Author.Tests.{eq-eqb, ne-eqb, not-true, not-false}
 use Rattle.automaton.specs.Form.{headWord, byte0, byte2, bit8, within}
 use Rattle.form.specs.Checks.{head-sum}
 use borrow.Author.Needs.{needs}
-use Rattle.form.proofs.check.is_head.Statement.{statement}
-use Rattle.form.proofs.check.is_head.Tie as tie
+use Rattle.form.proofs.validity.is_head.Statement.{statement}
+use Rattle.form.proofs.validity.is_head.Tie as tie
 
 mul-if1 : tie.Need-mul-if1
 mul-if1 c = search needs

@@ -5,8 +5,8 @@ use borrow.Author.Tests.{eq-eqb, ne-eqb}
 use Rattle.automaton.specs.Form.{letterWord, byte0, bit8, bit9, within}
 use Rattle.form.specs.Checks.{letter-sum}
 use borrow.Author.Needs.{needs}
-use Rattle.form.proofs.check.is_letter.Statement.{statement}
-use Rattle.form.proofs.check.is_letter.Tie as tie
+use Rattle.form.proofs.validity.is_letter.Statement.{statement}
+use Rattle.form.proofs.validity.is_letter.Tie as tie
 
 mul-if1 : tie.Need-mul-if1
 mul-if1 c = search needs

@@ -7,8 +7,8 @@ use Rattle.lists.specs.Each.{all}
 use Rattle.automaton.specs.Form.{isLetter, isArc, ordered, lettersOf, alphabetOf}
 use Rattle.form.specs.Checks.{valid-empty, valid-head, valid-short, valid-letters, valid-arcs, letters-part, arcs-part}
 use borrow.Author.Needs.{needs}
-use Rattle.form.proofs.check.valid.Statement.{statement}
-use Rattle.form.proofs.check.valid.Tie as tie
+use Rattle.form.proofs.validity.valid.Statement.{statement}
+use Rattle.form.proofs.validity.valid.Tie as tie
 
 returns : tie.Need-returns
 returns c = sym (valid-empty (now (c .before .before .args .form)) (c .if1 .taken))

@@ -1,7 +1,7 @@
 -- `form::check::within` meets its contract, by its two tests. Assumes nothing.
 use borrow.Author.Tests.{lt-leb, le-leb}
-use Rattle.form.proofs.check.within.Statement.{statement}
-use Rattle.form.proofs.check.within.Tie as tie
+use Rattle.form.proofs.validity.within.Statement.{statement}
+use Rattle.form.proofs.validity.within.Tie as tie
 
 returns : tie.Need-returns
 returns c = simp (lt-leb _ _ (c .if1 .taken))
