@@ -180,10 +180,10 @@ pub fn bracket_end(text: &[u8], at: usize) -> End
     if text.len() <= e {
         return End::Refused(Refusal::Bracket);
     }
-    if !are_members(&text[first..e]) {
-        return End::Refused(Refusal::Bracket);
+    if are_members(&text[first..e]) {
+        return End::At(e + 1);
     }
-    End::At(e + 1)
+    End::Refused(Refusal::Bracket)
 }
 
 // Is the byte a member of the bracket that begins here?

@@ -4,7 +4,6 @@ use native.Mathlib.Omega.{arith}
 use denote.Ref.{now}
 use mathlib.Core.Path.{sym, _∙_}
 use lib.ListN.{drop}
-use borrow.Author.Tests.{not-true, not-false}
 use Rattle.tokens.specs.Brackets.{bracket-order, bracket-unclosed, bracket-spoilt, bracket-ends, opened-within}
 use Rattle.tokens.proofs.bracket.bracket_end.Statement.{statement}
 use Rattle.tokens.proofs.bracket.bracket_end.Tie as tie
@@ -45,16 +44,16 @@ part-are-members-end c = search needs
 are-members-requires : tie.Need-are-members-requires
 are-members-requires c κs = search needs
 
+add-t12 : tie.Need-add-t12
+add-t12 c = search needs
+
 returns-2 : tie.Need-returns-2
 returns-2 c =
     let text = now (c .before .before .before .before .before .before .before .args .text) in
     let at = c .before .before .before .before .before .before .before .args .at in
     let first = c .before .before .before .before .before .opening .result in
     let e = c .before .before .before .before .closing .result in
-    bracket-spoilt (drop at text) text at first e (c .before .before .before .before .before .opening .ensures) (c .before .before .before .before .closing .ensures) (c .before .before .before .before .before .before .before .pre) (c .before .before .before .if1 .left) (sym (c .before .are-members .ensures) ∙ not-true _ (c .if2 .taken))
-
-add-t5 : tie.Need-add-t5
-add-t5 c = search needs
+    bracket-ends (drop at text) text at first e (c .before .before .before .before .before .opening .ensures) (c .before .before .before .before .closing .ensures) (c .before .before .before .before .before .before .before .pre) (c .before .before .before .if1 .left) (sym (c .before .are-members .ensures) ∙ c .if2 .taken)
 
 returns-3 : tie.Need-returns-3
 returns-3 c =
@@ -62,7 +61,7 @@ returns-3 c =
     let at = c .before .before .before .before .before .before .before .args .at in
     let first = c .before .before .before .before .before .opening .result in
     let e = c .before .before .before .before .closing .result in
-    bracket-ends (drop at text) text at first e (c .before .before .before .before .before .opening .ensures) (c .before .before .before .before .closing .ensures) (c .before .before .before .before .before .before .before .pre) (c .before .before .before .if1 .left) (sym (c .before .are-members .ensures) ∙ not-false _ (c .if2 .left))
+    bracket-spoilt (drop at text) text at first e (c .before .before .before .before .before .opening .ensures) (c .before .before .before .before .closing .ensures) (c .before .before .before .before .before .before .before .pre) (c .before .before .before .if1 .left) (sym (c .before .are-members .ensures) ∙ c .if2 .left)
 
 pub bracket-end-spec : {M : Type 1} → statement M
 bracket-end-spec =
@@ -75,6 +74,6 @@ bracket-end-spec =
     part-are-members-start
     part-are-members-end
     are-members-requires
+    add-t12
     returns-2
-    add-t5
     returns-3)
