@@ -156,14 +156,14 @@ alternation-peek-requires t c κs = search needs
 alternation-returns : (t : ℕ) → alternation-lts.Need-returns (alternation-calls t) (alternation-at t) alternation.Post
 alternation-returns t c =
     let after-e = c .before .before .before in
-    alternation-alone (first-branch t (after-e)) (λ z. c .if1 .taken (c .before .peek .ensures ∙ z))
+    alternation-alone (first-branch t after-e) (λ z. c .if1 .taken (c .before .peek .ensures ∙ z))
 
 alternation-add-alternation : (t : ℕ) → alternation-lts.Need-add-alternation (alternation-calls t) (alternation-at t) alternation.Post
 alternation-add-alternation t c =
     let start = c .before .before .before .before .before .before .before .before in
     let after-e = c .before .before .before in
     let text = now (start .args .text) in
-    let f = first-branch t (after-e) in
+    let f = first-branch t after-e in
     let l = byte-is text (after-e .e .given .0 .0) 123 (sym (c .before .peek .ensures) ∙ c .if1 .left) in
     let h = f .ahead in
     omega arith
@@ -174,7 +174,7 @@ alternation-alternation-requires t c κs =
     let start = c .before .before .before .before .before .before .before .before in
     let after-e = c .before .before .before in
     let text = now (start .args .text) in
-    let f = first-branch t (after-e) in
+    let f = first-branch t after-e in
     let l = byte-is text (after-e .e .given .0 .0) 123 (sym (c .before .peek .ensures) ∙ c .if1 .left) in
     let h = f .ahead in
     omega arith
@@ -195,7 +195,7 @@ alternation-returns-3 t c =
     let after-e = c .before .before .before .before .before in
     let after-peek = c .before .before .before in
     c .added .ensures ∙ ap (add (after-e .e .given .0 .1 .0)) (c .before .alternation .ensures)
-    ∙ alternation-more (first-branch t (after-e)) (sym (after-peek .peek .ensures) ∙ c .before .before .if1 .left)
+    ∙ alternation-more (first-branch t after-e) (sym (after-peek .peek .ensures) ∙ c .before .before .if1 .left)
 
 branch-piece-requires : (t : ℕ) → branch-lts.Need-piece-requires (branch-calls t) (branch-at t) branch.Post
 branch-piece-requires t c κs = search needs
@@ -212,12 +212,12 @@ branch-is-end-requires t c κs = search needs
 branch-returns : (t : ℕ) → branch-lts.Need-returns (branch-calls t) (branch-at t) branch.Post
 branch-returns t c =
     let after-e = c .before .before .before in
-    branch-last (first-piece t (after-e)) (sym (c .before .is-end .ensures) ∙ c .if1 .taken)
+    branch-last (first-piece t after-e) (sym (c .before .is-end .ensures) ∙ c .if1 .taken)
 
 branch-branch-requires : (t : ℕ) → branch-lts.Need-branch-requires (branch-calls t) (branch-at t) branch.Post
 branch-branch-requires t c κs =
     let after-e = c .before .before .before in
-    let f = first-piece t (after-e) in
+    let f = first-piece t after-e in
     let h = f .ahead in
     let w = f .within in
     omega arith
@@ -237,7 +237,7 @@ branch-returns-3 t c =
     let after-e = c .before .before .before .before .before in
     let after-is-end = c .before .before .before in
     c .added .ensures ∙ ap (add (after-e .e .given .0 .1 .0)) (c .before .branch .ensures)
-    ∙ branch-more (first-piece t (after-e)) (sym (after-is-end .is-end .ensures) ∙ c .before .before .if1 .left)
+    ∙ branch-more (first-piece t after-e) (sym (after-is-end .is-end .ensures) ∙ c .before .before .if1 .left)
 
 group-peek-requires : (t : ℕ) → group-lts.Need-peek-requires (group-calls t) (group-at t) group.Post
 group-peek-requires t c κs = search needs
@@ -312,7 +312,7 @@ piece-returns t c =
     let after-e = c .before .before .before .before .before in
     let after-is-repeated = c .before .before .before in
     c .repeated .ensures ∙ ap (repeated (after-e .e .given .0 .1 .0)) (c .before .repetition .ensures)
-    ∙ piece-repeated (first-group t (after-e)) (sym (after-is-repeated .is-repeated .ensures) ∙ c .before .before .if1 .taken)
+    ∙ piece-repeated (first-group t after-e) (sym (after-is-repeated .is-repeated .ensures) ∙ c .before .before .if1 .taken)
 
 piece-returns-2 : (t : ℕ) → piece-lts.Need-returns-2 (piece-calls t) (piece-at t) piece.Post
 piece-returns-2 t c =
@@ -324,7 +324,7 @@ piece-returns-2 t c =
 piece-returns-3 : (t : ℕ) → piece-lts.Need-returns-3 (piece-calls t) (piece-at t) piece.Post
 piece-returns-3 t c =
     let after-e = c .before .before .before in
-    piece-plain (first-group t (after-e)) (sym (c .before .is-repeated .ensures) ∙ c .if1 .left)
+    piece-plain (first-group t after-e) (sym (c .before .is-repeated .ensures) ∙ c .if1 .left)
 
 pub +alternation+branch+group+piece-spec : {M : Type 1} → statement M
 +alternation+branch+group+piece-spec =

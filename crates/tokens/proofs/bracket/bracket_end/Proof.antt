@@ -42,13 +42,13 @@ returns-2 : tie.Need-returns-2
 returns-2 c =
     let after-closing = c .before .before .before .before in
     let else1 = c .before .before .before in
-    bracket-ends (the-bracket (after-closing)) (else1 .if1 .left) (sym (c .before .are-members .ensures) ∙ c .if2 .taken)
+    bracket-ends (the-bracket after-closing) (else1 .if1 .left) (sym (c .before .are-members .ensures) ∙ c .if2 .taken)
 
 returns-3 : tie.Need-returns-3
 returns-3 c =
     let after-closing = c .before .before .before .before in
     let else1 = c .before .before .before in
-    bracket-spoilt (the-bracket (after-closing)) (else1 .if1 .left) (sym (c .before .are-members .ensures) ∙ c .if2 .left)
+    bracket-spoilt (the-bracket after-closing) (else1 .if1 .left) (sym (c .before .are-members .ensures) ∙ c .if2 .left)
 
 pub bracket-end-spec : {M : Type 1} → statement M
 bracket-end-spec =

@@ -52,7 +52,7 @@ returns : tie.Need-returns
 returns c =
     let start = c .before .before .before .before .before .before in
     let after-closing = c .before .before .before in
-    c .has .ensures ∙ bracket-only (the-bracket (after-closing)) (start .pre .1) (start .args .b) (c .before .before .if1 .taken)
+    c .has .ensures ∙ bracket-only (the-bracket after-closing) (start .pre .1) (start .args .b) (c .before .before .if1 .taken)
 
 sub-has-2 : tie.Need-sub-has-2
 sub-has-2 c = let o = bracket-order (the-bracket (c .before)) in omega arith
@@ -74,7 +74,7 @@ returns-2 : tie.Need-returns-2
 returns-2 c =
     let start = c .before .before .before .before .before .before in
     let after-closing = c .before .before .before in
-    ap not (c .has2 .ensures) ∙ bracket-except (the-bracket (after-closing)) (start .pre .1) (start .args .b) (c .before .before .if1 .left)
+    ap not (c .has2 .ensures) ∙ bracket-except (the-bracket after-closing) (start .pre .1) (start .args .b) (c .before .before .if1 .left)
 
 pub bracket-has-spec : {M : Type 1} → statement M
 bracket-has-spec =
