@@ -20,8 +20,7 @@ use Rattle.expression.specs.Steps.{read-step}
 use Rattle.tokens.specs.declared.Part.{Part}
 use Rattle.tokens.specs.declared.Part.the-variants as part
 use Rattle.tokens.specs.Place.{place, place-drop, next-at, rest-at, byte-is}
-use Rattle.tokens.specs.Answers.{partOf, repeatsOf}
-use Rattle.tokens.specs.Sets.{set-tree}
+use Rattle.tokens.specs.Answers.{partOf, repeatsOf, set-tree}
 use Rattle.parse.specs.Sums.{few-times}
 use Rattle.parse.specs.Parts.{add, repeated, closed, partAt, Found, part-found}
 

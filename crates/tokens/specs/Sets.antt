@@ -21,12 +21,8 @@ use Rattle.expression.specs.Sets.{special, alone, escaped, bracket, a-set, labe
 use Rattle.tokens.specs.declared.End.the-variants as end
 use Rattle.tokens.specs.declared.Part.the-variants as part
 use Rattle.tokens.specs.Place.{place, place-drop, byte-within, fourth}
-use Rattle.tokens.specs.Answers.{endOf, partOf, is-found, setOf, SetAt, setAt}
+use Rattle.tokens.specs.Answers.{endOf, partOf, set-tree, is-found, setOf, SetAt, setAt}
 use Rattle.tokens.specs.Brackets.{bracketAt}
-
--- the set at a place, if it has a label, as a part of the text
-abbrev pub set-tree : List ℕ → List ℕ → Reads Tree
-set-tree A s = then (labelled-set A s) (λ c r. found (set c) r)
 
 -- a byte alone is in its set
 member-alone : (b x : ℕ) → eqb b x ≡ member (alone b) x

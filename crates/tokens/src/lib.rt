@@ -15,10 +15,9 @@ ghost use Rattle.expression.specs.Tree.{member as memberOf};
 ghost use Rattle.expression.specs.Letters.{labelsOf};
 ghost use Rattle.expression.specs.Text.{one-of};
 ghost use Rattle.expression.specs.Sets.{escaped, a-set};
-ghost use Rattle.tokens.specs.Place.{until};
 ghost use Rattle.expression.specs.Sense.{few as fewOf};
-ghost use Rattle.tokens.specs.Answers.{endOf, partOf, SetAt, setAt};
-ghost use Rattle.tokens.specs.Sets.{set-tree};
+ghost use Rattle.tokens.specs.Place.{until};
+ghost use Rattle.tokens.specs.Answers.{endOf, partOf, set-tree, SetAt, setAt};
 
 // Where a set ends, or why it is turned away.
 pub enum End {

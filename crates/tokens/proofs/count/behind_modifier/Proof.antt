@@ -3,7 +3,7 @@ use borrow.Author.Needs.{needs}
 use native.Mathlib.Omega.{arith}
 use denote.Ref.{now}
 use mathlib.Core.Path.{sym, _∙_}
-use Rattle.tokens.specs.Counts.{modified-is, modified-not}
+use Rattle.tokens.specs.Signs.{modified-is, modified-not}
 use Rattle.tokens.specs.Place.{byte-is}
 use Rattle.tokens.proofs.count.behind_modifier.Statement.{statement}
 use Rattle.tokens.proofs.count.behind_modifier.Tie as tie

@@ -2,7 +2,7 @@
 use borrow.Author.Needs.{needs}
 use denote.Ref.{now}
 use mathlib.Core.Path.{_∙_}
-use Rattle.tokens.specs.Counts.{braces-unclosed, braces-closed}
+use Rattle.tokens.specs.Signs.{braces-unclosed, braces-closed}
 use Rattle.tokens.proofs.count.braces.Statement.{statement}
 use Rattle.tokens.proofs.count.braces.Tie as tie
 

@@ -4,7 +4,7 @@ use denote.Ref.{now}
 use mathlib.Core.Path.{sym, ap, _∙_}
 use Rattle.expression.specs.Tree.{between, onward}
 use Rattle.tokens.specs.Answers.{times}
-use Rattle.tokens.specs.Counts.{repetition-refused, repetition-is}
+use Rattle.tokens.specs.Signs.{repetition-refused, repetition-is}
 use Rattle.tokens.proofs.count.repetition.Statement.{statement}
 use Rattle.tokens.proofs.count.repetition.Tie as tie
 

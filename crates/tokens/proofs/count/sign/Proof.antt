@@ -3,7 +3,7 @@ use borrow.Author.Needs.{needs}
 use native.Mathlib.Omega.{arith}
 use denote.Ref.{now}
 use mathlib.Core.Path.{sym, _∙_}
-use Rattle.tokens.specs.Counts.{sign-star, sign-plus, sign-optional, sign-braces, sign-none}
+use Rattle.tokens.specs.Signs.{sign-star, sign-plus, sign-optional, sign-braces, sign-none}
 use Rattle.tokens.specs.Place.{byte-is}
 use Rattle.tokens.proofs.count.sign.Statement.{statement}
 use Rattle.tokens.proofs.count.sign.Tie as tie
