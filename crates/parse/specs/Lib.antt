@@ -1,3 +1,5 @@
 pub mod Sums
 pub mod Parts
+pub mod Cycle
 pub mod Checked
+pub mod Examples

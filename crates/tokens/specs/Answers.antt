@@ -5,11 +5,11 @@ use mathlib.Core.List.{List, []}
 use mathlib.Core.Bool.{Bool, true, false}
 use Prim.Native.Nat.{ℕ}
 use lib.ListN.{drop}
-use Rattle.expression.specs.Tree.{Range, Set, only, Count, between, onward, Tree}
-use Rattle.expression.specs.Text.{Reads, found, fault}
+use Rattle.expression.specs.Tree.{Range, Set, only, Count, between, onward, Tree, set}
+use Rattle.expression.specs.Text.{Reads, found, fault, then}
 use Rattle.expression.specs.Letters.{lettersOf}
 use Rattle.expression.specs.Sense.{few}
-use Rattle.expression.specs.Sets.{a-set}
+use Rattle.expression.specs.Sets.{a-set, labelled-set}
 use Rattle.tokens.specs.declared.End.{End}
 use Rattle.tokens.specs.declared.End.the-variants as end
 use Rattle.tokens.specs.declared.Part.{Part}
@@ -27,6 +27,10 @@ endOf text (fault n r) = end.Refused n
 abbrev pub partOf : List ℕ → List ℕ → Reads Tree → Part
 partOf A text (found t r) = part.Read (place text r) (few (lettersOf A t))
 partOf A text (fault n r) = part.Refused n
+
+-- the set with which a text begins, if it has a label, as a tree
+abbrev pub set-tree : List ℕ → List ℕ → Reads Tree
+set-tree A s = then (labelled-set A s) (λ c r. found (set c) r)
 
 -- a count, and where it ends
 abbrev pub times : Count → ℕ → Repeats

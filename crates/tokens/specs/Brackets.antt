@@ -1,7 +1,7 @@
 -- The bracket at a place of a text: its first item and its closing `]`, its end and its members. Assumes nothing.
 use mathlib.Core.Path.{_≡_, refl, sym, ap, _∙_}
 use mathlib.Core.Option.{Option, some, none}
-use mathlib.Core.List.{List, [], _∷_}
+use mathlib.Core.List.{List, _∷_}
 use mathlib.Core.Bool.{Bool, true, false, cond, not}
 use mathlib.Core.Logic.{_⊎_, inl, inr}
 use Prim.Native.Nat.{ℕ, suc, _+_, _-_, _≤_, _<_}
@@ -59,7 +59,7 @@ module _ (text : List ℕ) (first : ℕ) where
   unfolding closing
   closing-other e = rw (ne-eqb (getD text first 0) (code "]") e)
 
-  pub closing-behind : first ≤ closing text first
+  closing-behind : first ≤ closing text first
   unfolding closing
   closing-behind = by (eqb (getD text first 0) (code "]"))
     where
@@ -120,111 +120,130 @@ abbrev kind : Bool → List Range → Set
 kind true = except
 kind false = only
 
-module _ (w text : List ℕ) (at : ℕ) where
-  abbrev complements : Bool
-  complements = eqb (getD text (at + 1) 0) (code "^")
+abbrev complements : List ℕ → ℕ → Bool
+complements text at = eqb (getD text (at + 1) 0) (code "^")
 
-  bracket-inside : bracket w (drop (at + 1) text) ≡ inside (kind complements) w (drop (opened text at) text)
-  unfolding bracket opened
-  bracket-inside = rw (next-at "^" text (at + 1) refl, bracket) (by complements)
+-- the bracket that begins at a place
+abbrev pub bracketAt : List ℕ → ℕ → Reads Set
+bracketAt text at = bracket (drop at text) (drop (at + 1) text)
+
+bracket-inside : (text : List ℕ) (at : ℕ) → bracketAt text at ≡ inside (kind (complements text at)) (drop at text) (drop (opened text at) text)
+unfolding bracket opened
+bracket-inside text at = rw (next-at "^" text (at + 1) refl, bracket) (by (complements text at))
+  where
+    by :
+        (t : Bool) →
+        _≡_ {A = Reads Set} (elim t [
+          | true ↦ inside except (drop at text) (rest (drop (at + 1) text))
+          | false ↦ inside only (drop at text) (drop (at + 1) text)
+        ]) (inside (kind t) (drop at text) (drop (cond t (at + 2) (at + 1)) text))
+    by true = let e : at + 1 + 1 ≡ at + 2 = omega arith in rw (rest-at text (at + 1), e)
+    by false = refl
+
+-- its first item stands at `first`, and its closing `]` at e, or past the end if there is none
+pub record Bracket (text : List ℕ) (at first e : ℕ) : Type 0 where
+  pub begins : at < length text
+  pub opens : first ≡ opened text at
+  pub closes : e ≡ closing text first
+
+-- its inside
+abbrev pub between : List ℕ → ℕ → ℕ → List ℕ
+between text first e = take (e - first) (drop first text)
+
+module _ {text : List ℕ} {at first e : ℕ} (b : Bracket text at first e) where
+  pub bracket-order : first ≤ e
+  bracket-order = rw (b .closes) (closing-behind text first)
+
+  unclosed : length text ≤ e → bracketAt text at ≡ fault row.Bracket (drop at text)
+  unfolding inside enclosed then
+  unclosed h =
+      let l : first ≤ length text = rw (b .opens) (opened-within text at (b .begins)) in
+      bracket-inside text at ∙ ap (λ i. inside (kind (complements text at)) (drop at text) (drop i text)) (sym (b .opens))
+      ∙ rw (closed-missing text first l (rw (b .closes) at h), inside)
+
+  -- what it gives, from its inside
+  gives : Option (List Range) → Reads Set
+  gives x = given (kind (complements text at)) (drop at text) x (drop (e + 1) text)
+
+  is-closed : e < length text → bracketAt text at ≡ gives (members (between text first e))
+  unfolding inside enclosed then gives
+  is-closed h =
+      let q : closed (drop first text) ≡ some (between text first e, drop (e + 1) text) = rw (b .closes) (closed-found text first (rw (b .closes) at h)) in
+      bracket-inside text at ∙ ap (λ i. inside (kind (complements text at)) (drop at text) (drop i text)) (sym (b .opens))
+      ∙ ap (λ y. then (enclosed row.Bracket (drop at text) members y) (λ rs r. found (kind (complements text at) rs) r)) q
+      ∙ by (members (between text first e))
     where
       by :
-          (t : Bool) →
-          _≡_ {A = Reads Set} (elim t [
-            | true ↦ inside except w (rest (drop (at + 1) text))
-            | false ↦ inside only w (drop (at + 1) text)
-          ]) (inside (kind t) w (drop (cond t (at + 2) (at + 1)) text))
-      by true = let e : at + 1 + 1 ≡ at + 2 = omega arith in rw (rest-at text (at + 1), e)
-      by false = refl
+          (x : Option (List Range)) →
+          then (elim x as (λ _. Reads (List Range)) [ none ↦ fault row.Bracket (drop at text) | some a ↦ found a (drop (e + 1) text) ])
+          (λ rs r. found (kind (complements text at) rs) r)
+          ≡ gives x
+      by none = refl
+      by (some rs) = refl
 
-  module _ (first e : ℕ) (opens : first ≡ opened text at) (closes : e ≡ closing text first) (l : at < length text) where
-    -- the bracket's inside
-    abbrev pub between : List ℕ
-    between = take (e - first) (drop first text)
+  -- where it ends
+  pub bracket-unclosed : length text ≤ e → end.Refused row.Bracket ≡ endOf text (bracketAt text at)
+  bracket-unclosed h = sym (ap (endOf text) (unclosed h))
 
-    pub bracket-first : first ≤ length text
-    bracket-first = rw opens (opened-within text at l)
+  pub bracket-spoilt : e < length text → is-some (members (between text first e)) ≡ false → end.Refused row.Bracket ≡ endOf text (bracketAt text at)
+  unfolding gives
+  bracket-spoilt h s = by (members (between text first e)) s ∙ sym (ap (endOf text) (is-closed h))
+    where
+      by : (x : Option (List Range)) → is-some x ≡ false → end.Refused row.Bracket ≡ endOf text (gives x)
+      by none s = refl
+      by (some rs) s = let z : _≡_ {A = ℕ} 0 1 = cc in absurd (omega arith)
 
-    pub bracket-order : first ≤ e
-    bracket-order = rw closes (closing-behind text first)
+  pub bracket-ends : e < length text → is-some (members (between text first e)) ≡ true → end.At (e + 1) ≡ endOf text (bracketAt text at)
+  unfolding gives
+  bracket-ends h s = by (members (between text first e)) s ∙ sym (ap (endOf text) (is-closed h))
+    where
+      by : (x : Option (List Range)) → is-some x ≡ true → end.At (e + 1) ≡ endOf text (gives x)
+      by none s = let z : _≡_ {A = ℕ} 0 1 = cc in absurd (omega arith)
+      by (some rs) s = ap end.At (sym (place-drop text (e + 1) (omega arith)))
 
-    unclosed : length text ≤ e → bracket w (drop (at + 1) text) ≡ fault row.Bracket w
-    unfolding inside enclosed then
-    unclosed h =
-        bracket-inside ∙ ap (λ i. inside (kind complements) w (drop i text)) (sym opens)
-        ∙ rw (closed-missing text first bracket-first (rw closes at h), inside)
+  -- its members, where it is well formed
+  module _ (good : is-found (bracketAt text at) ≡ true) where
+    pub bracket-closed : e < length text
+    bracket-closed = by (lt-or-le e (length text))
+      where
+        by : (e < length text) ⊎ (length text ≤ e) → e < length text
+        by (inl h) = h
+        by (inr h) = absurd (not-both true refl (sym good ∙ ap is-found (unclosed h)))
 
-    is-closed : e < length text → bracket w (drop (at + 1) text) ≡ given (kind complements) w (members between) (drop (e + 1) text)
-    unfolding inside enclosed then
-    is-closed h =
-        let q : closed (drop first text) ≡ some (between, drop (e + 1) text) = rw closes (closed-found text first (rw closes at h)) in
-        bracket-inside ∙ ap (λ i. inside (kind complements) w (drop i text)) (sym opens)
-        ∙ ap (λ y. then (enclosed row.Bracket w members y) (λ rs r. found (kind complements rs) r)) q
-        ∙ by (members between)
+    pub bracket-members : is-some (members (between text first e)) ≡ true
+    unfolding gives
+    bracket-members = by (members (between text first e)) (sym (ap is-found (is-closed bracket-closed)) ∙ good)
+      where
+        by : (x : Option (List Range)) → is-found (gives x) ≡ true → is-some x ≡ true
+        by none s = s
+        by (some rs) s = refl
+
+    -- the ranges that it has
+    abbrev pub ranges : List Range
+    ranges = listed (members (between text first e))
+
+    holds : (x : ℕ) → member (setOf (bracketAt text at)) x ≡ member (kind (complements text at) ranges) x
+    unfolding gives
+    holds x = ap (λ y. member (setOf y) x) (is-closed bracket-closed) ∙ by (members (between text first e)) bracket-members
+      where
+        by : (y : Option (List Range)) → is-some y ≡ true → member (setOf (gives y)) x ≡ member (kind (complements text at) (listed y)) x
+        by none s = let z : _≡_ {A = ℕ} 0 1 = cc in absurd (omega arith)
+        by (some rs) s = refl
+
+    pub bracket-only : (x : ℕ) → first ≡ at + 1 → among ranges x ≡ member (setOf (bracketAt text at)) x
+    unfolding opened
+    bracket-only x q = by (complements text at) refl (b .opens) ∙ sym (holds x)
+      where
+        by : (t : Bool) → complements text at ≡ t → first ≡ cond t (at + 2) (at + 1) → among ranges x ≡ member (kind (complements text at) ranges) x
+        by true k h = absurd (omega arith)
+        by false k h = rw k
+
+    pub bracket-except : (x : ℕ) → (first ≡ at + 1 → ⊥) → not (among ranges x) ≡ member (setOf (bracketAt text at)) x
+    unfolding opened
+    bracket-except x q = by (complements text at) refl (b .opens) ∙ sym (holds x)
       where
         by :
-            (x : Option (List Range)) →
-            then (elim x as (λ _. Reads (List Range)) [ none ↦ fault row.Bracket w | some a ↦ found a (drop (e + 1) text) ]) (λ rs r. found (kind complements rs) r)
-            ≡ given (kind complements) w x (drop (e + 1) text)
-        by none = refl
-        by (some rs) = refl
-
-    -- where it ends
-    pub bracket-unclosed : length text ≤ e → end.Refused row.Bracket ≡ endOf text (bracket w (drop (at + 1) text))
-    bracket-unclosed h = sym (ap (endOf text) (unclosed h))
-
-    pub bracket-spoilt : e < length text → is-some (members between) ≡ false → end.Refused row.Bracket ≡ endOf text (bracket w (drop (at + 1) text))
-    bracket-spoilt h s = by (members between) s ∙ sym (ap (endOf text) (is-closed h))
-      where
-        by : (x : Option (List Range)) → is-some x ≡ false → end.Refused row.Bracket ≡ endOf text (given (kind complements) w x (drop (e + 1) text))
-        by none s = refl
-        by (some rs) s = let z : _≡_ {A = ℕ} 0 1 = cc in absurd (omega arith)
-
-    pub bracket-ends : e < length text → is-some (members between) ≡ true → end.At (e + 1) ≡ endOf text (bracket w (drop (at + 1) text))
-    bracket-ends h s = by (members between) s ∙ sym (ap (endOf text) (is-closed h))
-      where
-        by : (x : Option (List Range)) → is-some x ≡ true → end.At (e + 1) ≡ endOf text (given (kind complements) w x (drop (e + 1) text))
-        by none s = let z : _≡_ {A = ℕ} 0 1 = cc in absurd (omega arith)
-        by (some rs) s = ap end.At (sym (place-drop text (e + 1) (omega arith)))
-
-    -- its members, where it is well formed
-    module _ (good : is-found (bracket w (drop (at + 1) text)) ≡ true) where
-      pub bracket-closed : e < length text
-      bracket-closed = by (lt-or-le e (length text))
-        where
-          by : (e < length text) ⊎ (length text ≤ e) → e < length text
-          by (inl h) = h
-          by (inr h) = let q = unclosed h in let z : _≡_ {A = Bool} false true = sym (ap is-found q) ∙ good in absurd (not-both true refl (sym z))
-
-      pub bracket-members : is-some (members between) ≡ true
-      bracket-members = by (members between) (sym (ap is-found (is-closed bracket-closed)) ∙ good)
-        where
-          by : (x : Option (List Range)) → is-found (given (kind complements) w x (drop (e + 1) text)) ≡ true → is-some x ≡ true
-          by none s = s
-          by (some rs) s = refl
-
-      holds : (b : ℕ) → member (setOf (bracket w (drop (at + 1) text))) b ≡ member (kind complements (listed (members between))) b
-      holds b = ap (λ x. member (setOf x) b) (is-closed bracket-closed) ∙ by (members between) bracket-members
-        where
-          by :
-              (x : Option (List Range)) → is-some x ≡ true →
-              member (setOf (given (kind complements) w x (drop (e + 1) text))) b ≡ member (kind complements (listed x)) b
-          by none s = let z : _≡_ {A = ℕ} 0 1 = cc in absurd (omega arith)
-          by (some rs) s = refl
-
-      pub bracket-only : (b : ℕ) → first ≡ at + 1 → among (listed (members between)) b ≡ member (setOf (bracket w (drop (at + 1) text))) b
-      unfolding opened
-      bracket-only b q = by complements refl (opens) ∙ sym (holds b)
-        where
-          by : (t : Bool) → complements ≡ t → first ≡ cond t (at + 2) (at + 1) → among (listed (members between)) b ≡ member (kind complements (listed (members between))) b
-          by true k h = absurd (omega arith)
-          by false k h = rw k
-
-      pub bracket-except :
-          (b : ℕ) → (first ≡ at + 1 → ⊥) → not (among (listed (members between)) b) ≡ member (setOf (bracket w (drop (at + 1) text))) b
-      unfolding opened
-      bracket-except b q = by complements refl (opens) ∙ sym (holds b)
-        where
-          by : (t : Bool) → complements ≡ t → first ≡ cond t (at + 2) (at + 1) → not (among (listed (members between)) b) ≡ member (kind complements (listed (members between))) b
-          by true k h = rw k
-          by false k h = absurd (q h)
+            (t : Bool) → complements text at ≡ t → first ≡ cond t (at + 2) (at + 1) →
+            not (among ranges x) ≡ member (kind (complements text at) ranges) x
+        by true k h = rw k
+        by false k h = absurd (q h)

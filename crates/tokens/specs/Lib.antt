@@ -4,3 +4,4 @@ pub mod Items
 pub mod Brackets
 pub mod Sets
 pub mod Counts
+pub mod Signs

@@ -21,14 +21,11 @@ use Rattle.expression.specs.Sets.{special, alone, escaped, bracket, a-set, labe
 use Rattle.tokens.specs.declared.End.the-variants as end
 use Rattle.tokens.specs.declared.Part.the-variants as part
 use Rattle.tokens.specs.Place.{place, place-drop, byte-within, fourth}
-use Rattle.tokens.specs.Answers.{endOf, partOf, is-found, setOf, SetAt, setAt}
-
--- the set at a place, if it has a label, as a part of the text
-abbrev pub a-label : List ℕ → List ℕ → Reads Tree
-a-label A s = then (labelled-set A s) (λ c r. found (set c) r)
+use Rattle.tokens.specs.Answers.{endOf, partOf, set-tree, is-found, setOf, SetAt, setAt}
+use Rattle.tokens.specs.Brackets.{bracketAt}
 
 -- a byte alone is in its set
-pub member-alone : (b x : ℕ) → eqb b x ≡ member (alone b) x
+member-alone : (b x : ℕ) → eqb b x ≡ member (alone b) x
 member-alone b x = same-truth (eqb b x) (leb b x && leb x b) forth back ∙ sym (or-false (leb b x && leb x b))
   where
     forth : eqb b x ≡ true → (leb b x && leb x b) ≡ true
@@ -125,7 +122,7 @@ module _ (text : List ℕ) (at : ℕ) where
     pub end-dot : getD text at 0 ≡ code "." → end.At (at + 1) ≡ endOf text (a-set (drop at text))
     end-dot e = one-byte l ∙ sym (ap (endOf text) (set-dot text at l e))
 
-    pub end-bracket : getD text at 0 ≡ code "[" → endOf text (bracket (drop at text) (drop (at + 1) text)) ≡ endOf text (a-set (drop at text))
+    pub end-bracket : getD text at 0 ≡ code "[" → endOf text (bracketAt text at) ≡ endOf text (a-set (drop at text))
     end-bracket e = sym (ap (endOf text) (set-bracket text at l e))
 
     module _ (a : getD text at 0 ≡ code "\\" → ⊥) (b : getD text at 0 ≡ code "." → ⊥) (c : getD text at 0 ≡ code "[" → ⊥) where
@@ -151,10 +148,10 @@ module _ (text : List ℕ) (at : ℕ) (h : SetAt text at) (x : ℕ) where
   member-dot e = sym (ap (λ y. member (setOf y) x) (set-dot text at (set-within text at h) e))
 
   module _ (e : getD text at 0 ≡ code "[") where
-    pub bracket-found : is-found (bracket (drop at text) (drop (at + 1) text)) ≡ true
+    pub bracket-found : is-found (bracketAt text at) ≡ true
     bracket-found = ap is-found (sym (set-bracket text at (set-within text at h) e)) ∙ h
 
-    pub member-bracket : member (setOf (bracket (drop at text) (drop (at + 1) text))) x ≡ member (setAt text at) x
+    pub member-bracket : member (setOf (bracketAt text at)) x ≡ member (setAt text at) x
     member-bracket = sym (ap (λ y. member (setOf y) x) (set-bracket text at (set-within text at h) e))
 
   pub member-byte :
@@ -203,7 +200,7 @@ module _ (A text s : List ℕ) where
       by (found c r) h = refl
       by (fault n r) h = let z : _≡_ {A = ℕ} 0 1 = cc in absurd (omega arith)
 
-  pub part-refused : (n : Refusal) → end.Refused n ≡ endOf text (a-set s) → part.Refused n ≡ partOf A text (a-label A s)
+  pub part-refused : (n : Refusal) → end.Refused n ≡ endOf text (a-set s) → part.Refused n ≡ partOf A text (set-tree A s)
   unfolding labelled-set then
   part-refused n h = by (a-set s) h
     where
@@ -212,7 +209,7 @@ module _ (A text s : List ℕ) where
       by (fault m r) h = let k : n ≡ m = cc in ap part.Refused k
 
   module _ (e n : ℕ) (h : end.At e ≡ endOf text (a-set s)) (k : n ≡ labelsOf A (setOf (a-set s))) where
-    pub part-foreign : n ≡ 0 → part.Refused row.Foreign ≡ partOf A text (a-label A s)
+    pub part-foreign : n ≡ 0 → part.Refused row.Foreign ≡ partOf A text (set-tree A s)
     unfolding labelled-set then
     part-foreign z = by (a-set s) h k
       where
@@ -220,7 +217,7 @@ module _ (A text s : List ℕ) where
         by (found c r) h k = sym (ap (λ t. partOf A text (then (judged t c r) (λ c r. found (set c) r))) (eq-eqb (labelsOf A c) 0 (omega arith)))
         by (fault m r) h k = let z : _≡_ {A = ℕ} 0 1 = cc in absurd (omega arith)
 
-    pub part-labels : (n ≡ 0 → ⊥) → part.Read e (few n) ≡ partOf A text (a-label A s)
+    pub part-labels : (n ≡ 0 → ⊥) → part.Read e (few n) ≡ partOf A text (set-tree A s)
     unfolding labelled-set then lettersOf
     part-labels z = by (a-set s) h k
       where

@@ -11,10 +11,10 @@ ghost use Prim.Native.Nat.{_+_, _-_, _<_, _≤_};
 ghost use lib.ListN.{length, getD, drop};
 ghost use lib.Dec.{eqb};
 ghost use Rattle.expression.specs.Tree.{member as memberOf, among as amongOf, range, within};
-ghost use Rattle.expression.specs.Sets.{begins, reserved, members, bracket as bracketOf};
+ghost use Rattle.expression.specs.Sets.{begins, reserved, members};
 ghost use Rattle.tokens.specs.Answers.{is-some, is-found, listed, endOf, setOf};
 ghost use Rattle.tokens.specs.Items.{opens, fits, ranges, upto as uptoOf, width as widthOf, left};
-ghost use Rattle.tokens.specs.Brackets.{opened, closing as closingOf};
+ghost use Rattle.tokens.specs.Brackets.{opened, closing as closingOf, bracketAt};
 
 // Does `[.`, `[=` or `[:` stand here?
 fn opens_class(inside: &[u8], i: usize) -> bool
@@ -173,23 +173,23 @@ fn closing(text: &[u8], first: usize) -> usize
 // Where the bracket ends that begins here.
 pub fn bracket_end(text: &[u8], at: usize) -> End
     requires { ⌜ at < length (now text) ⌝ }
-    ensures { λ r. ⌜ r ≡ endOf (now (text .entry)) (bracketOf (drop at (now (text .entry))) (drop (at + 1) (now (text .entry)))) ⌝ }
+    ensures { λ r. ⌜ r ≡ endOf (now (text .entry)) (bracketAt (now (text .entry)) at) ⌝ }
 {
     let first = opening(text, at);
     let e = closing(text, first);
     if text.len() <= e {
         return End::Refused(Refusal::Bracket);
     }
-    if !are_members(&text[first..e]) {
-        return End::Refused(Refusal::Bracket);
+    if are_members(&text[first..e]) {
+        return End::At(e + 1);
     }
-    End::At(e + 1)
+    End::Refused(Refusal::Bracket)
 }
 
 // Is the byte a member of the bracket that begins here?
 pub fn bracket_has(text: &[u8], at: usize, b: u8) -> bool
-    requires { ⌜ (at < length (now text)) × (is-found (bracketOf (drop at (now text)) (drop (at + 1) (now text))) ≡ true) ⌝ }
-    ensures { λ r. ⌜ r ≡ memberOf (setOf (bracketOf (drop at (now (text .entry))) (drop (at + 1) (now (text .entry))))) b ⌝ }
+    requires { ⌜ (at < length (now text)) × (is-found (bracketAt (now text) at) ≡ true) ⌝ }
+    ensures { λ r. ⌜ r ≡ memberOf (setOf (bracketAt (now (text .entry)) at)) b ⌝ }
 {
     let first = opening(text, at);
     let e = closing(text, first);

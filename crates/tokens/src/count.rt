@@ -8,7 +8,8 @@ ghost use Prim.Native.Nat.{_+_, _<_};
 ghost use lib.ListN.{length, drop};
 ghost use Rattle.expression.specs.Repetition.{number as numberOf, counts as countsOf, sign as signOf, repetition as repetitionOf};
 ghost use Rattle.tokens.specs.Answers.{repeatsOf};
-ghost use Rattle.tokens.specs.Counts.{number-or, ranged, counted, braced, modified};
+ghost use Rattle.tokens.specs.Counts.{number-or, ranged, counted};
+ghost use Rattle.tokens.specs.Signs.{braced, modified};
 
 fn wide(x: u8) -> usize
     ensures { λ r. ⌜ r ≡ x ⌝ }

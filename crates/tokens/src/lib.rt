@@ -15,10 +15,9 @@ ghost use Rattle.expression.specs.Tree.{member as memberOf};
 ghost use Rattle.expression.specs.Letters.{labelsOf};
 ghost use Rattle.expression.specs.Text.{one-of};
 ghost use Rattle.expression.specs.Sets.{escaped, a-set};
-ghost use Rattle.tokens.specs.Place.{until};
 ghost use Rattle.expression.specs.Sense.{few as fewOf};
-ghost use Rattle.tokens.specs.Answers.{endOf, partOf, SetAt, setAt};
-ghost use Rattle.tokens.specs.Sets.{a-label};
+ghost use Rattle.tokens.specs.Place.{until};
+ghost use Rattle.tokens.specs.Answers.{endOf, partOf, set-tree, SetAt, setAt};
 
 // Where a set ends, or why it is turned away.
 pub enum End {
@@ -155,7 +154,7 @@ pub fn few(n: usize) -> usize
 
 // The set that begins here, as a part of the text: 8 if the alphabet has none of its labels.
 pub fn set(alphabet: &[u8], text: &[u8], at: usize) -> Part
-    ensures { λ r. ⌜ r ≡ partOf (now (alphabet .entry)) (now (text .entry)) (a-label (now (alphabet .entry)) (drop at (now (text .entry)))) ⌝ }
+    ensures { λ r. ⌜ r ≡ partOf (now (alphabet .entry)) (now (text .entry)) (set-tree (now (alphabet .entry)) (drop at (now (text .entry)))) ⌝ }
 {
     match set_end(text, at) {
         End::Refused(x) => Part::Refused(x),

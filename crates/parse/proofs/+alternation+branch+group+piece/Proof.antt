@@ -1,16 +1,16 @@
 -- `alternation`, `branch`, `piece` and `group` meet their contracts, together. The measure is 4 × the unread text, and 3, 2, 1 or 0 for
 -- the function: it falls at each call. Assumes nothing.
-use mathlib.Core.Path.{_≡_, sym, ap, _∙_}
+use mathlib.Core.Path.{sym, ap, _∙_}
 use Prim.Native.Nat.{ℕ, _+_, _*_, _-_, _<_}
 use native.Mathlib.Omega.{arith}
-use lib.ListN.{length, getD}
+use lib.ListN.{length}
 use denote.Ref.{now}
 use borrow.Author.Needs.{needs}
 use Rattle.expression.specs.Read.{m-branch, m-piece, m-group}
 use Rattle.tokens.specs.Place.{byte-is}
-use Rattle.parse.specs.Parts.{add, repeated, closed, part-found}
-use Rattle.parse.specs.Parts.{alternation-refused, alternation-alone, alternation-more, branch-refused, branch-last, branch-more}
-use Rattle.parse.specs.Parts.{piece-refused, piece-plain, piece-repeated, group-set, group-deep, group-closed}
+use Rattle.parse.specs.Parts.{add, repeated, closed, Found, part-found}
+use Rattle.parse.specs.Cycle.{alternation-refused, alternation-alone, alternation-more, branch-refused, branch-last, branch-more}
+use Rattle.parse.specs.Cycle.{piece-refused, piece-plain, piece-repeated, group-set, group-deep, group-closed}
 use borrow.Fn.Kinds.{In}
 use borrow.Fn.PlainCycle.{Measures, is, falls, and}
 use Rattle.parse.proofs.alternation.Reads as alternation
@@ -75,16 +75,71 @@ abbrev piece-below : ℕ → In 2 piece-kinds.ps
 piece-below t = and 2 piece-kinds.ps (falls 2 piece-kinds.ps _<_ μ-piece t) piece.Pre
 
 abbrev alternation-calls : ℕ → alternation-lts.Claims
-alternation-calls t = (branch-below t, branch.Post, peek-reads.Asked, peek-reads.Learnt, alternation-below t, alternation.Post, added-reads.Asked, added-reads.Learnt)
+alternation-calls t = (
+  branch-below t,
+  branch.Post,
+  peek-reads.Asked,
+  peek-reads.Learnt,
+  alternation-below t,
+  alternation.Post,
+  added-reads.Asked,
+  added-reads.Learnt,
+)
 
 abbrev branch-calls : ℕ → branch-lts.Claims
-branch-calls t = (piece-below t, piece.Post, is-end-reads.Asked, is-end-reads.Learnt, branch-below t, branch.Post, added-reads.Asked, added-reads.Learnt)
+branch-calls t = (
+  piece-below t,
+  piece.Post,
+  is-end-reads.Asked,
+  is-end-reads.Learnt,
+  branch-below t,
+  branch.Post,
+  added-reads.Asked,
+  added-reads.Learnt,
+)
 
 abbrev group-calls : ℕ → group-lts.Claims
-group-calls t = (peek-reads.Asked, peek-reads.Learnt, set-reads.Asked, set-reads.Learnt, alternation-below t, alternation.Post, closed-reads.Asked, closed-reads.Learnt)
+group-calls t = (
+  peek-reads.Asked,
+  peek-reads.Learnt,
+  set-reads.Asked,
+  set-reads.Learnt,
+  alternation-below t,
+  alternation.Post,
+  closed-reads.Asked,
+  closed-reads.Learnt,
+)
 
 abbrev piece-calls : ℕ → piece-lts.Claims
-piece-calls t = (group-below t, group.Post, is-repeated-reads.Asked, is-repeated-reads.Learnt, repetition-reads.Asked, repetition-reads.Learnt, repeated-reads.Asked, repeated-reads.Learnt)
+piece-calls t = (
+  group-below t,
+  group.Post,
+  is-repeated-reads.Asked,
+  is-repeated-reads.Learnt,
+  repetition-reads.Asked,
+  repetition-reads.Learnt,
+  repeated-reads.Asked,
+  repeated-reads.Learnt,
+)
+
+-- what each reads first
+first-branch : (t : ℕ) (c : alternation-lts.After-e (alternation-calls t) (alternation-at t) alternation.Post) →
+    Found (now (c .before .before .before .before .before .args .alphabet)) (now (c .before .before .before .before .before .args .text))
+    m-branch (c .before .before .before .before .before .args .room) (c .before .before .before .before .before .args .at)
+    (c .e .given .0 .0) (c .e .given .0 .1 .0)
+first-branch t c = part-found _ _ m-branch _ _ _ _ (sym (c .e .given .1) ∙ c .before .before .branch .ensures)
+
+first-piece : (t : ℕ) (c : branch-lts.After-e (branch-calls t) (branch-at t) branch.Post) →
+    Found (now (c .before .before .before .before .before .args .alphabet)) (now (c .before .before .before .before .before .args .text))
+    m-piece (c .before .before .before .before .before .args .room) (c .before .before .before .before .before .args .at)
+    (c .e .given .0 .0) (c .e .given .0 .1 .0)
+first-piece t c = part-found _ _ m-piece _ _ _ _ (sym (c .e .given .1) ∙ c .before .before .piece .ensures)
+
+first-group : (t : ℕ) (c : piece-lts.After-e (piece-calls t) (piece-at t) piece.Post) →
+    Found (now (c .before .before .before .before .before .args .alphabet)) (now (c .before .before .before .before .before .args .text))
+    m-group (c .before .before .before .before .before .args .room) (c .before .before .before .before .before .args .at)
+    (c .e .given .0 .0) (c .e .given .0 .1 .0)
+first-group t c = part-found _ _ m-group _ _ _ _ (sym (c .e .given .1) ∙ c .before .before .group .ensures)
 
 alternation-branch-requires : (t : ℕ) → alternation-lts.Need-branch-requires (alternation-calls t) (alternation-at t) alternation.Post
 alternation-branch-requires t c κs = search needs
@@ -100,40 +155,27 @@ alternation-peek-requires t c κs = search needs
 
 alternation-returns : (t : ℕ) → alternation-lts.Need-returns (alternation-calls t) (alternation-at t) alternation.Post
 alternation-returns t c =
-    let A = now (c .before .before .before .before .before .before .before .before .args .alphabet) in
-    let text = now (c .before .before .before .before .before .before .before .before .args .text) in
-    let at = c .before .before .before .before .before .before .before .before .args .at in
-    let d = c .before .before .before .before .before .before .before .before .args .room in
-    let g = c .before .before .before .e .given in
-    let e = g .0 .0 in
-    let f = part-found A text m-branch d at e (g .0 .1 .0) (sym (g .1) ∙ c .before .before .before .before .before .branch .ensures) in
-    alternation-alone A text d at e (g .0 .1 .0) f (λ z. c .if1 .taken (c .before .peek .ensures ∙ z))
+    let after-e = c .before .before .before in
+    alternation-alone (first-branch t after-e) (λ z. c .if1 .taken (c .before .peek .ensures ∙ z))
 
 alternation-add-alternation : (t : ℕ) → alternation-lts.Need-add-alternation (alternation-calls t) (alternation-at t) alternation.Post
 alternation-add-alternation t c =
-    let A = now (c .before .before .before .before .before .before .before .before .args .alphabet) in
-    let text = now (c .before .before .before .before .before .before .before .before .args .text) in
-    let at = c .before .before .before .before .before .before .before .before .args .at in
-    let d = c .before .before .before .before .before .before .before .before .args .room in
-    let g = c .before .before .before .e .given in
-    let e = g .0 .0 in
-    let f = part-found A text m-branch d at e (g .0 .1 .0) (sym (g .1) ∙ c .before .before .before .before .before .branch .ensures) in
-    let b : getD text e 0 ≡ 124 = sym (c .before .peek .ensures) ∙ c .if1 .left in
-    let l = byte-is text e 123 b in
+    let start = c .before .before .before .before .before .before .before .before in
+    let after-e = c .before .before .before in
+    let text = now (start .args .text) in
+    let f = first-branch t after-e in
+    let l = byte-is text (after-e .e .given .0 .0) 123 (sym (c .before .peek .ensures) ∙ c .if1 .left) in
     let h = f .ahead in
     omega arith
 
-alternation-alternation-requires : (t : ℕ) → alternation-lts.Need-alternation-requires (alternation-calls t) (alternation-at t) alternation.Post
+alternation-alternation-requires : (t : ℕ) → alternation-lts.Need-alternation-requires (alternation-calls t) (alternation-at t)
+    alternation.Post
 alternation-alternation-requires t c κs =
-    let A = now (c .before .before .before .before .before .before .before .before .args .alphabet) in
-    let text = now (c .before .before .before .before .before .before .before .before .args .text) in
-    let at = c .before .before .before .before .before .before .before .before .args .at in
-    let d = c .before .before .before .before .before .before .before .before .args .room in
-    let g = c .before .before .before .e .given in
-    let e = g .0 .0 in
-    let f = part-found A text m-branch d at e (g .0 .1 .0) (sym (g .1) ∙ c .before .before .before .before .before .branch .ensures) in
-    let b : getD text e 0 ≡ 124 = sym (c .before .peek .ensures) ∙ c .if1 .left in
-    let l = byte-is text e 123 b in
+    let start = c .before .before .before .before .before .before .before .before in
+    let after-e = c .before .before .before in
+    let text = now (start .args .text) in
+    let f = first-branch t after-e in
+    let l = byte-is text (after-e .e .given .0 .0) 123 (sym (c .before .peek .ensures) ∙ c .if1 .left) in
     let h = f .ahead in
     omega arith
 
@@ -142,23 +184,18 @@ alternation-added-requires t c κs = search needs
 
 alternation-returns-2 : (t : ℕ) → alternation-lts.Need-returns-2 (alternation-calls t) (alternation-at t) alternation.Post
 alternation-returns-2 t c =
-    let A = now (c .before .before .before .before .before .before .args .alphabet) in
-    let text = now (c .before .before .before .before .before .before .args .text) in
-    let at = c .before .before .before .before .before .before .args .at in
-    let d = c .before .before .before .before .before .before .args .room in
-    alternation-refused A text d at _ (sym (c .before .x .given .1) ∙ c .before .before .before .branch .ensures)
+    let start = c .before .before .before .before .before .before in
+    let after-branch = c .before .before .before in
+    let a = start .args in
+    alternation-refused (now (a .alphabet)) (now (a .text)) (a .room) (a .at) _
+    (sym (c .before .x .given .1) ∙ after-branch .branch .ensures)
 
 alternation-returns-3 : (t : ℕ) → alternation-lts.Need-returns-3 (alternation-calls t) (alternation-at t) alternation.Post
 alternation-returns-3 t c =
-    let A = now (c .before .before .before .before .before .before .before .before .before .before .args .alphabet) in
-    let text = now (c .before .before .before .before .before .before .before .before .before .before .args .text) in
-    let at = c .before .before .before .before .before .before .before .before .before .before .args .at in
-    let d = c .before .before .before .before .before .before .before .before .before .before .args .room in
-    let g = c .before .before .before .before .before .e .given in
-    let e = g .0 .0 in
-    let f = part-found A text m-branch d at e (g .0 .1 .0) (sym (g .1) ∙ c .before .before .before .before .before .before .before .branch .ensures) in
-    let b : getD text e 0 ≡ 124 = sym (c .before .before .before .peek .ensures) ∙ c .before .before .if1 .left in
-    c .added .ensures ∙ ap (add (g .0 .1 .0)) (c .before .alternation .ensures) ∙ alternation-more A text d at e (g .0 .1 .0) f b
+    let after-e = c .before .before .before .before .before in
+    let after-peek = c .before .before .before in
+    c .added .ensures ∙ ap (add (after-e .e .given .0 .1 .0)) (c .before .alternation .ensures)
+    ∙ alternation-more (first-branch t after-e) (sym (after-peek .peek .ensures) ∙ c .before .before .if1 .left)
 
 branch-piece-requires : (t : ℕ) → branch-lts.Need-piece-requires (branch-calls t) (branch-at t) branch.Post
 branch-piece-requires t c κs = search needs
@@ -174,24 +211,13 @@ branch-is-end-requires t c κs = search needs
 
 branch-returns : (t : ℕ) → branch-lts.Need-returns (branch-calls t) (branch-at t) branch.Post
 branch-returns t c =
-    let A = now (c .before .before .before .before .before .before .before .before .args .alphabet) in
-    let text = now (c .before .before .before .before .before .before .before .before .args .text) in
-    let at = c .before .before .before .before .before .before .before .before .args .at in
-    let d = c .before .before .before .before .before .before .before .before .args .room in
-    let g = c .before .before .before .e .given in
-    let e = g .0 .0 in
-    let f = part-found A text m-piece d at e (g .0 .1 .0) (sym (g .1) ∙ c .before .before .before .before .before .piece .ensures) in
-    branch-last A text d at e (g .0 .1 .0) f (sym (c .before .is-end .ensures) ∙ c .if1 .taken)
+    let after-e = c .before .before .before in
+    branch-last (first-piece t after-e) (sym (c .before .is-end .ensures) ∙ c .if1 .taken)
 
 branch-branch-requires : (t : ℕ) → branch-lts.Need-branch-requires (branch-calls t) (branch-at t) branch.Post
 branch-branch-requires t c κs =
-    let A = now (c .before .before .before .before .before .before .before .before .args .alphabet) in
-    let text = now (c .before .before .before .before .before .before .before .before .args .text) in
-    let at = c .before .before .before .before .before .before .before .before .args .at in
-    let d = c .before .before .before .before .before .before .before .before .args .room in
-    let g = c .before .before .before .e .given in
-    let e = g .0 .0 in
-    let f = part-found A text m-piece d at e (g .0 .1 .0) (sym (g .1) ∙ c .before .before .before .before .before .piece .ensures) in
+    let after-e = c .before .before .before in
+    let f = first-piece t after-e in
     let h = f .ahead in
     let w = f .within in
     omega arith
@@ -201,23 +227,17 @@ branch-added-requires t c κs = search needs
 
 branch-returns-2 : (t : ℕ) → branch-lts.Need-returns-2 (branch-calls t) (branch-at t) branch.Post
 branch-returns-2 t c =
-    let A = now (c .before .before .before .before .before .before .args .alphabet) in
-    let text = now (c .before .before .before .before .before .before .args .text) in
-    let at = c .before .before .before .before .before .before .args .at in
-    let d = c .before .before .before .before .before .before .args .room in
-    branch-refused A text d at _ (sym (c .before .x .given .1) ∙ c .before .before .before .piece .ensures)
+    let start = c .before .before .before .before .before .before in
+    let after-piece = c .before .before .before in
+    let a = start .args in
+    branch-refused (now (a .alphabet)) (now (a .text)) (a .room) (a .at) _ (sym (c .before .x .given .1) ∙ after-piece .piece .ensures)
 
 branch-returns-3 : (t : ℕ) → branch-lts.Need-returns-3 (branch-calls t) (branch-at t) branch.Post
 branch-returns-3 t c =
-    let A = now (c .before .before .before .before .before .before .before .before .before .before .args .alphabet) in
-    let text = now (c .before .before .before .before .before .before .before .before .before .before .args .text) in
-    let at = c .before .before .before .before .before .before .before .before .before .before .args .at in
-    let d = c .before .before .before .before .before .before .before .before .before .before .args .room in
-    let g = c .before .before .before .before .before .e .given in
-    let e = g .0 .0 in
-    let f = part-found A text m-piece d at e (g .0 .1 .0) (sym (g .1) ∙ c .before .before .before .before .before .before .before .piece .ensures) in
-    c .added .ensures ∙ ap (add (g .0 .1 .0)) (c .before .branch .ensures)
-    ∙ branch-more A text d at e (g .0 .1 .0) f (sym (c .before .before .before .is-end .ensures) ∙ c .before .before .if1 .left)
+    let after-e = c .before .before .before .before .before in
+    let after-is-end = c .before .before .before in
+    c .added .ensures ∙ ap (add (after-e .e .given .0 .1 .0)) (c .before .branch .ensures)
+    ∙ branch-more (first-piece t after-e) (sym (after-is-end .is-end .ensures) ∙ c .before .before .if1 .left)
 
 group-peek-requires : (t : ℕ) → group-lts.Need-peek-requires (group-calls t) (group-at t) group.Post
 group-peek-requires t c κs = search needs
@@ -227,29 +247,23 @@ group-set-requires t c κs = search needs
 
 group-returns : (t : ℕ) → group-lts.Need-returns (group-calls t) (group-at t) group.Post
 group-returns t c =
-    let A = now (c .before .before .before .before .before .args .alphabet) in
-    let text = now (c .before .before .before .before .before .args .text) in
-    let at = c .before .before .before .before .before .args .at in
-    let d = c .before .before .before .before .before .args .room in
-    c .set .ensures ∙ group-set A text d at (λ z. c .before .if1 .taken (c .before .before .peek .ensures ∙ z))
+    let start = c .before .before .before .before .before in
+    let a = start .args in
+    c .set .ensures ∙ group-set (now (a .alphabet)) (now (a .text)) (a .room) (a .at)
+    (λ z. c .before .if1 .taken (c .before .before .peek .ensures ∙ z))
 
 group-returns-2 : (t : ℕ) → group-lts.Need-returns-2 (group-calls t) (group-at t) group.Post
 group-returns-2 t c =
-    let A = now (c .before .before .before .before .before .args .alphabet) in
-    let text = now (c .before .before .before .before .before .args .text) in
-    let at = c .before .before .before .before .before .args .at in
-    let d = c .before .before .before .before .before .args .room in
-    let b : getD text at 0 ≡ 40 = sym (c .before .before .peek .ensures) ∙ c .before .if1 .left in
-    group-deep A text d at b (c .if2 .taken)
+    let start = c .before .before .before .before .before in
+    let a = start .args in
+    group-deep (now (a .alphabet)) (now (a .text)) (a .room) (a .at) (sym (c .before .before .peek .ensures) ∙ c .before .if1 .left)
+    (c .if2 .taken)
 
 group-add-alternation : (t : ℕ) → group-lts.Need-add-alternation (group-calls t) (group-at t) group.Post
 group-add-alternation t c =
-    let A = now (c .before .before .before .before .before .args .alphabet) in
-    let text = now (c .before .before .before .before .before .args .text) in
-    let at = c .before .before .before .before .before .args .at in
-    let d = c .before .before .before .before .before .args .room in
-    let b : getD text at 0 ≡ 40 = sym (c .before .before .peek .ensures) ∙ c .before .if1 .left in
-    let l = byte-is text at 39 b in
+    let start = c .before .before .before .before .before in
+    let text = now (start .args .text) in
+    let l = byte-is text (start .args .at) 39 (sym (c .before .before .peek .ensures) ∙ c .before .if1 .left) in
     omega arith
 
 group-sub-alternation : (t : ℕ) → group-lts.Need-sub-alternation (group-calls t) (group-at t) group.Post
@@ -257,12 +271,9 @@ group-sub-alternation t c = search needs
 
 group-alternation-requires : (t : ℕ) → group-lts.Need-alternation-requires (group-calls t) (group-at t) group.Post
 group-alternation-requires t c κs =
-    let A = now (c .before .before .before .before .before .args .alphabet) in
-    let text = now (c .before .before .before .before .before .args .text) in
-    let at = c .before .before .before .before .before .args .at in
-    let d = c .before .before .before .before .before .args .room in
-    let b : getD text at 0 ≡ 40 = sym (c .before .before .peek .ensures) ∙ c .before .if1 .left in
-    let l = byte-is text at 39 b in
+    let start = c .before .before .before .before .before in
+    let text = now (start .args .text) in
+    let l = byte-is text (start .args .at) 39 (sym (c .before .before .peek .ensures) ∙ c .before .if1 .left) in
     omega arith
 
 group-closed-requires : (t : ℕ) → group-lts.Need-closed-requires (group-calls t) (group-at t) group.Post
@@ -270,12 +281,13 @@ group-closed-requires t c κs = search needs
 
 group-returns-3 : (t : ℕ) → group-lts.Need-returns-3 (group-calls t) (group-at t) group.Post
 group-returns-3 t c =
-    let A = now (c .before .before .before .before .before .before .before .args .alphabet) in
-    let text = now (c .before .before .before .before .before .before .before .args .text) in
-    let at = c .before .before .before .before .before .before .before .args .at in
-    let d = c .before .before .before .before .before .before .before .args .room in
-    let b : getD text at 0 ≡ 40 = sym (c .before .before .before .before .peek .ensures) ∙ c .before .before .before .if1 .left in
-    c .closed .ensures ∙ ap (closed text) (c .before .alternation .ensures) ∙ group-closed A text d at b (c .before .before .if2 .left)
+    let start = c .before .before .before .before .before .before .before in
+    let after-peek = c .before .before .before .before in
+    let else1 = c .before .before .before in
+    let a = start .args in
+    c .closed .ensures ∙ ap (closed (now (a .text))) (c .before .alternation .ensures)
+    ∙ group-closed (now (a .alphabet)) (now (a .text)) (a .room) (a .at) (sym (after-peek .peek .ensures) ∙ else1 .if1 .left)
+    (c .before .before .if2 .left)
 
 piece-group-requires : (t : ℕ) → piece-lts.Need-group-requires (piece-calls t) (piece-at t) piece.Post
 piece-group-requires t c κs = search needs
@@ -297,34 +309,22 @@ piece-repeated-requires t c κs = search needs
 
 piece-returns : (t : ℕ) → piece-lts.Need-returns (piece-calls t) (piece-at t) piece.Post
 piece-returns t c =
-    let A = now (c .before .before .before .before .before .before .before .before .before .before .args .alphabet) in
-    let text = now (c .before .before .before .before .before .before .before .before .before .before .args .text) in
-    let at = c .before .before .before .before .before .before .before .before .before .before .args .at in
-    let d = c .before .before .before .before .before .before .before .before .before .before .args .room in
-    let g = c .before .before .before .before .before .e .given in
-    let e = g .0 .0 in
-    let f = part-found A text m-group d at e (g .0 .1 .0) (sym (g .1) ∙ c .before .before .before .before .before .before .before .group .ensures) in
-    c .repeated .ensures ∙ ap (repeated (g .0 .1 .0)) (c .before .repetition .ensures)
-    ∙ piece-repeated A text d at e (g .0 .1 .0) f (sym (c .before .before .before .is-repeated .ensures) ∙ c .before .before .if1 .taken)
+    let after-e = c .before .before .before .before .before in
+    let after-is-repeated = c .before .before .before in
+    c .repeated .ensures ∙ ap (repeated (after-e .e .given .0 .1 .0)) (c .before .repetition .ensures)
+    ∙ piece-repeated (first-group t after-e) (sym (after-is-repeated .is-repeated .ensures) ∙ c .before .before .if1 .taken)
 
 piece-returns-2 : (t : ℕ) → piece-lts.Need-returns-2 (piece-calls t) (piece-at t) piece.Post
 piece-returns-2 t c =
-    let A = now (c .before .before .before .before .before .before .args .alphabet) in
-    let text = now (c .before .before .before .before .before .before .args .text) in
-    let at = c .before .before .before .before .before .before .args .at in
-    let d = c .before .before .before .before .before .before .args .room in
-    piece-refused A text d at _ (sym (c .before .x .given .1) ∙ c .before .before .before .group .ensures)
+    let start = c .before .before .before .before .before .before in
+    let after-group = c .before .before .before in
+    let a = start .args in
+    piece-refused (now (a .alphabet)) (now (a .text)) (a .room) (a .at) _ (sym (c .before .x .given .1) ∙ after-group .group .ensures)
 
 piece-returns-3 : (t : ℕ) → piece-lts.Need-returns-3 (piece-calls t) (piece-at t) piece.Post
 piece-returns-3 t c =
-    let A = now (c .before .before .before .before .before .before .before .before .args .alphabet) in
-    let text = now (c .before .before .before .before .before .before .before .before .args .text) in
-    let at = c .before .before .before .before .before .before .before .before .args .at in
-    let d = c .before .before .before .before .before .before .before .before .args .room in
-    let g = c .before .before .before .e .given in
-    let e = g .0 .0 in
-    let f = part-found A text m-group d at e (g .0 .1 .0) (sym (g .1) ∙ c .before .before .before .before .before .group .ensures) in
-    piece-plain A text d at e (g .0 .1 .0) f (sym (c .before .is-repeated .ensures) ∙ c .if1 .left)
+    let after-e = c .before .before .before in
+    piece-plain (first-group t after-e) (sym (c .before .is-repeated .ensures) ∙ c .if1 .left)
 
 pub +alternation+branch+group+piece-spec : {M : Type 1} → statement M
 +alternation+branch+group+piece-spec =

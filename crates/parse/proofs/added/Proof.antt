@@ -16,12 +16,15 @@ sum-requires : tie.Need-sum-requires
 sum-requires c κs = search needs
 
 returns : tie.Need-returns
-returns c = ap (add (c .before .before .before .args .n)) (sym (c .before .rest .given .1))
+returns c =
+    let start = c .before .before .before in
+    ap (add (start .args .n)) (sym (c .before .rest .given .1))
 
 returns-2 : tie.Need-returns-2
 returns-2 c =
+    let start = c .before .before .before .before in
     let g = c .before .before .rest2 .given in
-    ap (part.Read (g .0 .0)) (c .sum .ensures) ∙ ap (add (c .before .before .before .before .args .n)) (sym (g .1))
+    ap (part.Read (g .0 .0)) (c .sum .ensures) ∙ ap (add (start .args .n)) (sym (g .1))
 
 pub added-spec : {M : Type 1} → statement M
 added-spec = tie.close (tie.spec enum-known-rest enum-known-rest-2 sum-requires returns returns-2)

@@ -19,24 +19,30 @@ enum-known-e c = search needs
 
 returns : tie.Need-returns
 returns c =
-    let A = now (c .before .before .before .before .before .before .before .args .alphabet) in
-    let text = now (c .before .before .before .before .before .before .before .args .text) in
+    let start = c .before .before .before .before .before .before .before in
+    let after-alternation = c .before .before .before .before in
+    let A = now (start .args .alphabet) in
+    let text = now (start .args .text) in
     let g = c .before .before .e .given in
-    let f = part-found A text m-alternation 16 0 (g .0 .0) (g .0 .1 .0) (sym (g .1) ∙ c .before .before .before .before .alternation .ensures) in
+    let f = part-found A text m-alternation 16 0 (g .0 .0) (g .0 .1 .0) (sym (g .1) ∙ after-alternation .alternation .ensures) in
     checked-stray A text (g .0 .0) (g .0 .1 .0) f (c .if1 .taken)
 
 returns-2 : tie.Need-returns-2
 returns-2 c =
-    let A = now (c .before .before .before .before .before .before .args .alphabet) in
-    let text = now (c .before .before .before .before .before .before .args .text) in
-    checked-refused A text _ (sym (c .before .x .given .1) ∙ c .before .before .before .alternation .ensures)
+    let start = c .before .before .before .before .before .before in
+    let after-alternation = c .before .before .before in
+    let A = now (start .args .alphabet) in
+    let text = now (start .args .text) in
+    checked-refused A text _ (sym (c .before .x .given .1) ∙ after-alternation .alternation .ensures)
 
 returns-3 : tie.Need-returns-3
 returns-3 c =
-    let A = now (c .before .before .before .before .before .before .before .args .alphabet) in
-    let text = now (c .before .before .before .before .before .before .before .args .text) in
+    let start = c .before .before .before .before .before .before .before in
+    let after-alternation = c .before .before .before .before in
+    let A = now (start .args .alphabet) in
+    let text = now (start .args .text) in
     let g = c .before .before .e .given in
-    let f = part-found A text m-alternation 16 0 (g .0 .0) (g .0 .1 .0) (sym (g .1) ∙ c .before .before .before .before .alternation .ensures) in
+    let f = part-found A text m-alternation 16 0 (g .0 .0) (g .0 .1 .0) (sym (g .1) ∙ after-alternation .alternation .ensures) in
     checked-letters A text (g .0 .0) (g .0 .1 .0) f (c .if1 .left)
 
 pub expression-spec : {M : Type 1} → statement M

@@ -18,7 +18,10 @@ one-of-requires : tie.Need-one-of-requires
 one-of-requires c κs = search needs
 
 returns : tie.Need-returns
-returns c = c .one-of .ensures ∙ ap (one-of (bytes "*+?{")) (c .before .peek .ensures) ∙ sym (next-of-at (bytes "*+?{") (now (c .before .before .before .before .args .text)) (c .before .before .before .before .args .at) refl)
+returns c =
+    let start = c .before .before .before .before in
+    c .one-of .ensures ∙ ap (one-of (bytes "*+?{")) (c .before .peek .ensures) ∙ sym
+    (next-of-at (bytes "*+?{") (now (start .args .text)) (start .args .at) refl)
 
 pub is-repeated-spec : {M : Type 1} → statement M
 is-repeated-spec = tie.close (tie.spec slice-aggregate-one-of peek-requires one-of-requires returns)

@@ -8,16 +8,25 @@ returns : tie.Need-returns
 returns c = product-none (c .before .args .k) (c .before .args .n) (c .if1 .taken)
 
 returns-2 : tie.Need-returns-2
-returns-2 c = product-zero (c .before .before .args .k) (c .before .before .args .n) (c .if2 .taken)
+returns-2 c =
+    let start = c .before .before in
+    product-zero (start .args .k) (start .args .n) (c .if2 .taken)
 
 returns-3 : tie.Need-returns-3
-returns-3 c = product-many (c .before .before .before .args .k) (c .before .before .before .args .n) (c .if3 .taken) (c .before .if2 .left)
+returns-3 c =
+    let start = c .before .before .before in
+    product-many (start .args .k) (start .args .n) (c .if3 .taken) (c .before .if2 .left)
 
 returns-4 : tie.Need-returns-4
-returns-4 c = product-times (c .before .before .before .before .args .k) (c .before .before .before .before .args .n) (c .if4 .taken) (c .before .before .before .if1 .left)
+returns-4 c =
+    let start = c .before .before .before .before in
+    let else1 = c .before .before .before in
+    product-times (start .args .k) (start .args .n) (c .if4 .taken) (else1 .if1 .left)
 
 mul-few : tie.Need-mul-few
-mul-few c = let s = product-small (c .before .before .before .before .args .k) (c .before .before .before .before .args .n) (c .before .if3 .left) (c .if4 .left) in omega arith
+mul-few c =
+    let start = c .before .before .before .before in
+    let s = product-small (start .args .k) (start .args .n) (c .before .if3 .left) (c .if4 .left) in omega arith
 
 few-requires : tie.Need-few-requires
 few-requires c κs = tt

@@ -27,18 +27,23 @@ product-requires-2 : tie.Need-product-requires-2
 product-requires-2 c κs = search needs
 
 returns : tie.Need-returns
-returns c = ap (repeated (c .before .before .before .args .n)) (sym (c .before .r .given .1))
+returns c =
+    let start = c .before .before .before in
+    ap (repeated (start .args .n)) (sym (c .before .r .given .1))
 
 returns-2 : tie.Need-returns-2
 returns-2 c =
+    let start = c .before .before .before .before in
     let g = c .before .before .r2 .given in
-    ap (part.Read (g .0 .1 .1 .0)) (c .product .ensures) ∙ ap (repeated (c .before .before .before .before .args .n)) (sym (g .1))
+    ap (part.Read (g .0 .1 .1 .0)) (c .product .ensures) ∙ ap (repeated (start .args .n)) (sym (g .1))
 
 returns-3 : tie.Need-returns-3
 returns-3 c =
-    let g = c .before .before .before .r3 .given in
-    ap (part.Read (g .0 .1 .0)) (c .product2 .ensures ∙ ap (λ k. few (k * c .before .before .before .before .before .args .n)) (c .before .copies .ensures))
-    ∙ ap (repeated (c .before .before .before .before .before .args .n)) (sym (g .1))
+    let start = c .before .before .before .before .before in
+    let after-r3 = c .before .before .before in
+    let g = after-r3 .r3 .given in
+    ap (part.Read (g .0 .1 .0)) (c .product2 .ensures ∙ ap (λ k. few (k * start .args .n)) (c .before .copies .ensures))
+    ∙ ap (repeated (start .args .n)) (sym (g .1))
 
 pub repeated-spec : {M : Type 1} → statement M
 repeated-spec =

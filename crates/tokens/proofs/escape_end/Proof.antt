@@ -25,14 +25,17 @@ add-t9 c = search needs
 
 returns : tie.Need-returns
 returns c =
-    let text = now (c .before .before .before .before .before .args .text) in
-    let at = c .before .before .before .before .before .args .at in
-    escape-ends text at (drop at text) (c .before .before .before .before .before .pre) (sym (c .before .one-of .ensures ∙ ap special (c .before .before .peek .ensures)) ∙ c .if1 .taken)
+    let start = c .before .before .before .before .before in
+    let text = now (start .args .text) in
+    let at = start .args .at in
+    escape-ends text at (drop at text) (start .pre) (sym (c .before .one-of .ensures ∙ ap special (c .before .before .peek .ensures))
+    ∙ c .if1 .taken)
 
 returns-2 : tie.Need-returns-2
 returns-2 c =
-    let text = now (c .before .before .before .before .before .args .text) in
-    let at = c .before .before .before .before .before .args .at in
+    let start = c .before .before .before .before .before in
+    let text = now (start .args .text) in
+    let at = start .args .at in
     escape-refused text at (drop at text) (sym (c .before .one-of .ensures ∙ ap special (c .before .before .peek .ensures)) ∙ c .if1 .left)
 
 pub escape-end-spec : {M : Type 1} → statement M

@@ -21,7 +21,12 @@ shared-slice-read-if1 : tie.Need-shared-slice-read-if1 Inv-loop μ-loop
 shared-slice-read-if1 c = omega arith
 
 returns : tie.Need-returns Inv-loop μ-loop
-returns c = let a = c .before .before .before .before .args in let l = c .before .before .before .loop in sym (until-here (a .sign) (now (a .text)) (l .i) (c .before .before .loop-test .taken) (c .if1 .taken)) ∙ l .inv
+returns c =
+    let start = c .before .before .before .before in
+    let at-loop = c .before .before .before in
+    let a = start .args in
+    let l = at-loop .loop in
+    sym (until-here (a .sign) (now (a .text)) (l .i) (c .before .before .loop-test .taken) (c .if1 .taken)) ∙ l .inv
 
 add-i : tie.Need-add-i Inv-loop μ-loop
 add-i c = omega arith
@@ -30,10 +35,18 @@ loop-less : tie.Need-loop-less Inv-loop μ-loop
 loop-less c = omega arith
 
 loop-again : tie.Need-loop-again Inv-loop μ-loop
-loop-again c = let a = c .before .before .before .before .args in let l = c .before .before .before .loop in sym (until-past (a .sign) (now (a .text)) (l .i) (c .before .before .loop-test .taken) (c .if1 .left)) ∙ l .inv
+loop-again c =
+    let start = c .before .before .before .before in
+    let at-loop = c .before .before .before in
+    let a = start .args in
+    let l = at-loop .loop in
+    sym (until-past (a .sign) (now (a .text)) (l .i) (c .before .before .loop-test .taken) (c .if1 .left)) ∙ l .inv
 
 returns-2 : tie.Need-returns-2 Inv-loop μ-loop
-returns-2 c = let a = c .before .before .args in let l = c .before .loop in sym (until-end (a .sign) (now (a .text)) (l .i) (c .loop-test .left)) ∙ l .inv
+returns-2 c =
+    let a = c .before .before .args in
+    let l = c .before .loop in
+    sym (until-end (a .sign) (now (a .text)) (l .i) (c .loop-test .left)) ∙ l .inv
 
 pub find-spec : {M : Type 1} → statement M
 find-spec = tie.close (tie.spec Inv-loop μ-loop loop-holds shared-slice-read-if1 returns add-i loop-less loop-again returns-2)

@@ -12,19 +12,24 @@ use Rattle.tokens.proofs.labels.Statement.{statement}
 use Rattle.tokens.proofs.labels.Tie as tie
 
 abbrev Inv-loop : tie.InvT-loop
-Inv-loop alphabet text at n₀ i₀ n i = (i ≤ length alphabet) × (n ≤ i) × (n + labelsOf (drop i alphabet) (setAt text at) ≡ labelsOf alphabet (setAt text at))
+Inv-loop alphabet text at n₀ i₀ n i = (i ≤ length alphabet) × (n ≤ i) ×
+    (n + labelsOf (drop i alphabet) (setAt text at) ≡ labelsOf alphabet (setAt text at))
 
 abbrev μ-loop : tie.MeasureT-loop
 μ-loop alphabet text at n₀ i₀ n i = length alphabet - i
 
 loop-holds : tie.Need-loop-holds Inv-loop μ-loop
-loop-holds c = (omega arith, omega arith, labels-none (now (c .before .before .args .alphabet)) (setAt (now (c .before .before .args .text)) (c .before .before .args .at)))
+loop-holds c =
+    let start = c .before .before in
+    (omega arith, omega arith, labels-none (now (start .args .alphabet)) (setAt (now (start .args .text)) (start .args .at)))
 
 shared-slice-read-member : tie.Need-shared-slice-read-member Inv-loop μ-loop
 shared-slice-read-member c = omega arith
 
 member-requires : tie.Need-member-requires Inv-loop μ-loop
-member-requires c κs = c .before .before .before .before .before .pre
+member-requires c κs =
+    let start = c .before .before .before .before .before in
+    start .pre
 
 one-if-requires : tie.Need-one-if-requires Inv-loop μ-loop
 one-if-requires c κs = tt
@@ -40,14 +45,23 @@ loop-less c = omega arith
 
 loop-again : tie.Need-loop-again Inv-loop μ-loop
 loop-again c =
-    let A = now (c .before .before .before .before .before .before .before .args .alphabet) in
-    let s = setAt (now (c .before .before .before .before .before .before .before .args .text)) (c .before .before .before .before .before .before .before .args .at) in
-    let l = c .before .before .before .before .loop in
-    let o = at-most-one _ (c .before .member .result) (c .one-if .ensures) in
-    (omega arith, omega arith, rw (c .one-if .ensures, c .before .member .ensures) (labels-more A s (l .i) (l .n) (omega arith) (l .inv .2)))
+    let start = c .before .before .before .before .before .before .before in
+    let at-loop = c .before .before .before .before in
+    let A = now (start .args .alphabet) in
+    let s = setAt (now (start .args .text)) (start .args .at) in
+    let l = at-loop .loop in
+    let o = at-most-one _ (c .before .member .result) (c .one-if .ensures) in (
+      omega arith,
+      omega arith,
+      rw (c .one-if .ensures, c .before .member .ensures)
+          (labels-more A s (l .i) (l .n) (omega arith) (l .inv .2)),
+    )
 
 returns : tie.Need-returns Inv-loop μ-loop
-returns c = labels-end (now (c .before .before .before .before .args .alphabet)) (setAt (now (c .before .before .before .before .args .text)) (c .before .before .before .before .args .at)) (c .before .loop .i) (c .before .loop .n) (omega arith) (c .before .loop .inv .2)
+returns c =
+    let start = c .before .before .before .before in
+    labels-end (now (start .args .alphabet)) (setAt (now (start .args .text)) (start .args .at)) (c .before .loop .i) (c .before .loop .n)
+    (omega arith) (c .before .loop .inv .2)
 
 pub labels-spec : {M : Type 1} → statement M
 labels-spec =

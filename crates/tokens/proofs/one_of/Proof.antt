@@ -22,7 +22,12 @@ shared-slice-read-if1 : tie.Need-shared-slice-read-if1 Inv-loop μ-loop
 shared-slice-read-if1 c = omega arith
 
 returns : tie.Need-returns Inv-loop μ-loop
-returns c = let a = c .before .before .before .before .args in let l = c .before .before .before .loop in sym (one-here (now (a .signs)) (a .b) (l .i) (omega arith) (c .if1 .taken)) ∙ l .inv .1
+returns c =
+    let start = c .before .before .before .before in
+    let at-loop = c .before .before .before in
+    let a = start .args in
+    let l = at-loop .loop in
+    sym (one-here (now (a .signs)) (a .b) (l .i) (omega arith) (c .if1 .taken)) ∙ l .inv .1
 
 add-i : tie.Need-add-i Inv-loop μ-loop
 add-i c = omega arith
@@ -31,10 +36,18 @@ loop-less : tie.Need-loop-less Inv-loop μ-loop
 loop-less c = omega arith
 
 loop-again : tie.Need-loop-again Inv-loop μ-loop
-loop-again c = let a = c .before .before .before .before .args in let l = c .before .before .before .loop in (omega arith, sym (one-past (now (a .signs)) (a .b) (l .i) (omega arith) (c .if1 .left)) ∙ l .inv .1)
+loop-again c =
+    let start = c .before .before .before .before in
+    let at-loop = c .before .before .before in
+    let a = start .args in
+    let l = at-loop .loop in
+    (omega arith, sym (one-past (now (a .signs)) (a .b) (l .i) (omega arith) (c .if1 .left)) ∙ l .inv .1)
 
 returns-2 : tie.Need-returns-2 Inv-loop μ-loop
-returns-2 c = let a = c .before .before .args in let l = c .before .loop in sym (one-end (now (a .signs)) (a .b) (l .i) (omega arith)) ∙ l .inv .1
+returns-2 c =
+    let a = c .before .before .args in
+    let l = c .before .loop in
+    sym (one-end (now (a .signs)) (a .b) (l .i) (omega arith)) ∙ l .inv .1
 
 pub one-of-spec : {M : Type 1} → statement M
 one-of-spec = tie.close (tie.spec Inv-loop μ-loop loop-holds shared-slice-read-if1 returns add-i loop-less loop-again returns-2)

@@ -19,34 +19,47 @@ enum-known-e c = search needs
 
 labels-requires : tie.Need-labels-requires
 labels-requires c κs =
-    let A = now (c .before .before .before .before .before .before .args .alphabet) in
-    let text = now (c .before .before .before .before .before .before .args .text) in
-    let at = c .before .before .before .before .before .before .args .at in
-    ends-set A text (drop at text) _ (sym (c .before .e .given .1) ∙ c .before .before .before .set-end .ensures)
+    let start = c .before .before .before .before .before .before in
+    let after-set-end = c .before .before .before in
+    let A = now (start .args .alphabet) in
+    let text = now (start .args .text) in
+    let at = start .args .at in
+    ends-set A text (drop at text) _ (sym (c .before .e .given .1) ∙ after-set-end .set-end .ensures)
 
 returns : tie.Need-returns
 returns c =
-    let A = now (c .before .before .before .before .before .before .before .before .args .alphabet) in
-    let text = now (c .before .before .before .before .before .before .before .before .args .text) in
-    let at = c .before .before .before .before .before .before .before .before .args .at in
-    part-foreign A text (drop at text) _ (c .before .labels .result) (sym (c .before .before .before .e .given .1) ∙ c .before .before .before .before .before .set-end .ensures) (c .before .labels .ensures) (c .if1 .taken)
+    let start = c .before .before .before .before .before .before .before .before in
+    let after-set-end = c .before .before .before .before .before in
+    let after-e = c .before .before .before in
+    let A = now (start .args .alphabet) in
+    let text = now (start .args .text) in
+    let at = start .args .at in
+    part-foreign A text (drop at text) _ (c .before .labels .result) (sym (after-e .e .given .1) ∙ after-set-end .set-end .ensures)
+    (c .before .labels .ensures) (c .if1 .taken)
 
 few-requires : tie.Need-few-requires
 few-requires c κs = search needs
 
 returns-2 : tie.Need-returns-2
 returns-2 c =
-    let A = now (c .before .before .before .before .before .before .args .alphabet) in
-    let text = now (c .before .before .before .before .before .before .args .text) in
-    let at = c .before .before .before .before .before .before .args .at in
-    part-refused A text (drop at text) _ (sym (c .before .x .given .1) ∙ c .before .before .before .set-end .ensures)
+    let start = c .before .before .before .before .before .before in
+    let after-set-end = c .before .before .before in
+    let A = now (start .args .alphabet) in
+    let text = now (start .args .text) in
+    let at = start .args .at in
+    part-refused A text (drop at text) _ (sym (c .before .x .given .1) ∙ after-set-end .set-end .ensures)
 
 returns-3 : tie.Need-returns-3
 returns-3 c =
-    let A = now (c .before .before .before .before .before .before .before .before .before .args .alphabet) in
-    let text = now (c .before .before .before .before .before .before .before .before .before .args .text) in
-    let at = c .before .before .before .before .before .before .before .before .before .args .at in
-    ap (part.Read (c .before .before .before .before .e .given .0 .0)) (c .few .ensures) ∙ part-labels A text (drop at text) _ (c .before .before .labels .result) (sym (c .before .before .before .before .e .given .1) ∙ c .before .before .before .before .before .before .set-end .ensures) (c .before .before .labels .ensures) (c .before .if1 .left)
+    let start = c .before .before .before .before .before .before .before .before .before in
+    let after-set-end = c .before .before .before .before .before .before in
+    let after-e = c .before .before .before .before in
+    let after-labels = c .before .before in
+    let A = now (start .args .alphabet) in
+    let text = now (start .args .text) in
+    let at = start .args .at in
+    ap (part.Read (after-e .e .given .0 .0)) (c .few .ensures) ∙ part-labels A text (drop at text) _ (after-labels .labels .result)
+    (sym (after-e .e .given .1) ∙ after-set-end .set-end .ensures) (after-labels .labels .ensures) (c .before .if1 .left)
 
 pub set-spec : {M : Type 1} → statement M
 set-spec = tie.close (tie.spec set-end-requires enum-known-x enum-known-e labels-requires returns few-requires returns-2 returns-3)

@@ -8,8 +8,9 @@ use Rattle.tokens.proofs.set_end.Tie as tie
 
 returns : tie.Need-returns
 returns c =
-    let text = now (c .before .before .args .text) in
-    let at = c .before .before .args .at in
+    let start = c .before .before in
+    let text = now (start .args .text) in
+    let at = start .args .at in
     end-none text at (c .if1 .taken)
 
 shared-slice-read-b : tie.Need-shared-slice-read-b
@@ -20,27 +21,33 @@ escape-end-requires c κs = search needs
 
 returns-2 : tie.Need-returns-2
 returns-2 c =
-    let text = now (c .before .before .before .before .before .args .text) in
-    let at = c .before .before .before .before .before .args .at in
-    c .escape-end .ensures ∙ end-escape text at (c .before .before .before .if1 .left) (c .before .if2 .taken)
+    let start = c .before .before .before .before .before in
+    let else1 = c .before .before .before in
+    let text = now (start .args .text) in
+    let at = start .args .at in
+    c .escape-end .ensures ∙ end-escape text at (else1 .if1 .left) (c .before .if2 .taken)
 
 add-t10 : tie.Need-add-t10
 add-t10 c = search needs
 
 returns-3 : tie.Need-returns-3
 returns-3 c =
-    let text = now (c .before .before .before .before .before .args .text) in
-    let at = c .before .before .before .before .before .args .at in
-    end-dot text at (c .before .before .before .if1 .left) (c .if3 .taken)
+    let start = c .before .before .before .before .before in
+    let else1 = c .before .before .before in
+    let text = now (start .args .text) in
+    let at = start .args .at in
+    end-dot text at (else1 .if1 .left) (c .if3 .taken)
 
 bracket-end-requires : tie.Need-bracket-end-requires
 bracket-end-requires c κs = search needs
 
 returns-4 : tie.Need-returns-4
 returns-4 c =
-    let text = now (c .before .before .before .before .before .before .before .args .text) in
-    let at = c .before .before .before .before .before .before .before .args .at in
-    c .bracket-end .ensures ∙ end-bracket text at (c .before .before .before .before .before .if1 .left) (c .before .if4 .taken)
+    let start = c .before .before .before .before .before .before .before in
+    let else1 = c .before .before .before .before .before in
+    let text = now (start .args .text) in
+    let at = start .args .at in
+    c .bracket-end .ensures ∙ end-bracket text at (else1 .if1 .left) (c .before .if4 .taken)
 
 slice-aggregate-one-of : tie.Need-slice-aggregate-one-of
 slice-aggregate-one-of c = search needs
@@ -50,18 +57,30 @@ one-of-requires c κs = search needs
 
 returns-5 : tie.Need-returns-5
 returns-5 c =
-    let text = now (c .before .before .before .before .before .before .before .before .before .args .text) in
-    let at = c .before .before .before .before .before .before .before .before .before .args .at in
-    end-special text at (c .before .before .before .before .before .before .before .if1 .left) (c .before .before .before .before .before .if2 .left) (c .before .before .before .before .if3 .left) (c .before .before .before .if4 .left) (sym (c .before .one-of .ensures) ∙ c .if5 .taken)
+    let start = c .before .before .before .before .before .before .before .before .before in
+    let else1 = c .before .before .before .before .before .before .before in
+    let else2 = c .before .before .before .before .before in
+    let else3 = c .before .before .before .before in
+    let else4 = c .before .before .before in
+    let text = now (start .args .text) in
+    let at = start .args .at in
+    end-special text at (else1 .if1 .left) (else2 .if2 .left) (else3 .if3 .left) (else4 .if4 .left)
+    (sym (c .before .one-of .ensures) ∙ c .if5 .taken)
 
 add-t5 : tie.Need-add-t5
 add-t5 c = search needs
 
 returns-6 : tie.Need-returns-6
 returns-6 c =
-    let text = now (c .before .before .before .before .before .before .before .before .before .args .text) in
-    let at = c .before .before .before .before .before .before .before .before .before .args .at in
-    end-alone text at (c .before .before .before .before .before .before .before .if1 .left) (c .before .before .before .before .before .if2 .left) (c .before .before .before .before .if3 .left) (c .before .before .before .if4 .left) (sym (c .before .one-of .ensures) ∙ c .if5 .left)
+    let start = c .before .before .before .before .before .before .before .before .before in
+    let else1 = c .before .before .before .before .before .before .before in
+    let else2 = c .before .before .before .before .before in
+    let else3 = c .before .before .before .before in
+    let else4 = c .before .before .before in
+    let text = now (start .args .text) in
+    let at = start .args .at in
+    end-alone text at (else1 .if1 .left) (else2 .if2 .left) (else3 .if3 .left) (else4 .if4 .left)
+    (sym (c .before .one-of .ensures) ∙ c .if5 .left)
 
 pub set-end-spec : {M : Type 1} → statement M
 set-end-spec =

@@ -4,99 +4,77 @@ use native.Mathlib.Omega.{arith}
 use denote.Ref.{now}
 use mathlib.Core.Path.{ap, _∙_}
 use mathlib.Core.Bool.{not}
-use lib.ListN.{drop}
-use Rattle.tokens.specs.Brackets.{bracket-order, bracket-closed, bracket-members, bracket-only, bracket-except, opened-within}
+use Rattle.tokens.specs.Brackets.{
+  Bracket,
+  bracket-order,
+  bracket-closed,
+  bracket-members,
+  bracket-only,
+  bracket-except,
+  opened-within,
+}
 use Rattle.tokens.proofs.bracket.bracket_has.Statement.{statement}
 use Rattle.tokens.proofs.bracket.bracket_has.Tie as tie
+
+-- the bracket, once its first item and its end are known
+the-bracket : (c : tie.After-closing) → Bracket (now (c .before .before .before .args .text)) (c .before .before .before .args .at)
+    (c .before .opening .result) (c .closing .result)
+the-bracket c = record { begins = c .before .before .before .pre .0; opens = c .before .opening .ensures; closes = c .closing .ensures }
 
 opening-requires : tie.Need-opening-requires
 opening-requires c κs = search needs
 
 closing-requires : tie.Need-closing-requires
-closing-requires c κs = rw (c .opening .ensures) (opened-within (now (c .before .before .args .text)) (c .before .before .args .at) (c .before .before .pre .0))
+closing-requires c κs =
+    let start = c .before .before in
+    rw (c .opening .ensures) (opened-within (now (start .args .text)) (start .args .at) (start .pre .0))
 
 add-if1 : tie.Need-add-if1
 add-if1 c = search needs
 
 sub-has : tie.Need-sub-has
-sub-has c =
-    let text = now (c .before .before .before .before .args .text) in
-    let at = c .before .before .before .before .args .at in
-    let first = c .before .before .opening .result in
-    let e = c .before .closing .result in
-    let o = bracket-order (drop at text) text at first e (c .before .before .opening .ensures) (c .before .closing .ensures) (c .before .before .before .before .pre .0) in omega arith
+sub-has c = let o = bracket-order (the-bracket (c .before)) in omega arith
 
 part-has-start : tie.Need-part-has-start
-part-has-start c =
-    let text = now (c .before .before .before .before .args .text) in
-    let at = c .before .before .before .before .args .at in
-    let first = c .before .before .opening .result in
-    let e = c .before .closing .result in
-    bracket-order (drop at text) text at first e (c .before .before .opening .ensures) (c .before .closing .ensures) (c .before .before .before .before .pre .0)
+part-has-start c = bracket-order (the-bracket (c .before))
 
 part-has-end : tie.Need-part-has-end
 part-has-end c =
-    let text = now (c .before .before .before .before .args .text) in
-    let at = c .before .before .before .before .args .at in
-    let first = c .before .before .opening .result in
-    let e = c .before .closing .result in
-    let o = bracket-closed (drop at text) text at first e (c .before .before .opening .ensures) (c .before .closing .ensures) (c .before .before .before .before .pre .0) (c .before .before .before .before .pre .1) in omega arith
+    let start = c .before .before .before .before in
+    let o = bracket-closed (the-bracket (c .before)) (start .pre .1) in omega arith
 
 has-requires : tie.Need-has-requires
 has-requires c κs =
-    let text = now (c .before .before .before .before .before .args .text) in
-    let at = c .before .before .before .before .before .args .at in
-    let first = c .before .before .before .opening .result in
-    let e = c .before .before .closing .result in
-    bracket-members (drop at text) text at first e (c .before .before .before .opening .ensures) (c .before .before .closing .ensures) (c .before .before .before .before .before .pre .0) (c .before .before .before .before .before .pre .1)
+    let start = c .before .before .before .before .before in
+    bracket-members (the-bracket (c .before .before)) (start .pre .1)
 
 returns : tie.Need-returns
 returns c =
-    let text = now (c .before .before .before .before .before .before .args .text) in
-    let at = c .before .before .before .before .before .before .args .at in
-    let first = c .before .before .before .before .opening .result in
-    let e = c .before .before .before .closing .result in
-    c .has .ensures ∙ bracket-only (drop at text) text at first e (c .before .before .before .before .opening .ensures) (c .before .before .before .closing .ensures) (c .before .before .before .before .before .before .pre .0) (c .before .before .before .before .before .before .pre .1) (c .before .before .before .before .before .before .args .b) (c .before .before .if1 .taken)
+    let start = c .before .before .before .before .before .before in
+    let after-closing = c .before .before .before in
+    c .has .ensures ∙ bracket-only (the-bracket after-closing) (start .pre .1) (start .args .b) (c .before .before .if1 .taken)
 
 sub-has-2 : tie.Need-sub-has-2
-sub-has-2 c =
-    let text = now (c .before .before .before .before .args .text) in
-    let at = c .before .before .before .before .args .at in
-    let first = c .before .before .opening .result in
-    let e = c .before .closing .result in
-    let o = bracket-order (drop at text) text at first e (c .before .before .opening .ensures) (c .before .closing .ensures) (c .before .before .before .before .pre .0) in omega arith
+sub-has-2 c = let o = bracket-order (the-bracket (c .before)) in omega arith
 
 part-has-start-2 : tie.Need-part-has-start-2
-part-has-start-2 c =
-    let text = now (c .before .before .before .before .args .text) in
-    let at = c .before .before .before .before .args .at in
-    let first = c .before .before .opening .result in
-    let e = c .before .closing .result in
-    bracket-order (drop at text) text at first e (c .before .before .opening .ensures) (c .before .closing .ensures) (c .before .before .before .before .pre .0)
+part-has-start-2 c = bracket-order (the-bracket (c .before))
 
 part-has-end-2 : tie.Need-part-has-end-2
 part-has-end-2 c =
-    let text = now (c .before .before .before .before .args .text) in
-    let at = c .before .before .before .before .args .at in
-    let first = c .before .before .opening .result in
-    let e = c .before .closing .result in
-    let o = bracket-closed (drop at text) text at first e (c .before .before .opening .ensures) (c .before .closing .ensures) (c .before .before .before .before .pre .0) (c .before .before .before .before .pre .1) in omega arith
+    let start = c .before .before .before .before in
+    let o = bracket-closed (the-bracket (c .before)) (start .pre .1) in omega arith
 
 has-requires-2 : tie.Need-has-requires-2
 has-requires-2 c κs =
-    let text = now (c .before .before .before .before .before .args .text) in
-    let at = c .before .before .before .before .before .args .at in
-    let first = c .before .before .before .opening .result in
-    let e = c .before .before .closing .result in
-    bracket-members (drop at text) text at first e (c .before .before .before .opening .ensures) (c .before .before .closing .ensures) (c .before .before .before .before .before .pre .0) (c .before .before .before .before .before .pre .1)
+    let start = c .before .before .before .before .before in
+    bracket-members (the-bracket (c .before .before)) (start .pre .1)
 
 returns-2 : tie.Need-returns-2
 returns-2 c =
-    let text = now (c .before .before .before .before .before .before .args .text) in
-    let at = c .before .before .before .before .before .before .args .at in
-    let first = c .before .before .before .before .opening .result in
-    let e = c .before .before .before .closing .result in
-    ap not (c .has2 .ensures) ∙ bracket-except (drop at text) text at first e (c .before .before .before .before .opening .ensures) (c .before .before .before .closing .ensures) (c .before .before .before .before .before .before .pre .0) (c .before .before .before .before .before .before .pre .1) (c .before .before .before .before .before .before .args .b) (c .before .before .if1 .left)
+    let start = c .before .before .before .before .before .before in
+    let after-closing = c .before .before .before in
+    ap not (c .has2 .ensures) ∙ bracket-except (the-bracket after-closing) (start .pre .1) (start .args .b) (c .before .before .if1 .left)
 
 pub bracket-has-spec : {M : Type 1} → statement M
 bracket-has-spec =

@@ -16,13 +16,19 @@ find-requires : tie.Need-find-requires
 find-requires c κs = search needs
 
 returns : tie.Need-returns
-returns c = c .find .ensures ∙ closing-first (now (c .before .before .before .before .args .text)) (c .before .before .before .before .args .first) (sym (c .before .before .peek .ensures) ∙ c .before .if1 .taken)
+returns c =
+    let start = c .before .before .before .before in
+    c .find .ensures ∙ closing-first (now (start .args .text)) (start .args .first)
+    (sym (c .before .before .peek .ensures) ∙ c .before .if1 .taken)
 
 find-requires-2 : tie.Need-find-requires-2
 find-requires-2 c κs = search needs
 
 returns-2 : tie.Need-returns-2
-returns-2 c = c .find2 .ensures ∙ closing-other (now (c .before .before .before .before .args .text)) (c .before .before .before .before .args .first) (λ z. c .before .if1 .left (c .before .before .peek .ensures ∙ z))
+returns-2 c =
+    let start = c .before .before .before .before in
+    c .find2 .ensures ∙ closing-other (now (start .args .text)) (start .args .first)
+    (λ z. c .before .if1 .left (c .before .before .peek .ensures ∙ z))
 
 pub closing-spec : {M : Type 1} → statement M
 closing-spec = tie.close (tie.spec peek-requires add-find find-requires returns find-requires-2 returns-2)

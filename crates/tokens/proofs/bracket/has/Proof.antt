@@ -13,7 +13,8 @@ use Rattle.tokens.proofs.bracket.has.Statement.{statement}
 use Rattle.tokens.proofs.bracket.has.Tie as tie
 
 abbrev Inv-loop : tie.InvT-loop
-Inv-loop inside b i₀ i = (i ≤ length inside) × (is-some (left inside i) ≡ true) × (among (listed (left inside i)) b ≡ among (listed (members inside)) b)
+Inv-loop inside b i₀ i = (i ≤ length inside) × (is-some (left inside i) ≡ true) ×
+    (among (listed (left inside i)) b ≡ among (listed (members inside)) b)
 
 abbrev μ-loop : tie.MeasureT-loop
 μ-loop inside b i₀ i = length inside - i
@@ -29,30 +30,47 @@ item-has-requires c κs = omega arith
 
 returns : tie.Need-returns Inv-loop μ-loop
 returns c =
-    let s = now (c .before .before .before .before .before .args .inside) in
-    let l = c .before .before .before .loop in
-    sym (among-here s (l .i) (omega arith) (c .before .before .before .before .before .args .b) (l .inv .1) (sym (c .before .item-has .ensures) ∙ c .if1 .taken)) ∙ l .inv .2
+    let start = c .before .before .before .before .before in
+    let at-loop = c .before .before .before in
+    let s = now (start .args .inside) in
+    let l = at-loop .loop in
+    sym (among-here s (l .i) (omega arith) (start .args .b) (l .inv .1) (sym (c .before .item-has .ensures) ∙ c .if1 .taken)) ∙ l .inv .2
 
 width-requires : tie.Need-width-requires Inv-loop μ-loop
 width-requires c κs = omega arith
 
 add-i : tie.Need-add-i Inv-loop μ-loop
-add-i c = let w = width-bounds (now (c .before .before .before .before .before .before .args .inside)) (c .before .before .before .before .loop .i) (c .width .result) (c .width .ensures) (omega arith) in omega arith
+add-i c =
+    let start = c .before .before .before .before .before .before in
+    let at-loop = c .before .before .before .before in
+    let w = width-bounds (now (start .args .inside)) (at-loop .loop .i) (c .width .result) (c .width .ensures) (omega arith) in
+    omega arith
 
 loop-less : tie.Need-loop-less Inv-loop μ-loop
-loop-less c = let w = width-bounds (now (c .before .before .before .before .before .before .args .inside)) (c .before .before .before .before .loop .i) (c .width .result) (c .width .ensures) (omega arith) in omega arith
+loop-less c =
+    let start = c .before .before .before .before .before .before in
+    let at-loop = c .before .before .before .before in
+    let w = width-bounds (now (start .args .inside)) (at-loop .loop .i) (c .width .result) (c .width .ensures) (omega arith) in
+    omega arith
 
 loop-again : tie.Need-loop-again Inv-loop μ-loop
 loop-again c =
-    let s = now (c .before .before .before .before .before .before .args .inside) in
-    let l = c .before .before .before .before .loop in
+    let start = c .before .before .before .before .before .before in
+    let at-loop = c .before .before .before .before in
+    let s = now (start .args .inside) in
+    let l = at-loop .loop in
     let r = c .width in
     let w = width-bounds s (l .i) (r .result) (r .ensures) (omega arith) in
-    let m = among-past s (l .i) (omega arith) (c .before .before .before .before .before .before .args .b) (l .inv .1) (sym (c .before .before .item-has .ensures) ∙ c .before .if1 .left) in
+    let m = among-past s (l .i) (omega arith) (start .args .b) (l .inv .1)
+    (sym (c .before .before .item-has .ensures) ∙ c .before .if1 .left) in
     (omega arith, rw (r .ensures) (some-more s (l .i) (omega arith) (l .inv .1)), rw (r .ensures) (sym m ∙ l .inv .2))
 
 returns-2 : tie.Need-returns-2 Inv-loop μ-loop
-returns-2 c = let s = now (c .before .before .before .args .inside) in let l = c .before .loop in sym (among-end s (l .i) (omega arith) (c .before .before .before .args .b)) ∙ l .inv .2
+returns-2 c =
+    let start = c .before .before .before in
+    let s = now (start .args .inside) in
+    let l = c .before .loop in
+    sym (among-end s (l .i) (omega arith) (start .args .b)) ∙ l .inv .2
 
 pub has-spec : {M : Type 1} → statement M
 has-spec =

@@ -18,7 +18,9 @@ shared-slice-read-result : tie.Need-shared-slice-read-result
 shared-slice-read-result c = search needs
 
 returns-2 : tie.Need-returns-2
-returns-2 c = ranges-by (now (c .before .before .args .inside)) (c .before .before .args .i) (c .before .if1 .left)
+returns-2 c =
+    let start = c .before .before in
+    ranges-by (now (start .args .inside)) (start .args .i) (c .before .if1 .left)
 
 pub is-range-spec : {M : Type 1} → statement M
 is-range-spec = tie.close (tie.spec sub-if1 returns add-result shared-slice-read-result returns-2)

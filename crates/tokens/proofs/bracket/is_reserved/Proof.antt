@@ -22,7 +22,12 @@ opens-class-requires : tie.Need-opens-class-requires Inv-loop μ-loop
 opens-class-requires c κs = omega arith
 
 returns : tie.Need-returns Inv-loop μ-loop
-returns c = let s = now (c .before .before .before .before .before .args .inside) in let l = c .before .before .before .loop in sym (reserved-here s (l .i) (omega arith) (sym (c .before .opens-class .ensures) ∙ c .if1 .taken)) ∙ l .inv .1
+returns c =
+    let start = c .before .before .before .before .before in
+    let at-loop = c .before .before .before in
+    let s = now (start .args .inside) in
+    let l = at-loop .loop in
+    sym (reserved-here s (l .i) (omega arith) (sym (c .before .opens-class .ensures) ∙ c .if1 .taken)) ∙ l .inv .1
 
 add-i : tie.Need-add-i Inv-loop μ-loop
 add-i c = omega arith
@@ -31,10 +36,19 @@ loop-less : tie.Need-loop-less Inv-loop μ-loop
 loop-less c = omega arith
 
 loop-again : tie.Need-loop-again Inv-loop μ-loop
-loop-again c = let s = now (c .before .before .before .before .before .args .inside) in let l = c .before .before .before .loop in (omega arith, sym (reserved-more s (l .i) (omega arith) (sym (c .before .opens-class .ensures) ∙ c .if1 .left)) ∙ l .inv .1)
+loop-again c =
+    let start = c .before .before .before .before .before in
+    let at-loop = c .before .before .before in
+    let s = now (start .args .inside) in
+    let l = at-loop .loop in
+    (omega arith, sym (reserved-more s (l .i) (omega arith) (sym (c .before .opens-class .ensures) ∙ c .if1 .left)) ∙ l .inv .1)
 
 returns-2 : tie.Need-returns-2 Inv-loop μ-loop
-returns-2 c = let s = now (c .before .before .before .args .inside) in let l = c .before .loop in sym (reserved-end s (l .i) (omega arith)) ∙ l .inv .1
+returns-2 c =
+    let start = c .before .before .before in
+    let s = now (start .args .inside) in
+    let l = c .before .loop in
+    sym (reserved-end s (l .i) (omega arith)) ∙ l .inv .1
 
 pub is-reserved-spec : {M : Type 1} → statement M
 is-reserved-spec = tie.close (tie.spec Inv-loop μ-loop loop-holds opens-class-requires returns add-i loop-less loop-again returns-2)

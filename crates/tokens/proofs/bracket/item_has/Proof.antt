@@ -16,7 +16,9 @@ upto-requires : tie.Need-upto-requires
 upto-requires c κs = search needs
 
 returns-2 : tie.Need-returns-2
-returns-2 c = rw (le-leb _ _ (c .before .if1 .left)) (ap (leb (c .before .before .before .before .args .b)) (c .upto .ensures))
+returns-2 c =
+    let start = c .before .before .before .before in
+    rw (le-leb _ _ (c .before .if1 .left)) (ap (leb (start .args .b)) (c .upto .ensures))
 
 pub item-has-spec : {M : Type 1} → statement M
 item-has-spec = tie.close (tie.spec shared-slice-read-if1 returns upto-requires returns-2)

@@ -16,13 +16,17 @@ add-result : tie.Need-add-result
 add-result c = search needs
 
 returns : tie.Need-returns
-returns c = opened-except (now (c .before .before .before .args .text)) (c .before .before .before .args .at) (sym (c .before .peek .ensures) ∙ c .if1 .taken)
+returns c =
+    let start = c .before .before .before in
+    opened-except (now (start .args .text)) (start .args .at) (sym (c .before .peek .ensures) ∙ c .if1 .taken)
 
 add-result-2 : tie.Need-add-result-2
 add-result-2 c = search needs
 
 returns-2 : tie.Need-returns-2
-returns-2 c = opened-only (now (c .before .before .before .args .text)) (c .before .before .before .args .at) (λ z. c .if1 .left (c .before .peek .ensures ∙ z))
+returns-2 c =
+    let start = c .before .before .before in
+    opened-only (now (start .args .text)) (start .args .at) (λ z. c .if1 .left (c .before .peek .ensures ∙ z))
 
 pub opening-spec : {M : Type 1} → statement M
 opening-spec = tie.close (tie.spec add-peek peek-requires add-result returns add-result-2 returns-2)

@@ -12,7 +12,9 @@ shared-slice-read-if1 : tie.Need-shared-slice-read-if1
 shared-slice-read-if1 c = search needs
 
 returns : tie.Need-returns
-returns c = opens-not (now (c .before .before .before .args .inside)) (c .before .before .before .args .i) (c .before .before .before .pre) (c .if1 .taken)
+returns c =
+    let start = c .before .before .before in
+    opens-not (now (start .args .inside)) (start .args .i) (start .pre) (c .if1 .taken)
 
 slice-aggregate-one-of : tie.Need-slice-aggregate-one-of
 slice-aggregate-one-of c = search needs
@@ -27,7 +29,11 @@ one-of-requires : tie.Need-one-of-requires
 one-of-requires c κs = search needs
 
 returns-2 : tie.Need-returns-2
-returns-2 c = c .one-of .ensures ∙ ap (one-of (bytes ".=:")) (c .before .peek .ensures) ∙ opens-by (now (c .before .before .before .before .before .before .args .inside)) (c .before .before .before .before .before .before .args .i) (c .before .before .before .before .before .before .pre) (c .before .before .before .if1 .left)
+returns-2 c =
+    let start = c .before .before .before .before .before .before in
+    let else1 = c .before .before .before in
+    c .one-of .ensures ∙ ap (one-of (bytes ".=:")) (c .before .peek .ensures) ∙ opens-by (now (start .args .inside)) (start .args .i)
+    (start .pre) (else1 .if1 .left)
 
 pub opens-class-spec : {M : Type 1} → statement M
 opens-class-spec =

@@ -16,13 +16,18 @@ peek-requires : tie.Need-peek-requires
 peek-requires c κs = search needs
 
 returns : tie.Need-returns
-returns c = c .peek .ensures ∙ upto-range (now (c .before .before .before .before .args .inside)) (c .before .before .before .before .args .i) (sym (c .before .before .is-range .ensures) ∙ c .before .if1 .taken)
+returns c =
+    let start = c .before .before .before .before in
+    c .peek .ensures ∙ upto-range (now (start .args .inside)) (start .args .i)
+    (sym (c .before .before .is-range .ensures) ∙ c .before .if1 .taken)
 
 shared-slice-read-result : tie.Need-shared-slice-read-result
 shared-slice-read-result c = search needs
 
 returns-2 : tie.Need-returns-2
-returns-2 c = upto-single (now (c .before .before .before .before .args .inside)) (c .before .before .before .before .args .i) (sym (c .before .before .is-range .ensures) ∙ c .before .if1 .left)
+returns-2 c =
+    let start = c .before .before .before .before in
+    upto-single (now (start .args .inside)) (start .args .i) (sym (c .before .before .is-range .ensures) ∙ c .before .if1 .left)
 
 pub upto-spec : {M : Type 1} → statement M
 upto-spec = tie.close (tie.spec is-range-requires add-peek peek-requires returns shared-slice-read-result returns-2)

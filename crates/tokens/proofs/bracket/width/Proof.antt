@@ -10,10 +10,14 @@ is-range-requires : tie.Need-is-range-requires
 is-range-requires c κs = search needs
 
 returns : tie.Need-returns
-returns c = width-range (now (c .before .before .before .args .inside)) (c .before .before .before .args .i) (sym (c .before .is-range .ensures) ∙ c .if1 .taken)
+returns c =
+    let start = c .before .before .before in
+    width-range (now (start .args .inside)) (start .args .i) (sym (c .before .is-range .ensures) ∙ c .if1 .taken)
 
 returns-2 : tie.Need-returns-2
-returns-2 c = width-single (now (c .before .before .before .args .inside)) (c .before .before .before .args .i) (sym (c .before .is-range .ensures) ∙ c .if1 .left)
+returns-2 c =
+    let start = c .before .before .before in
+    width-single (now (start .args .inside)) (start .args .i) (sym (c .before .is-range .ensures) ∙ c .if1 .left)
 
 pub width-spec : {M : Type 1} → statement M
 width-spec = tie.close (tie.spec is-range-requires returns returns-2)

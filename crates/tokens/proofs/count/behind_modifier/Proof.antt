@@ -3,7 +3,7 @@ use borrow.Author.Needs.{needs}
 use native.Mathlib.Omega.{arith}
 use denote.Ref.{now}
 use mathlib.Core.Path.{sym, _∙_}
-use Rattle.tokens.specs.Counts.{modified-is, modified-not}
+use Rattle.tokens.specs.Signs.{modified-is, modified-not}
 use Rattle.tokens.specs.Place.{byte-is}
 use Rattle.tokens.proofs.count.behind_modifier.Statement.{statement}
 use Rattle.tokens.proofs.count.behind_modifier.Tie as tie
@@ -13,21 +13,24 @@ peek-requires c κs = search needs
 
 add-result : tie.Need-add-result
 add-result c =
-    let text = now (c .before .before .before .args .text) in
-    let at = c .before .before .before .args .at in
+    let start = c .before .before .before in
+    let text = now (start .args .text) in
+    let at = start .args .at in
     let l = byte-is text at 62 (sym (c .before .peek .ensures) ∙ c .if1 .taken) in
     omega arith
 
 returns : tie.Need-returns
 returns c =
-    let text = now (c .before .before .before .args .text) in
-    let at = c .before .before .before .args .at in
+    let start = c .before .before .before in
+    let text = now (start .args .text) in
+    let at = start .args .at in
     modified-is text at (sym (c .before .peek .ensures) ∙ c .if1 .taken)
 
 returns-2 : tie.Need-returns-2
 returns-2 c =
-    let text = now (c .before .before .before .args .text) in
-    let at = c .before .before .before .args .at in
+    let start = c .before .before .before in
+    let text = now (start .args .text) in
+    let at = start .args .at in
     modified-not text at (λ z. c .if1 .left (c .before .peek .ensures ∙ z))
 
 pub behind-modifier-spec : {M : Type 1} → statement M

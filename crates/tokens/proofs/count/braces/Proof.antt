@@ -2,7 +2,7 @@
 use borrow.Author.Needs.{needs}
 use denote.Ref.{now}
 use mathlib.Core.Path.{_∙_}
-use Rattle.tokens.specs.Counts.{braces-unclosed, braces-closed}
+use Rattle.tokens.specs.Signs.{braces-unclosed, braces-closed}
 use Rattle.tokens.proofs.count.braces.Statement.{statement}
 use Rattle.tokens.proofs.count.braces.Tie as tie
 
@@ -14,9 +14,10 @@ find-requires c κs = search needs
 
 returns : tie.Need-returns
 returns c =
-    let text = now (c .before .before .before .args .text) in
-    let at = c .before .before .before .args .at in
-    braces-unclosed text at (c .before .find .result) (c .before .find .ensures) (c .before .before .before .pre) (c .if1 .taken)
+    let start = c .before .before .before in
+    let text = now (start .args .text) in
+    let at = start .args .at in
+    braces-unclosed text at (c .before .find .result) (c .before .find .ensures) (start .pre) (c .if1 .taken)
 
 sub-counts : tie.Need-sub-counts
 sub-counts c = search needs
@@ -35,9 +36,12 @@ counts-requires c κs = search needs
 
 returns-2 : tie.Need-returns-2
 returns-2 c =
-    let text = now (c .before .before .before .before .before .args .text) in
-    let at = c .before .before .before .before .before .args .at in
-    c .counts .ensures ∙ braces-closed text at (c .before .before .before .find .result) (c .before .before .before .find .ensures) (c .before .before .before .before .before .pre) (c .before .before .if1 .left)
+    let start = c .before .before .before .before .before in
+    let after-find = c .before .before .before in
+    let text = now (start .args .text) in
+    let at = start .args .at in
+    c .counts .ensures ∙ braces-closed text at (after-find .find .result) (after-find .find .ensures) (start .pre)
+    (c .before .before .if1 .left)
 
 pub braces-spec : {M : Type 1} → statement M
 braces-spec =

@@ -21,16 +21,21 @@ range-requires c κs = search needs
 
 returns : tie.Need-returns
 returns c =
-    let s = now (c .before .before .before .before .before .args .inside) in
-    let k = c .before .before .before .find .result in
-    let q = c .before .before .before .find .ensures in
-    c .range .ensures ∙ counts-one s (c .before .before .before .before .before .args .end) k q (c .before .number .result) (c .before .before .if1 .taken) (c .before .number .ensures)
+    let start = c .before .before .before .before .before in
+    let after-find = c .before .before .before in
+    let s = now (start .args .inside) in
+    let k = after-find .find .result in
+    let q = after-find .find .ensures in
+    c .range .ensures ∙ counts-one s (start .args .end) k q (c .before .number .result) (c .before .before .if1 .taken)
+    (c .before .number .ensures)
 
 slice-aggregate-number : tie.Need-slice-aggregate-number
 slice-aggregate-number c =
-    let s = now (c .before .before .before .before .args .inside) in
-    let k = c .before .before .find .result in
-    let q = c .before .before .find .ensures in
+    let start = c .before .before .before .before in
+    let after-find = c .before .before in
+    let s = now (start .args .inside) in
+    let k = after-find .find .result in
+    let q = after-find .find .ensures in
     sym (length-take-le k s (omega arith))
 
 number-requires-2 : tie.Need-number-requires-2
@@ -56,24 +61,40 @@ range-requires-2 c κs = search needs
 
 returns-2 : tie.Need-returns-2
 returns-2 c =
-    let s = now (c .before .before .before .before .before .before .before .before .before .args .inside) in
-    let k = c .before .before .before .before .before .before .before .find .result in
-    let q = c .before .before .before .before .before .before .before .find .ensures in
-    c .range2 .ensures ∙ counts-two s (c .before .before .before .before .before .before .before .before .before .args .end) k q (c .before .before .before .before .before .before .if1 .left) (c .before .before .before .before .number2 .result) (c .before .number3 .result) (c .before .before .before .before .number2 .ensures) (rw (part-rest s (k + 1)) at (c .before .number3 .ensures)) (rw (part-rest s (k + 1)) at (c .before .before .if2 .taken))
+    let start = c .before .before .before .before .before .before .before .before .before in
+    let after-find = c .before .before .before .before .before .before .before in
+    let else1 = c .before .before .before .before .before .before in
+    let after-number2 = c .before .before .before .before in
+    let s = now (start .args .inside) in
+    let k = after-find .find .result in
+    let q = after-find .find .ensures in
+    c .range2 .ensures ∙ counts-two s (start .args .end) k q (else1 .if1 .left) (after-number2 .number2 .result)
+    (c .before .number3 .result) (after-number2 .number2 .ensures) (rw (part-rest s (k + 1)) at (c .before .number3 .ensures))
+    (rw (part-rest s (k + 1)) at (c .before .before .if2 .taken))
 
 returns-3 : tie.Need-returns-3
 returns-3 c =
-    let s = now (c .before .before .before .before .before .before .before .before .args .inside) in
-    let k = c .before .before .before .before .before .before .find .result in
-    let q = c .before .before .before .before .before .before .find .ensures in
-    counts-bad s (c .before .before .before .before .before .before .before .before .args .end) k q (c .before .before .before .before .before .if1 .left) (c .before .before .before .number2 .result) (c .before .before .before .number2 .ensures) (rw (part-rest s (k + 1)) at (c .before .if2 .left)) (c .if3 .taken)
+    let start = c .before .before .before .before .before .before .before .before in
+    let after-find = c .before .before .before .before .before .before in
+    let else1 = c .before .before .before .before .before in
+    let after-number2 = c .before .before .before in
+    let s = now (start .args .inside) in
+    let k = after-find .find .result in
+    let q = after-find .find .ensures in
+    counts-bad s (start .args .end) k q (else1 .if1 .left) (after-number2 .number2 .result) (after-number2 .number2 .ensures)
+    (rw (part-rest s (k + 1)) at (c .before .if2 .left)) (c .if3 .taken)
 
 returns-4 : tie.Need-returns-4
 returns-4 c =
-    let s = now (c .before .before .before .before .before .before .before .before .args .inside) in
-    let k = c .before .before .before .before .before .before .find .result in
-    let q = c .before .before .before .before .before .before .find .ensures in
-    counts-onward s (c .before .before .before .before .before .before .before .before .args .end) k q (c .before .before .before .before .before .if1 .left) (c .before .before .before .number2 .result) (c .before .before .before .number2 .ensures) (rw (part-rest s (k + 1)) at (c .before .if2 .left)) (c .if3 .left)
+    let start = c .before .before .before .before .before .before .before .before in
+    let after-find = c .before .before .before .before .before .before in
+    let else1 = c .before .before .before .before .before in
+    let after-number2 = c .before .before .before in
+    let s = now (start .args .inside) in
+    let k = after-find .find .result in
+    let q = after-find .find .ensures in
+    counts-onward s (start .args .end) k q (else1 .if1 .left) (after-number2 .number2 .result) (after-number2 .number2 .ensures)
+    (rw (part-rest s (k + 1)) at (c .before .if2 .left)) (c .if3 .left)
 
 pub counts-spec : {M : Type 1} → statement M
 counts-spec =

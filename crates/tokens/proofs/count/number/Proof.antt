@@ -3,7 +3,17 @@ use native.Mathlib.Omega.{arith}
 use denote.Ref.{now}
 use Prim.Native.Nat.{_-_}
 use lib.ListN.{length}
-use Rattle.tokens.specs.Counts.{Digits, digits-none, digits-more, number-empty, number-long, number-low, number-high, number-much, number-is}
+use Rattle.tokens.specs.Counts.{
+  Digits,
+  digits-none,
+  digits-more,
+  number-empty,
+  number-long,
+  number-low,
+  number-high,
+  number-much,
+  number-is,
+}
 use Rattle.tokens.proofs.count.number.Statement.{statement}
 use Rattle.tokens.proofs.count.number.Tie as tie
 
@@ -17,19 +27,32 @@ returns : tie.Need-returns Inv-loop μ-loop
 returns c = number-empty (now (c .before .before .args .digits)) (c .if1 .taken)
 
 returns-2 : tie.Need-returns-2 Inv-loop μ-loop
-returns-2 c = number-long (now (c .before .before .before .args .digits)) (c .if2 .taken)
+returns-2 c =
+    let start = c .before .before .before in
+    number-long (now (start .args .digits)) (c .if2 .taken)
 
 loop-holds : tie.Need-loop-holds Inv-loop μ-loop
-loop-holds c = digits-none (now (c .before .before .before .args .digits))
+loop-holds c =
+    let start = c .before .before .before in
+    digits-none (now (start .args .digits))
 
 shared-slice-read-b : tie.Need-shared-slice-read-b Inv-loop μ-loop
 shared-slice-read-b c = omega arith
 
 returns-3 : tie.Need-returns-3 Inv-loop μ-loop
-returns-3 c = let l = c .before .before .before .loop in number-low (now (c .before .before .before .before .before .before .before .args .digits)) (l .i) (l .n) (l .inv) (c .before .before .loop-test .taken) (c .if3 .taken)
+returns-3 c =
+    let start = c .before .before .before .before .before .before .before in
+    let at-loop = c .before .before .before in
+    let l = at-loop .loop in
+    number-low (now (start .args .digits)) (l .i) (l .n) (l .inv) (c .before .before .loop-test .taken) (c .if3 .taken)
 
 returns-4 : tie.Need-returns-4 Inv-loop μ-loop
-returns-4 c = let l = c .before .before .before .before .loop in number-high (now (c .before .before .before .before .before .before .before .before .args .digits)) (l .i) (l .n) (l .inv) (c .before .before .before .loop-test .taken) (c .if4 .taken)
+returns-4 c =
+    let start = c .before .before .before .before .before .before .before .before in
+    let at-loop = c .before .before .before .before in
+    let in-loop = c .before .before .before in
+    let l = at-loop .loop in
+    number-high (now (start .args .digits)) (l .i) (l .n) (l .inv) (in-loop .loop-test .taken) (c .if4 .taken)
 
 mul-n : tie.Need-mul-n Inv-loop μ-loop
 mul-n c = omega arith
@@ -41,7 +64,13 @@ add-n : tie.Need-add-n Inv-loop μ-loop
 add-n c = omega arith
 
 returns-5 : tie.Need-returns-5 Inv-loop μ-loop
-returns-5 c = let l = c .before .before .before .before .before .before .loop in let w = c .before .wide .ensures in number-much (now (c .before .before .before .before .before .before .before .before .before .before .args .digits)) (l .i) (l .n) (l .inv) (c .before .before .before .before .before .loop-test .taken) (omega arith)
+returns-5 c =
+    let start = c .before .before .before .before .before .before .before .before .before .before in
+    let at-loop = c .before .before .before .before .before .before in
+    let in-loop = c .before .before .before .before .before in
+    let l = at-loop .loop in
+    let w = c .before .wide .ensures in
+    number-much (now (start .args .digits)) (l .i) (l .n) (l .inv) (in-loop .loop-test .taken) (omega arith)
 
 add-i : tie.Need-add-i Inv-loop μ-loop
 add-i c = omega arith
@@ -50,10 +79,22 @@ loop-less : tie.Need-loop-less Inv-loop μ-loop
 loop-less c = omega arith
 
 loop-again : tie.Need-loop-again Inv-loop μ-loop
-loop-again c = let l = c .before .before .before .before .before .before .loop in let w = c .before .wide .ensures in rw w (digits-more (now (c .before .before .before .before .before .before .before .before .before .before .args .digits)) (l .i) (l .n) (l .inv) (c .before .before .before .before .before .loop-test .taken) (c .before .before .before .if3 .left) (c .before .before .if4 .left) (omega arith))
+loop-again c =
+    let start = c .before .before .before .before .before .before .before .before .before .before in
+    let at-loop = c .before .before .before .before .before .before in
+    let in-loop = c .before .before .before .before .before in
+    let else3 = c .before .before .before in
+    let l = at-loop .loop in
+    let w = c .before .wide .ensures in
+    rw w (digits-more (now (start .args .digits)) (l .i) (l .n) (l .inv) (in-loop .loop-test .taken) (else3 .if3 .left)
+    (c .before .before .if4 .left) (omega arith))
 
 returns-6 : tie.Need-returns-6 Inv-loop μ-loop
-returns-6 c = let l = c .before .loop in number-is (now (c .before .before .before .before .before .args .digits)) (l .i) (l .n) (l .inv) (c .loop-test .left) (c .before .before .before .if1 .left) (c .before .before .if2 .left)
+returns-6 c =
+    let start = c .before .before .before .before .before in
+    let else1 = c .before .before .before in
+    let l = c .before .loop in
+    number-is (now (start .args .digits)) (l .i) (l .n) (l .inv) (c .loop-test .left) (else1 .if1 .left) (c .before .before .if2 .left)
 
 pub number-spec : {M : Type 1} → statement M
 number-spec =

@@ -4,7 +4,7 @@ use denote.Ref.{now}
 use mathlib.Core.Path.{sym, ap, _∙_}
 use Rattle.expression.specs.Tree.{between, onward}
 use Rattle.tokens.specs.Answers.{times}
-use Rattle.tokens.specs.Counts.{repetition-refused, repetition-is}
+use Rattle.tokens.specs.Signs.{repetition-refused, repetition-is}
 use Rattle.tokens.proofs.count.repetition.Statement.{statement}
 use Rattle.tokens.proofs.count.repetition.Tie as tie
 
@@ -28,23 +28,31 @@ behind-modifier-requires-2 c κs = search needs
 
 returns : tie.Need-returns
 returns c =
-    let text = now (c .before .before .before .before .before .args .text) in
-    let at = c .before .before .before .before .before .args .at in
-    repetition-refused text at _ (sym (c .before .x .given .1) ∙ c .before .before .before .sign .ensures)
+    let start = c .before .before .before .before .before in
+    let after-sign = c .before .before .before in
+    let text = now (start .args .text) in
+    let at = start .args .at in
+    repetition-refused text at _ (sym (c .before .x .given .1) ∙ after-sign .sign .ensures)
 
 returns-2 : tie.Need-returns-2
 returns-2 c =
-    let text = now (c .before .before .before .before .before .before .args .text) in
-    let at = c .before .before .before .before .before .before .args .at in
+    let start = c .before .before .before .before .before .before in
+    let after-sign = c .before .before .before .before in
+    let text = now (start .args .text) in
+    let at = start .args .at in
     let g = c .before .before .n .given in
-    ap (times (between (g .0 .0) (g .0 .1 .0))) (c .behind-modifier .ensures) ∙ repetition-is text at (between (g .0 .0) (g .0 .1 .0)) (g .0 .1 .1 .0) (sym (g .1) ∙ c .before .before .before .before .sign .ensures)
+    ap (times (between (g .0 .0) (g .0 .1 .0))) (c .behind-modifier .ensures) ∙ repetition-is text at (between (g .0 .0) (g .0 .1 .0))
+    (g .0 .1 .1 .0) (sym (g .1) ∙ after-sign .sign .ensures)
 
 returns-3 : tie.Need-returns-3
 returns-3 c =
-    let text = now (c .before .before .before .before .before .before .args .text) in
-    let at = c .before .before .before .before .before .before .args .at in
+    let start = c .before .before .before .before .before .before in
+    let after-sign = c .before .before .before .before in
+    let text = now (start .args .text) in
+    let at = start .args .at in
     let g = c .before .before .n2 .given in
-    ap (times (onward (g .0 .0))) (c .behind-modifier2 .ensures) ∙ repetition-is text at (onward (g .0 .0)) (g .0 .1 .0) (sym (g .1) ∙ c .before .before .before .before .sign .ensures)
+    ap (times (onward (g .0 .0))) (c .behind-modifier2 .ensures) ∙ repetition-is text at (onward (g .0 .0)) (g .0 .1 .0)
+    (sym (g .1) ∙ after-sign .sign .ensures)
 
 pub repetition-spec : {M : Type 1} → statement M
 repetition-spec =

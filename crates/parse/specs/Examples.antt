@@ -1,0 +1,29 @@
+-- Texts checked by computation: letters up to 128, and each refusal. Assumes nothing.
+use mathlib.Core.Path.{_≡_, refl}
+use mathlib.Core.List.{List, [], _∷_, map}
+use Prim.Native.String.{String}
+use Rattle.refusal.specs.declared.Refusal.the-variants.{MisplacedSign, Depth, Count, Bracket, Foreign}
+use Rattle.expression.specs.Bytes.{bytes}
+use Rattle.expression.specs.Letters.{labelsOf, lettersOf}
+use Rattle.expression.specs.Text.{then, first-of, split, enclosed, provided}
+use Rattle.expression.specs.Sets.{closed, reserved, items, members, inside, bracket, escaped, a-set, labelled-set}
+use Rattle.expression.specs.Repetition.{number, from-on, from-to, comma, counts, sign, repetition}
+use Rattle.expression.specs.Read.{grouped, step, go, read, whole, expressionOf}
+use Rattle.parse.specs.declared.Checked.{Checked}
+use Rattle.parse.specs.declared.Checked.the-variants.{Letters, Refused}
+use Rattle.parse.specs.Checked.{checked}
+
+-- over `ab`
+answers : List String → List Checked
+answers texts = map (λ t. checked (bytes "ab") (bytes t)) texts
+
+tried :
+    (answers ("ab*" ∷ "a{127}" ∷ "a{128}" ∷ "(a{255}){255}" ∷ "a*?" ∷ "[^a]{2,}" ∷ [])
+    ≡ Letters 2 ∷ Letters 127 ∷ Letters 128 ∷ Letters 128 ∷ Letters 1 ∷ Letters 2 ∷ [])
+    -- 4, at a repetition after another, a stray `)` and an empty branch; 5, at the 17th group; 6; 7; 8
+    × (answers ("a**" ∷ "a)" ∷ "a|" ∷ []) ≡ Refused MisplacedSign ∷ Refused MisplacedSign ∷ Refused MisplacedSign ∷ [])
+    × (answers ("((((((((((((((((a))))))))))))))))" ∷ "(((((((((((((((((a)))))))))))))))))" ∷ []) ≡ Letters 1 ∷ Refused Depth ∷ [])
+    × (answers ("a{0}" ∷ "a{1,256}" ∷ "[b-a]" ∷ "[c]" ∷ "c" ∷ [])
+    ≡ Refused Count ∷ Refused Count ∷ Refused Bracket ∷ Refused Foreign ∷ Refused Foreign ∷ [])
+unfolding answers map checked expressionOf whole read go step grouped repetition sign counts comma from-to from-on number labelled-set a-set escaped bracket inside members items reserved closed provided enclosed split first-of then lettersOf labelsOf
+tried = (refl, refl, refl, refl)
