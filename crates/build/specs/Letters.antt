@@ -59,7 +59,7 @@ module _ (A : List ℕ) (c : Set) where
 unfoldable pub Ranged : ℕ → ℕ → List Bool → Type 0
 Ranged n m r = (i : ℕ) → member r i ≡ alone (suc n) (suc m) .first (suc i)
 
-none-marked : (k i : ℕ) → getD (replicate k false) i false ≡ false
+pub none-marked : (k i : ℕ) → getD (replicate k false) i false ≡ false
 none-marked zero i = refl
 none-marked (suc k) zero = refl
 none-marked (suc k) (suc i) = none-marked k i

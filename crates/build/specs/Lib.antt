@@ -6,3 +6,4 @@ pub mod Tokens
 pub mod Places
 pub mod Made
 pub mod Turns
+pub mod Whole

@@ -268,9 +268,10 @@ module _ (A text : List ℕ) where
   group-enclosed (suc d) at h k =
       let z : suc d - 1 ≡ d = omega arith in
       let e =
-          by-open (suc d) at true (eq-eqb (getD text at 0) (code "(") k)
-          ∙ ap (λ s. then (read A m-alternation d s) (λ t s. closing (next ")" s) t s)) (rest-at text at) in
+      by-open (suc d) at true (eq-eqb (getD text at 0) (code "(") k)
+      ∙ ap (λ s. then (read A m-alternation d s) (λ t s. closing (next ")" s) t s)) (rest-at text at) in
       let y = read A m-alternation d (drop (at + 1) text) in
-      let f = then-first (λ t s. closing (next ")" s) t s) y (ap is-found (sym e) ∙ h) in
-      (omega arith,
-      rw z (closed-by d (at + 1) (endAt A text m-alternation d (at + 1)) (read A m-group (suc d) (drop at text)) refl f (e ∙ then-is (λ t s. closing (next ")" s) t s) (set (only [])) y f) h))
+      let f = then-first (λ t s. closing (next ")" s) t s) y (ap is-found (sym e) ∙ h) in (
+        omega arith,
+        rw z (closed-by d (at + 1) (endAt A text m-alternation d (at + 1)) (read A m-group (suc d) (drop at text)) refl f (e ∙ then-is (λ t s. closing (next ")" s) t s) (set (only [])) y f) h),
+      )

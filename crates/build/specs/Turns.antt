@@ -77,8 +77,8 @@ module _ (A text : List ℕ) where
             → many (read A m-branch d (drop at text)) ≤ many (read A m-alternation d (drop at text))
         by (inl k) =
             let l =
-                either-letters (read A m-branch d (drop at text)) (read A m-alternation d (drop (endAt A text m-branch d at + 1) text))
-                (read A m-alternation d (drop at text)) (alternation-more A text d at p (endAt A text m-branch d at) refl k) in
+            either-letters (read A m-branch d (drop at text)) (read A m-alternation d (drop (endAt A text m-branch d at + 1) text))
+            (read A m-alternation d (drop at text)) (alternation-more A text d at p (endAt A text m-branch d at) refl k) in
             omega arith
         by (inr k) = let l = ap many (alternation-alone A text d at p (endAt A text m-branch d at) refl k) in omega arith
 
@@ -132,8 +132,8 @@ module _ (A text : List ℕ) where
         by (inl k) = let l = ap many (branch-last A text d at p (endAt A text m-piece d at) refl k) in omega arith
         by (inr k) =
             let l =
-                join-letters (read A m-piece d (drop at text)) (read A m-branch d (drop (endAt A text m-piece d at) text))
-                (read A m-branch d (drop at text)) (branch-more A text d at p (endAt A text m-piece d at) refl k) in
+            join-letters (read A m-piece d (drop at text)) (read A m-branch d (drop (endAt A text m-piece d at) text))
+            (read A m-branch d (drop at text)) (branch-more A text d at p (endAt A text m-piece d at) refl k) in
             omega arith
 
     pub first-copy : 0 < copiesOf (countAt A text d at)

@@ -1,8 +1,8 @@
 // Builds the position automaton of an expression's text as arrays (document 01, "Opening and the compiled form"): the labels of the
 // letters, the follow relation as one row a letter, and which letters may be first and last. The letter of number i stands at index i - 1.
 // Alternation, branch, piece and group call each other over a text that reads. A repeated piece is gone through once for each copy.
-pub mod parts; // parts.rt: parts put together
-pub mod token; // token.rt: a set or a repetition at a place
+mod parts; // parts.rt: parts put together
+mod token; // token.rt: a set or a repetition at a place
 
 use parse::is_end;
 use parts::again;
@@ -12,12 +12,12 @@ use parts::perhaps;
 use token::copies_at;
 use token::set;
 use tokens::peek;
-ghost use mathlib.Core.Path.{_≡_};
 ghost use Prim.Native.Nat.{_<_};
 ghost use Rattle.expression.specs.Letters.{copiesOf};
 ghost use Rattle.expression.specs.Read.{m-alternation, m-branch, m-piece, m-group};
 ghost use Rattle.build.specs.Places.{PartAt, openedAt, endAt, countAt, leftAt};
 ghost use Rattle.build.specs.Shown.{Room, Builds};
+ghost use Rattle.build.specs.Whole.{Buildable, BuildsWhole};
 
 // A part that was built: where it ends in the text; how many letters there are up to its end; whether it has the empty word; and which
 // letters may be first in it, and last.
@@ -106,7 +106,16 @@ fn piece(
         again(a, c.onward, follow);
         return perhaps(a, spare, c.end);
     }
-    let b = piece(alphabet, text, at, room, copies + 1, a.letters, labels, follow);
+    let b = piece(
+        alphabet,
+        text,
+        at,
+        room,
+        copies + 1,
+        a.letters,
+        labels,
+        follow,
+    );
     let j = joint(a, b, follow);
     perhaps(j, spare, c.end)
 }
@@ -131,4 +140,12 @@ fn group(
     let a = alternation(alphabet, text, at + 1, room - 1, letters, labels, follow);
     let e = a.end;
     perhaps(a, false, e + 1)
+}
+
+// The whole text, with at most 16 groups open together.
+pub fn build(alphabet: &[u8], text: &[u8], labels: &mut [u8], follow: &mut [[bool; 127]]) -> Built
+    requires { ⌜ Buildable (now alphabet) (now text) (now labels) (now follow) ⌝ }
+    ensures { λ r. ⌜ BuildsWhole (now (alphabet .entry)) (now (text .entry)) (now (labels .entry)) (now (labels .exit)) (now (follow .exit)) r ⌝ }
+{
+    alternation(alphabet, text, 0, 16, 0, labels, follow)
 }

@@ -35,11 +35,26 @@ pub fn copies_at(text: &[u8], at: usize) -> Copies
     requires { ⌜ (at ≤ length (now text)) × (is-found (counted (drop at (now text))) ≡ true) ⌝ }
     ensures { λ r. ⌜ r ≡ copiesBy (now (text .entry)) (counted (drop at (now (text .entry)))) ⌝ }
 {
-    let one = Copies { least: 1, most: 1, onward: false, end: at };
+    let one = Copies {
+        least: 1,
+        most: 1,
+        onward: false,
+        end: at,
+    };
     if is_repeated(text, at) {
         match repetition(text, at) {
-            Repeats::Between(n, m, e) => Copies { least: n, most: m, onward: false, end: e },
-            Repeats::Onward(n, e) => Copies { least: n, most: copies(n), onward: true, end: e },
+            Repeats::Between(n, m, e) => Copies {
+                least: n,
+                most: m,
+                onward: false,
+                end: e,
+            },
+            Repeats::Onward(n, e) => Copies {
+                least: n,
+                most: copies(n),
+                onward: true,
+                end: e,
+            },
             Repeats::Refused(_) => one,
         }
     } else {
@@ -93,7 +108,12 @@ fn write_labels(alphabet: &[u8], text: &[u8], at: usize, labels: &mut [u8], n: u
     let mut m = n;
     let mut label: usize = 1;
     while label <= alphabet.len() {
-        m = put_label(labels, m, narrow(label), member(text, at, alphabet[label - 1]));
+        m = put_label(
+            labels,
+            m,
+            narrow(label),
+            member(text, at, alphabet[label - 1]),
+        );
         label += 1;
     }
     m

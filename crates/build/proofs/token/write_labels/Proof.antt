@@ -54,7 +54,7 @@ put-label-requires c κs =
     let l = c .before .before .before .before .before .loop in
     let x = l .label in
     let q = filling-room (take (a .n) f ++ labelsIn A s) f (keeping (passes A s x) x []) (l .labels) (labelsFrom A s (x + 1)) (l .m)
-            (rw (labels-here A s x (omega arith)) at (l .inv .2)) in
+    (rw (labels-here A s x (omega arith)) at (l .inv .2)) in
     rw (c .member .ensures, c .before .before .narrow .ensures) q
 
 add-label : tie.Need-add-label Inv-loop μ-loop
