@@ -5,8 +5,8 @@ use mathlib.Core.Path.{_≡_, refl, sym, ap, _∙_, subst}
 use mathlib.Core.List.{List, [], _∷_, _++_, append-assoc, append-nil}
 use native.Mathlib.Numerals.{add-one}
 use native.Mathlib.Omega.{arith}
-use lib.ListN.{length, getD, take, drop, set, length-append, length-drop, take-append-drop}
-use lib.Seq.{drop-cons, take-suc, set-at, sets, length-take-le, take-length, take-at, drop-at}
+use lib.ListN.{length, getD, take, drop, set, length-append, length-drop, take-append-drop, List·getD-append}
+use lib.Seq.{drop-cons, take-suc, set-at, sets, sets-eq, length-sets, length-take-le, take-length, take-at, drop-at, getD-append-add}
 
 module _ {A : Type 0} where
   -- the list in front, and behind it the memory as it was
@@ -40,6 +40,38 @@ module _ {A : Type 0} where
   pub record Stored (c : List A) (n : ℕ) (before after : List A) (answer : ℕ) : Type 0 where
     pub next : answer ≡ n + length c
     pub memory : after ≡ sets before n c
+
+  pub stored-size : {c before after : List A} {n answer : ℕ} → Stored c n before after answer → length after ≡ length before
+  stored-size {c} {before} {after} {n} s = ap length (s .memory) ∙ length-sets before n c
+
+  -- one list behind another
+  sets-append : (c d m : List A) (n : ℕ) → sets (sets m n c) (n + length c) d ≡ sets m n (c ++ d)
+  sets-append [] d m n = ap (λ k. sets m k d) (omega arith)
+  sets-append (x ∷ c) d m n = ap (λ k. sets (sets (set m n x) (suc n) c) k d) (omega arith) ∙ sets-append c d (set m n x) (suc n)
+
+  pub stored-then :
+      {c d before middle after : List A} {n next answer : ℕ} → Stored c n before middle next → Stored d next middle after answer
+      → Stored (c ++ d) n before after answer
+  stored-then {c} {d} {before} {middle} {after} {n} {next} {answer} s t =
+      let size = length-append c d in
+      let e = s .next in
+      let f = t .next in
+      record {
+        next = omega arith;
+        memory = t .memory ∙ ap (λ k. sets middle k d) e ∙ ap (λ m. sets m (n + length c) d) (s .memory) ∙ sets-append c d before n;
+      }
+
+  -- what was stored stands there
+  pub stored-at :
+      {c before after : List A} {n answer : ℕ} (d : A) (i : ℕ) → Stored c n before after answer → n + length c ≤ length before → i < length c
+      → getD after (n + i) d ≡ getD c i d
+  stored-at {c} {before} {after} {n} d i s room inside =
+      let front = take n before in
+      let size : length front ≡ n = length-take-le n before (omega arith) in
+      ap (λ m. getD m (n + i) d) (s .memory ∙ sets-eq c before n room ∙ append-assoc front c (drop (n + length c) before))
+      ∙ ap (λ k. getD (front ++ (c ++ drop (n + length c) before)) (k + i) d) (sym size)
+      ∙ getD-append-add front (c ++ drop (n + length c) before) i d
+      ∙ List·getD-append c (drop (n + length c) before) d i inside
 
   -- In a loop that writes `whole` from the front of `memory`: n elements are written, and `todo` is still to come.
   pub record Filling (whole memory : List A) (present todo : List A) (n : ℕ) : Type 0 where

@@ -1,0 +1,9 @@
+pub mod Found
+pub mod Copies
+pub mod Shown
+pub mod Letters
+pub mod Tokens
+pub mod Places
+pub mod Made
+pub mod Turns
+pub mod Whole
