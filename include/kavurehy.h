@@ -1,0 +1,56 @@
+/* The calls of libkavurehy.a, for C. Each is proved in Rattle to do what is said here, for every input: crates/kavurehy/src/lib.rt has
+   the promises, and document 01 the words that are used below.
+
+   A list is passed as a pointer to its first element and its number of elements. The pointer is never null, also where the number is 0,
+   and points to so many readable elements; lent memory (pointers that are not const, and the counts) is writable and overlaps no other
+   list of the call. A call keeps no pointer.
+
+   Each call returns 0, or the number of the refusal that applies:
+     11 bad form       the list is no valid form
+     12 matrix         more than 255 columns, a width other than K + 1, or a list of another length than columns * width
+     13 cost           one over 1,000,000
+     14 output memory  decode: path or word memory below the number of columns; collapse: below the path; spread: below the need;
+                       costs: below the number of confidences
+     15 work           fewer than (columns + 1) * (2 * L + 1) words
+     16 no reading     no path of so many labels collapses to a word that the form accepts
+     17 label          K not 1 to 95, a label over K, 0 in a word, or a list over 255
+   Where several apply it is the lowest. At a refusal each count is 0 and all lent memory is as it was, but for the needed work words
+   after 16. On success the memory behind what is counted is as it was too. */
+#ifndef KAVUREHY_H
+#define KAVUREHY_H
+
+#include <stddef.h>
+#include <stdint.h>
+
+#ifdef __cplusplus
+extern "C" {
+#endif
+
+/* accepted[0] is 1 if the form accepts the word of labels 1 to K, and 0 if it does not. Refusals: 11, 17. */
+uint32_t kavurehy_judge(const uint32_t *form, size_t form_length, const uint8_t *word, size_t word_length, uint32_t accepted[1]);
+
+/* Writes the word that a path of labels 0 to k collapses to: each run of equal neighbours merged into one, then the blanks deleted.
+   counts[0] is the word's length. Refusals: 14 (word memory below the path's length), 17. */
+uint32_t kavurehy_collapse(size_t k, const uint8_t *path, size_t path_length, uint8_t *word, size_t word_memory, uint32_t counts[1]);
+
+/* Writes the shortest path that collapses to a word of labels 1 to k: one blank between each two equal neighbours and nowhere else.
+   counts[0] is the path's length. Refusals: 14 (path memory below that length), 17. */
+uint32_t kavurehy_spread(size_t k, const uint8_t *word, size_t word_length, uint8_t *path, size_t path_memory, uint32_t counts[1]);
+
+/* Reads a matrix, its columns one after another, each with the costs of labels 0 to K. Writes a path of one label for each column, and
+   the word that it collapses to. The form accepts the word. The price, counts[0], is the sum of the path's costs; no other path of so
+   many labels whose collapse the form accepts is cheaper, and each that is as cheap comes later in the order of the labels. counts[1] is
+   the word's length. The needed work words, (columns + 1) * (2 * L + 1) for a form of L letters, hold anything afterwards; the others are
+   as they were. Refusals: 11 to 16. */
+uint32_t kavurehy_decode(const uint32_t *form, size_t form_length, const uint32_t *costs, size_t costs_length, size_t width, size_t columns,
+                         uint8_t *path, size_t path_memory, uint8_t *word, size_t word_memory, uint32_t *work, size_t work_memory,
+                         uint32_t counts[2]);
+
+/* Writes one cost for each confidence: 72 for 0, else the largest whole n with 2^n * c^8 <= 2^64. Refusal: 14. */
+uint32_t kavurehy_costs(const uint8_t *confidences, size_t confidences_length, uint32_t *costs, size_t costs_memory);
+
+#ifdef __cplusplus
+}
+#endif
+
+#endif
