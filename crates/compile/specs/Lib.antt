@@ -2,3 +2,4 @@ pub mod Call
 pub mod Meaning
 pub mod Tests
 pub mod Turns
+pub mod Steps

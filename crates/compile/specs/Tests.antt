@@ -5,12 +5,12 @@ use mathlib.Core.Bool.{Bool, true, false, not, _&&_, and-false}
 use mathlib.Core.List.{List, [], _∷_}
 use lib.ListN.{length}
 use lib.Dec.{leb}
-use borrow.Author.Tests.{le-leb, lt-leb}
+use borrow.Author.Tests.{le-leb, lt-leb, leb-true, not-false}
 use Rattle.lists.specs.Each.{all}
-use Rattle.lists.specs.Order.{and-both}
+use Rattle.lists.specs.Order.{and-both, and-left, and-right}
 use Rattle.refusal.specs.declared.Refusal.the-variants.{Alphabet, TextLength, TextByte}
 use Rattle.refusal.specs.declared.Checked.the-variants.{Passed, Refused}
-use Rattle.refusal.specs.Verdict.{Check, check, first-of, first-holds, first-fails}
+use Rattle.refusal.specs.Verdict.{Check, check, first-of, first-holds, first-fails, first-passed}
 use Rattle.labels.specs.Calls.{between}
 use Rattle.compile.specs.Call.{distinct, is-alphabet, text-checks}
 
@@ -66,3 +66,10 @@ module _ (A s : List ℕ) where
       pub text-passed : all (between 32 126) s ≡ true → first-of (text-checks A s) ≡ Passed
       unfolding first-of
       text-passed e = past-length ∙ first-fails (not (all (between 32 126) s)) TextByte [] (ap not e)
+
+  -- past the checks the alphabet is one
+  pub text-alphabet : Passed ≡ first-of (text-checks A s) → length A ≤ 95
+  text-alphabet e =
+      let a = first-passed (not (is-alphabet A)) Alphabet (check (not (between 1 255 (length s))) TextLength ∷ bytes) (sym e) in
+      let b = and-left (between 1 95 (length A)) (all (between 32 126) A && distinct A) (not-false (is-alphabet A) (a .0)) in
+      leb-true (length A) 95 (and-right (leb 1 (length A)) (leb (length A) 95) b)

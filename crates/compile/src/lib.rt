@@ -1,6 +1,7 @@
 // Compile: from an alphabet and the text of an expression to its form (document 01, "Expression text", "Opening and the compiled form").
 use labels::all_between;
-use refusal::Checked as Checks;
+use refusal::Checked;
+use refusal::Counted;
 use refusal::Refusal;
 ghost use mathlib.Core.Path.{_≡_};
 ghost use Prim.Native.Nat.{ℕ, _+_, _≤_};
@@ -8,7 +9,13 @@ ghost use lib.ListN.{length, drop};
 ghost use lib.Dec.{eqb};
 ghost use Rattle.lists.specs.Among.{any};
 ghost use Rattle.refusal.specs.Verdict.{first-of};
-ghost use Rattle.compile.specs.Call.{distinct, is-alphabet, text-checks};
+ghost use Rattle.refusal.specs.Report.{reported, Fills};
+ghost use Rattle.expression.specs.Read.{expressionOf};
+ghost use Rattle.positions.specs.Numbered.{automatonOf};
+ghost use Rattle.encode.specs.Arrays.{form-call};
+ghost use Rattle.build.specs.Whole.{treeOfText};
+ghost use Rattle.compile.specs.Call.{distinct, is-alphabet, text-checks, read-form, compile-call};
+ghost use Rattle.compile.specs.Steps.{Compilable};
 
 // Does the byte stand in the list, from an index on?
 fn comes_again(list: &[u8], from: usize, b: u8) -> bool
@@ -56,21 +63,70 @@ fn is_alphabet(list: &[u8]) -> bool
 }
 
 // Rows 1, 2 and 3.
-pub fn check_text(alphabet: &[u8], text: &[u8]) -> Checks
+pub fn check_text(alphabet: &[u8], text: &[u8]) -> Checked
     ensures { λ r. ⌜ r ≡ first-of (text-checks (now (alphabet .entry)) (now (text .entry))) ⌝ }
 {
     if !is_alphabet(alphabet) {
-        return Checks::Refused(Refusal::Alphabet);
+        return Checked::Refused(Refusal::Alphabet);
     }
     let n = text.len();
     if n < 1 {
-        return Checks::Refused(Refusal::TextLength);
+        return Checked::Refused(Refusal::TextLength);
     }
     if 255 < n {
-        return Checks::Refused(Refusal::TextLength);
+        return Checked::Refused(Refusal::TextLength);
     }
     if !all_between(32, 126, text) {
-        return Checks::Refused(Refusal::TextByte);
+        return Checked::Refused(Refusal::TextByte);
     }
-    Checks::Passed
+    Checked::Passed
+}
+
+// Writes the form of a text that reads, with at most 127 letters: its arcs are known, as an array of arrays, before the first word is
+// written.
+fn write(alphabet: &[u8], text: &[u8], form: &mut [u32]) -> Counted
+    requires { ⌜ (length (now alphabet) ≤ 95) × Compilable (now alphabet) (now text) ⌝ }
+    ensures { λ r. ⌜ Fills (form-call (length (now (alphabet .entry))) (automatonOf (now (alphabet .entry)) (treeOfText (now (alphabet .entry)) (now (text .entry)))) (length (now (form .entry)))) (reported r) (now (form .entry)) (now (form .exit)) ⌝ }
+{
+    let mut labels = [0u8; 127];
+    let mut follow = [[false; 127]; 127];
+    let built = build::build(alphabet, text, &mut labels, &mut follow);
+    let first = built.first;
+    let last = built.last;
+    encode::write_form(
+        alphabet.len(),
+        built.letters,
+        built.nullable,
+        &labels,
+        &first,
+        &last,
+        &follow,
+        form,
+    )
+}
+
+// Past rows 1 to 3.
+fn compile_text(alphabet: &[u8], text: &[u8], form: &mut [u32]) -> Counted
+    requires { ⌜ length (now alphabet) ≤ 95 ⌝ }
+    ensures { λ r. ⌜ Fills (read-form (now (alphabet .entry)) (length (now (form .entry))) (expressionOf (now (alphabet .entry)) (now (text .entry)))) (reported r) (now (form .entry)) (now (form .exit)) ⌝ }
+{
+    match parse::expression(alphabet, text) {
+        parse::Checked::Refused(r) => Counted::Refused(r),
+        parse::Checked::Letters(n) => {
+            if 127 < n {
+                return Counted::Refused(Refusal::Letters);
+            }
+            write(alphabet, text, form)
+        }
+    }
+}
+
+// Document 01's Compile. What it writes means the text's words: `compiled-means` of specs/Meaning.antt.
+pub fn compile(alphabet: &[u8], text: &[u8], form: &mut [u32]) -> Counted
+    ensures { λ r. ⌜ Fills (compile-call (now (alphabet .entry)) (now (text .entry)) (length (now (form .entry)))) (reported r) (now (form .entry)) (now (form .exit)) ⌝ }
+{
+    match check_text(alphabet, text) {
+        Checked::Refused(r) => Counted::Refused(r),
+        Checked::Passed => compile_text(alphabet, text, form),
+    }
 }

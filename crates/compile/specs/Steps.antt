@@ -1,0 +1,126 @@
+-- Past rows 1 to 3: what the checking parser's answer says of the text, and what is then left to fill. Assumes nothing.
+use Prim.Native.Nat.{ℕ, _≤_, _<_}
+use mathlib.Core.Path.{_≡_, refl, sym, ap, _∙_}
+use mathlib.Core.Bool.{Bool, true, false}
+use mathlib.Core.List.{List, [], _∷_}
+use native.Mathlib.Omega.{arith}
+use lib.ListN.{length, replicate, length-replicate}
+use lib.Dec.{ltb}
+use borrow.Author.Tests.{lt-ltb, le-ltb}
+use Rattle.refusal.specs.declared.Refusal.{Refusal}
+use Rattle.refusal.specs.declared.Refusal.the-variants as row
+use Rattle.refusal.specs.Verdict.{Verdict, refused, passed, check, unless, unless-holds, unless-fails, then, first-of, first-refused, first-all}
+use Rattle.refusal.specs.declared.Checked.the-variants as checks
+use Rattle.expression.specs.Tree.{Tree}
+use Rattle.expression.specs.Text.{Reads, found, fault}
+use Rattle.expression.specs.Letters.{lettersOf}
+use Rattle.expression.specs.Sense.{few, sensible}
+use Rattle.expression.specs.Exact.{exact, expression-whole}
+use Rattle.expression.specs.Read.{expressionOf}
+use Rattle.positions.specs.Numbered.{automatonOf}
+use Rattle.automaton.specs.Form.{encode}
+use Rattle.positions.specs.Compiled.{formOf, automaton-letters}
+use Rattle.tokens.specs.Answers.{is-found}
+use Rattle.parse.specs.declared.Checked.{Checked}
+use Rattle.parse.specs.declared.Checked.the-variants.{Letters, Refused}
+use Rattle.parse.specs.Checked.{checkedOf, checked}
+use Rattle.encode.specs.Arrays.{arrayed, form-call}
+use Rattle.encode.specs.Parts.{told-form}
+use Rattle.build.specs.Found.{treeOf}
+use Rattle.build.specs.Whole.{treeOfText, Buildable, BuildsWhole, no-arc}
+use Rattle.build.specs.declared.Built.{Built}
+use Rattle.compile.specs.Call.{text-checks, formed, read-form, compile-call}
+
+-- a text that reads, with few letters
+pub record Compilable (A s : List ℕ) : Type 0 where
+  pub reads : is-found (expressionOf A s) ≡ true
+  pub within : lettersOf A (treeOfText A s) ≤ 127
+
+module _ (A s : List ℕ) (room : ℕ) where
+  -- the leftmost fault
+  pub text-refused : (x : Refusal) → Refused x ≡ checked A s → read-form A room (expressionOf A s) ≡ refused x
+  unfolding checked
+  text-refused x e = by (expressionOf A s) e
+    where
+      by : (y : Reads Tree) → Refused x ≡ checkedOf A y → read-form A room y ≡ refused x
+      by (found t r) e = let z : _≡_ {A = ℕ} 0 1 = cc in absurd (omega arith)
+      by (fault n r) e = let q : n ≡ x = cc in ap refused q
+
+  -- too many letters
+  pub text-many : (n : ℕ) → Letters n ≡ checked A s → 127 < n → read-form A room (expressionOf A s) ≡ refused row.Letters
+  unfolding checked
+  text-many n e h = by (expressionOf A s) e
+    where
+      by : (y : Reads Tree) → Letters n ≡ checkedOf A y → read-form A room y ≡ refused row.Letters
+      by (fault m r) e = let z : _≡_ {A = ℕ} 0 1 = cc in absurd (omega arith)
+      by (found t r) e =
+          let q : n ≡ few (lettersOf A t) = cc in
+          unless-holds (formOf A t) (ltb 127 (lettersOf A t)) row.Letters (check (ltb room (length (formOf A t))) row.FormMemory ∷ []) (lt-ltb 127 (lettersOf A t) (omega arith))
+
+  -- few enough
+  pub text-compilable : (n : ℕ) → Letters n ≡ checked A s → n ≤ 127 → Compilable A s
+  unfolding checked
+  text-compilable n e h = by (expressionOf A s) refl e
+    where
+      by : (y : Reads Tree) → expressionOf A s ≡ y → Letters n ≡ checkedOf A y → Compilable A s
+      by (fault m r) g e = let z : _≡_ {A = ℕ} 0 1 = cc in absurd (omega arith)
+      by (found t r) g e =
+          let q : n ≡ few (lettersOf A t) = cc in
+          let same : lettersOf A (treeOfText A s) ≡ lettersOf A t = ap (λ y. lettersOf A (treeOf y)) g in
+          record { reads = ap is-found g; within = omega arith }
+
+  -- and then the form
+  pub text-form : Compilable A s → read-form A room (expressionOf A s) ≡ form-call (length A) (automatonOf A (treeOfText A s)) room
+  unfolding form-call
+  text-form c = by (expressionOf A s) (c .reads) (c .within)
+    where
+      by : (y : Reads Tree) → is-found y ≡ true → lettersOf A (treeOf y) ≤ 127 → read-form A room y ≡ form-call (length A) (automatonOf A (treeOf y)) room
+      by (fault m r) e h = let z : _≡_ {A = ℕ} 0 1 = cc in absurd (omega arith)
+      by (found t r) e h =
+          unless-fails (formOf A t) (ltb 127 (lettersOf A t)) row.Letters (check (ltb room (length (formOf A t))) row.FormMemory ∷ []) (le-ltb 127 (lettersOf A t) h)
+
+  -- rows 1 to 3
+  pub call-refused : (n : Refusal) → checks.Refused n ≡ first-of (text-checks A s) → compile-call A s room ≡ refused n
+  unfolding compile-call then
+  call-refused n e = ap (λ v. then v (λ s. read-form A room (expressionOf A s))) (first-refused s n (text-checks A s) (sym e))
+
+  pub call-passed : checks.Passed ≡ first-of (text-checks A s) → compile-call A s room ≡ read-form A room (expressionOf A s)
+  unfolding compile-call then
+  call-passed e = ap (λ v. then v (λ s. read-form A room (expressionOf A s))) (first-all s (text-checks A s) (sym e))
+
+-- Built over cleared arrays.
+pub buildable : (A s : List ℕ) → length A ≤ 95 → Compilable A s → Buildable A s (replicate 127 0) (replicate 127 (replicate 127 false))
+buildable A s h c =
+    record {
+      alphabet = omega arith;
+      reads = c .reads;
+      few = c .within;
+      labelled = omega (arith, length-replicate {A = ℕ} 127 0);
+      rows = omega (arith, length-replicate 127 (replicate 127 false));
+      clear = no-arc 127 127;
+    }
+
+module _ (A s : List ℕ) (c : Compilable A s) where
+  -- the text's tree
+  tree : (r : List ℕ) × (expressionOf A s ≡ found (treeOfText A s) r)
+  tree = by (expressionOf A s) (c .reads) refl
+    where
+      by : (y : Reads Tree) → is-found y ≡ true → expressionOf A s ≡ y → (r : List ℕ) × (expressionOf A s ≡ found (treeOfText A s) r)
+      by (fault n r) e g = let z : _≡_ {A = ℕ} 0 1 = cc in absurd (omega arith)
+      by (found t r) e g = (r, g ∙ ap (λ x. found x r) (sym (ap treeOf g)))
+
+  letters : automatonOf A (treeOfText A s) .letters ≡ lettersOf A (treeOfText A s)
+  letters =
+      let t = treeOfText A s in
+      let whole : expressionOf A s ≡ found t [] = tree .1 ∙ ap (found t) (expression-whole A s t (tree .0) (tree .1)) in
+      automaton-letters A t (sensible A t 16 s (exact A s t .0 whole))
+
+  -- what is written of the arrays is the form of the text's automaton
+  pub told-call :
+      (room : ℕ) {old new : List ℕ} {follow : List (List Bool)} {x : Built} → BuildsWhole A s old new follow x
+      → form-call (length A) (arrayed (x .letters) (x .nullable) new (x .first) (x .last) follow) room ≡ form-call (length A) (automatonOf A (treeOfText A s)) room
+  unfolding form-call
+  told-call room {old} {new} {follow} {x} b =
+      ap (λ f. unless (check (ltb room (length f)) row.FormMemory ∷ []) f)
+      (ap (λ n. encode (length A) (arrayed n (x .nullable) new (x .first) (x .last) follow)) (b .counts ∙ sym letters)
+      ∙ told-form (x .nullable) new (x .first) (x .last) follow (length A) (automatonOf A (treeOfText A s)) (b .tells))
