@@ -8,8 +8,8 @@ use native.Mathlib.Omega.{arith}
 use lib.ListN.{length}
 use Rattle.lists.specs.Written.{Stored, stored-then, stored-size}
 use Rattle.relation.specs.Sets.{member, arc, Union, Linked}
-use Rattle.positions.specs.Opened.{Opened, joining, alternation, optional, plus, labels}
-use Rattle.positions.specs.Numbered.{Positions, joint, choice, perhaps, again, numbered}
+use Rattle.positions.specs.Opened.{Opened, joining, alternation, labels}
+use Rattle.positions.specs.Numbered.{Positions, joint, choice, again, numbered}
 use Rattle.positions.specs.Equations.{Same}
 use Rattle.build.specs.Copies.{spared, looped, Alike}
 use Rattle.build.specs.declared.Built.{Built}
