@@ -44,12 +44,14 @@ module _ (A text : List ℕ) where
 
   module _ {n : ℕ} {f g : List (List Bool)} {old mid : List ℕ} {a : Built} (x y z : Reads Tree) (u : BuildsRead n x f g old mid a) where
     either-builds :
-        {h : List (List Bool)} {new : List ℕ} {b c : Built} → Two either x y z → BuildsRead (a .letters) y g h mid new b → Chosen a b c → BuildsRead n z f h old new c
+        {h :
+        List (List Bool)} {new : List ℕ} {b c : Built} → Two either x y z → BuildsRead (a .letters) y g h mid new b → Chosen a b c → BuildsRead n z f h old new c
     unfolding opened
     either-builds w v o = rw (w .tree, w .behind) (builds-alternation u v o)
 
     join-builds :
-        {h k : List (List Bool)} {new : List ℕ} {b c : Built} → Two join x y z → BuildsRead (a .letters) y g h mid new b → Joined a b c h k → BuildsRead n z f k old new c
+        {h k : List (List Bool)} {new : List ℕ} {b c : Built} → Two join x y z → BuildsRead (a .letters) y g h mid new b → Joined a b c h k
+        → BuildsRead n z f k old new c
     unfolding opened
     join-builds w v o = rw (w .tree, w .behind) (builds-joining u v o)
 

@@ -64,33 +64,45 @@ module _ (A text : List ℕ) where
           }
       by (fault n r) k h = not-found h
 
+  -- What goes on, by f, behind a part that was found.
+  module _ (m : Mode) (d at : ℕ) (f : Tree → List ℕ → Reads Tree) (x : Reads Tree) (s : x ≡ then (read A m d (drop at text)) f) (h : is-found x ≡ true) where
+    pub first-found : PartAt A text m d at
+    first-found = then-first f (read A m d (drop at text)) (ap is-found (sym s) ∙ h)
+
+    pub goes-on : (e : ℕ) → e ≡ endAt A text m d at → x ≡ f (treeAt A text m d at) (drop e text)
+    goes-on e q =
+        s ∙ then-is f (set (only [])) (read A m d (drop at text)) first-found
+        ∙ ap (f (treeAt A text m d at)) (reading m d at first-found .rests ∙ ap (λ i. drop i text) (sym q))
+
+    ends-there : (e : ℕ) → e ≡ endAt A text m d at → x ≡ found (treeAt A text m d at) (drop e text) → x ≡ read A m d (drop at text)
+    ends-there e q k = k ∙ ap (λ i. found (treeAt A text m d at) (drop i text)) q ∙ sym (reading m d at first-found .is)
+
   module _ (d at : ℕ) where
     -- branches with `|` between them
     abbrev bar : Bool → Tree → List ℕ → Reads Tree
     bar b t s = elim b [ true ↦ then (read A m-alternation d (rest s)) (λ u r. found (either t u) r) | false ↦ found t s ]
 
+    abbrev behind-branch : Tree → List ℕ → Reads Tree
+    behind-branch t s = bar (next "|" s) t s
+
     module _ (h : PartAt A text m-alternation d at) where
-      alternation-step : read A m-alternation d (drop at text) ≡ then (read A m-branch d (drop at text)) (λ t s. bar (next "|" s) t s)
+      alternation-step : read A m-alternation d (drop at text) ≡ then (read A m-branch d (drop at text)) behind-branch
       unfolding step
       alternation-step = read-step A m-alternation d (drop at text)
 
       pub branch-found : PartAt A text m-branch d at
-      branch-found = then-first (λ t s. bar (next "|" s) t s) (read A m-branch d (drop at text)) (ap is-found (sym alternation-step) ∙ h)
+      branch-found = first-found m-branch d at behind-branch (read A m-alternation d (drop at text)) alternation-step h
 
       module _ (e : ℕ) (q : e ≡ endAt A text m-branch d at) where
         by-bar : (b : Bool) → eqb (getD text e 0) (code "|") ≡ b → read A m-alternation d (drop at text) ≡ bar b (treeAt A text m-branch d at) (drop e text)
         by-bar b k =
-            let t = treeAt A text m-branch d at in
-            alternation-step
-            ∙ then-is (λ t s. bar (next "|" s) t s) (set (only [])) (read A m-branch d (drop at text)) branch-found
-            ∙ ap (λ s. bar (next "|" s) t s) (reading m-branch d at branch-found .rests ∙ ap (λ i. drop i text) (sym q))
-            ∙ ap (λ b. bar b t (drop e text)) (next-at "|" text e refl ∙ k)
+            goes-on m-branch d at behind-branch (read A m-alternation d (drop at text)) alternation-step h e q
+            ∙ ap (λ b. bar b (treeAt A text m-branch d at) (drop e text)) (next-at "|" text e refl ∙ k)
 
         pub alternation-alone : (getD text e 0 ≡ code "|" → ⊥) → read A m-alternation d (drop at text) ≡ read A m-branch d (drop at text)
         alternation-alone k =
-            by-bar false (ne-eqb (getD text e 0) (code "|") k)
-            ∙ ap (λ i. found (treeAt A text m-branch d at) (drop i text)) q
-            ∙ sym (reading m-branch d at branch-found .is)
+            ends-there m-branch d at behind-branch (read A m-alternation d (drop at text)) alternation-step h e q
+            (by-bar false (ne-eqb (getD text e 0) (code "|") k))
 
         pub alternation-more :
             getD text e 0 ≡ code "|"
@@ -106,27 +118,25 @@ module _ (A text : List ℕ) where
     abbrev last : Bool → Tree → List ℕ → Reads Tree
     last b t s = elim b [ true ↦ found t s | false ↦ then (read A m-branch d s) (λ u r. found (join t u) r) ]
 
+    abbrev behind-piece : Tree → List ℕ → Reads Tree
+    behind-piece t s = last (ends s) t s
+
     module _ (h : PartAt A text m-branch d at) where
-      branch-step : read A m-branch d (drop at text) ≡ then (read A m-piece d (drop at text)) (λ t s. last (ends s) t s)
+      branch-step : read A m-branch d (drop at text) ≡ then (read A m-piece d (drop at text)) behind-piece
       unfolding step
       branch-step = read-step A m-branch d (drop at text)
 
       pub piece-found : PartAt A text m-piece d at
-      piece-found = then-first (λ t s. last (ends s) t s) (read A m-piece d (drop at text)) (ap is-found (sym branch-step) ∙ h)
+      piece-found = first-found m-piece d at behind-piece (read A m-branch d (drop at text)) branch-step h
 
       module _ (e : ℕ) (q : e ≡ endAt A text m-piece d at) where
         by-end : (b : Bool) → ends (drop e text) ≡ b → read A m-branch d (drop at text) ≡ last b (treeAt A text m-piece d at) (drop e text)
         by-end b k =
-            let t = treeAt A text m-piece d at in
-            branch-step
-            ∙ then-is (λ t s. last (ends s) t s) (set (only [])) (read A m-piece d (drop at text)) piece-found
-            ∙ ap (λ s. last (ends s) t s) (reading m-piece d at piece-found .rests ∙ ap (λ i. drop i text) (sym q))
-            ∙ ap (λ b. last b t (drop e text)) k
+            goes-on m-piece d at behind-piece (read A m-branch d (drop at text)) branch-step h e q
+            ∙ ap (λ b. last b (treeAt A text m-piece d at) (drop e text)) k
 
         pub branch-last : ends (drop e text) ≡ true → read A m-branch d (drop at text) ≡ read A m-piece d (drop at text)
-        branch-last k =
-            by-end true k ∙ ap (λ i. found (treeAt A text m-piece d at) (drop i text)) q
-            ∙ sym (reading m-piece d at piece-found .is)
+        branch-last k = ends-there m-piece d at behind-piece (read A m-branch d (drop at text)) branch-step h e q (by-end true k)
 
         pub branch-more :
             ends (drop e text) ≡ false

@@ -131,7 +131,8 @@ module _ (A text : List ℕ) where
           let m = o .few in
           record { alphabet = o .alphabet; few = omega arith; labelled = o .labelled }
 
-      pub group-returns-set : {new : List ℕ} {x : Built} → SetBuilds A text at n old new x → Builds n (openedAt A text m-group d at) (endAt A text m-group d at) f f old new x
+      pub group-returns-set :
+          {new : List ℕ} {x : Built} → SetBuilds A text at n old new x → Builds n (openedAt A text m-group d at) (endAt A text m-group d at) f f old new x
       unfolding opened
       group-returns-set b = rw (group-set A text d at p k .is) (b f)
 

@@ -1,7 +1,7 @@
 -- What a piece and a group are made of, by the steps of their reading: copies of a group, a set, or an alternation in parentheses.
 -- Assumes nothing.
 use mathlib.Core.Path.{_≡_, refl, sym, ap, subst, _∙_}
-use mathlib.Core.List.{List, []}
+use mathlib.Core.List.{List}
 use mathlib.Core.Bool.{Bool, true, false}
 use Prim.Native.Nat.{ℕ, zero, suc, _+_, _-_, _≤_, _<_}
 use Prim.Native.Char.{code}
@@ -10,7 +10,7 @@ use lib.ListN.{length, getD, drop}
 use lib.Dec.{eqb}
 use borrow.Author.Tests.{eqb-true, eq-eqb, ne-eqb}
 use Rattle.refusal.specs.declared.Refusal.the-variants as row
-use Rattle.expression.specs.Tree.{Set, only, Count, between, Tree, set, group, times}
+use Rattle.expression.specs.Tree.{Set, Count, between, Tree, set, group, times}
 use Rattle.expression.specs.Text.{Reads, found, fault, then, next, rest}
 use Rattle.expression.specs.Letters.{labelsOf}
 use Rattle.expression.specs.Sets.{a-set, labelled-set}
@@ -23,10 +23,10 @@ use Rattle.expression.specs.Steps.{read-step}
 use Rattle.positions.specs.Opened.{opened, repeated}
 use Rattle.tokens.specs.Place.{place, place-drop, behind, next-at, rest-at, byte-is}
 use Rattle.tokens.specs.Answers.{is-found, setOf}
-use Rattle.build.specs.Found.{restOf, treeOf, countOf, counted, counted-repeated, counted-plain, not-found, then-first, then-is}
+use Rattle.build.specs.Found.{restOf, treeOf, countOf, counted, counted-repeated, counted-plain, not-found}
 use Rattle.build.specs.Copies.{Alike, alike-by, one-copy}
 use Rattle.build.specs.Places.{PartAt, treeAt, endAt}
-use Rattle.build.specs.Made.{reading}
+use Rattle.build.specs.Made.{first-found, goes-on}
 
 module _ (A text : List ℕ) where
   -- a group, repeated or not
@@ -54,23 +54,23 @@ module _ (A text : List ℕ) where
       (subst (Counted t (found (between 1 1) s)) (sym e)
       (record { counts = refl; range = (omega arith, omega arith, omega arith); behind = refl; opens = one-copy (opened A t) }))
 
+  abbrev behind-group : Tree → List ℕ → Reads Tree
+  behind-group t s = repeating (repeats s) t s
+
   module _ (d at : ℕ) where
     module _ (h : PartAt A text m-piece d at) where
-      piece-step : read A m-piece d (drop at text) ≡ then (read A m-group d (drop at text)) (λ t s. repeating (repeats s) t s)
+      piece-step : read A m-piece d (drop at text) ≡ then (read A m-group d (drop at text)) behind-group
       unfolding step
       piece-step = read-step A m-piece d (drop at text)
 
       pub group-found : PartAt A text m-group d at
-      group-found = then-first (λ t s. repeating (repeats s) t s) (read A m-group d (drop at text)) (ap is-found (sym piece-step) ∙ h)
+      group-found = first-found A text m-group d at behind-group (read A m-piece d (drop at text)) piece-step h
 
       pub piece-counted : Counted (treeAt A text m-group d at) (counted (drop (endAt A text m-group d at) text)) (read A m-piece d (drop at text))
       piece-counted =
-          let t = treeAt A text m-group d at in
           let s = drop (endAt A text m-group d at) text in
-          counted-of t s (read A m-piece d (drop at text)) (repeats s) refl
-          (piece-step
-          ∙ then-is (λ t s. repeating (repeats s) t s) (set (only [])) (read A m-group d (drop at text)) group-found
-          ∙ ap (λ s. repeating (repeats s) t s) (reading A text m-group d at group-found .rests))
+          counted-of (treeAt A text m-group d at) s (read A m-piece d (drop at text)) (repeats s) refl
+          (goes-on A text m-group d at behind-group (read A m-piece d (drop at text)) piece-step h (endAt A text m-group d at) refl)
           h
 
     -- a set, or an alternation in parentheses
@@ -122,44 +122,39 @@ module _ (A text : List ℕ) where
     pub end : place text (restOf x) ≡ place text (restOf y) + 1
     pub within : place text (restOf y) < length text
 
-  closed-by :
-      (d at i : ℕ) (x : Reads Tree) → i ≡ endAt A text m-alternation d at → PartAt A text m-alternation d at
-      → x ≡ closing (next ")" (restOf (read A m-alternation d (drop at text)))) (treeAt A text m-alternation d at) (restOf (read A m-alternation d (drop at text)))
-      → is-found x ≡ true → Enclosed (read A m-alternation d (drop at text)) x
-  closed-by d at i x q inner e h = by (eqb (getD text i 0) (code ")")) refl
-    where
-      rests : restOf (read A m-alternation d (drop at text)) ≡ drop i text
-      rests = reading A text m-alternation d at inner .rests ∙ ap (λ n. drop n text) (sym q)
+  behind-content : Tree → List ℕ → Reads Tree
+  behind-content t s = closing (next ")" s) t s
 
-      now : (b : Bool) → eqb (getD text i 0) (code ")") ≡ b → x ≡ closing b (treeAt A text m-alternation d at) (drop i text)
-      now b k =
-          e ∙ ap (λ s. closing (next ")" s) (treeAt A text m-alternation d at) s) rests
-          ∙ ap (λ b. closing b (treeAt A text m-alternation d at) (drop i text)) (next-at ")" text i refl ∙ k)
+  module _ (d at : ℕ) (x : Reads Tree) (step-is : x ≡ then (read A m-alternation d (drop at text)) behind-content) (h : is-found x ≡ true) where
+    enclosed-at : (i : ℕ) → i ≡ endAt A text m-alternation d at → Enclosed (read A m-alternation d (drop at text)) x
+    unfolding behind-content
+    enclosed-at i q = by (eqb (getD text i 0) (code ")")) refl
+      where
+        here : (b : Bool) → eqb (getD text i 0) (code ")") ≡ b → x ≡ closing b (treeAt A text m-alternation d at) (drop i text)
+        here b k =
+            goes-on A text m-alternation d at behind-content x step-is h i q
+            ∙ ap (λ b. closing b (treeAt A text m-alternation d at) (drop i text)) (next-at ")" text i refl ∙ k)
 
-      by : (b : Bool) → eqb (getD text i 0) (code ")") ≡ b → Enclosed (read A m-alternation d (drop at text)) x
-      by true k =
-          let l : i < length text = byte-is text i 40 (eqb-true (getD text i 0) (code ")") k) in
-          record {
-            inner = inner;
-            tree = ap treeOf (now true k);
-            end = ap (λ z. place text (restOf z)) (now true k) ∙ ap (place text) (rest-at text i) ∙ place-drop text (i + 1) (omega arith) ∙ ap (λ n. n + 1) q;
-            within = omega arith;
-          }
-      by false k = not-found (ap is-found (sym (now false k)) ∙ h)
+        by : (b : Bool) → eqb (getD text i 0) (code ")") ≡ b → Enclosed (read A m-alternation d (drop at text)) x
+        by true k =
+            let l : i < length text = byte-is text i 40 (eqb-true (getD text i 0) (code ")") k) in
+            record {
+              inner = first-found A text m-alternation d at behind-content x step-is h;
+              tree = ap treeOf (here true k);
+              end =
+                  ap (λ z. place text (restOf z)) (here true k) ∙ ap (place text) (rest-at text i) ∙ place-drop text (i + 1) (omega arith)
+                  ∙ ap (λ n. n + 1) q;
+              within = omega arith;
+            }
+        by false k = not-found (ap is-found (sym (here false k)) ∙ h)
 
   pub group-enclosed :
       (d at : ℕ) → PartAt A text m-group d at → getD text at 0 ≡ code "("
       → (1 ≤ d) × Enclosed (read A m-alternation (d - 1) (drop (at + 1) text)) (read A m-group d (drop at text))
-  unfolding grouped
-  group-enclosed zero at h k =
-      not-found (ap is-found (sym (by-open zero at true (eq-eqb (getD text at 0) (code "(") k))) ∙ h)
+  unfolding grouped behind-content
+  group-enclosed zero at h k = not-found (ap is-found (sym (by-open zero at true (eq-eqb (getD text at 0) (code "(") k))) ∙ h)
   group-enclosed (suc d) at h k =
-      let z : suc d - 1 ≡ d = omega arith in
-      let e =
-      by-open (suc d) at true (eq-eqb (getD text at 0) (code "(") k)
-      ∙ ap (λ s. then (read A m-alternation d s) (λ t s. closing (next ")" s) t s)) (rest-at text at) in
-      let y = read A m-alternation d (drop (at + 1) text) in
-      let f = then-first (λ t s. closing (next ")" s) t s) y (ap is-found (sym e) ∙ h) in (
-        omega arith,
-        rw z (closed-by d (at + 1) (endAt A text m-alternation d (at + 1)) (read A m-group (suc d) (drop at text)) refl f (e ∙ then-is (λ t s. closing (next ")" s) t s) (set (only [])) y f) h),
-      )
+      let less : suc d - 1 ≡ d = omega arith in
+      let e : read A m-group (suc d) (drop at text) ≡ then (read A m-alternation d (drop (at + 1) text)) behind-content =
+      by-open (suc d) at true (eq-eqb (getD text at 0) (code "(") k) ∙ ap (λ s. then (read A m-alternation d s) behind-content) (rest-at text at) in
+      (omega arith, rw less (enclosed-at d (at + 1) (read A m-group (suc d) (drop at text)) e h (endAt A text m-alternation d (at + 1)) refl))

@@ -144,7 +144,9 @@ module _ (f g : List (List Bool)) where
         }
 
     -- the same letters, though the empty word may have been added
-    shows-spared : (q : Bool) (x : Built) (e : ℕ) (s : Bool) → Spared a s e x → (s || p .nullable) ≡ q → Shows (record { nullable = q; first = p .first; last = p .last; follow = p .follow }) x f g
+    shows-spared :
+        (q : Bool) (x : Built) (e : ℕ) (s : Bool) → Spared a s e x → (s || p .nullable) ≡ q
+        → Shows (record { nullable = q; first = p .first; last = p .last; follow = p .follow }) x f g
     shows-spared q x e s o z =
         record {
           nullable = o .nullable ∙ ap (λ t. s || t) (u .nullable) ∙ z;
@@ -228,7 +230,9 @@ module _ {n : ℕ} {r : Opened} {e : ℕ} {f g : List (List Bool)} {old mid : Li
       }
 
 -- Room for a part, and for what follows it.
-pub room-first : {A : List ℕ} {r : Opened} {n : ℕ} {marks : List ℕ} {f : List (List Bool)} (s : Opened) → length (labels s) ≤ length (labels r) → Room A r n marks f → Room A s n marks f
+pub room-first :
+    {A : List ℕ} {r : Opened} {n : ℕ} {marks : List ℕ} {f : List (List Bool)} (s : Opened) → length (labels s) ≤ length (labels r) → Room A r n marks f
+    → Room A s n marks f
 room-first s l o = let k = o .few in record { alphabet = o .alphabet; few = omega arith; labelled = o .labelled; rows = o .rows }
 
 pub room-next :
