@@ -44,8 +44,8 @@ module _ (A text : List ℕ) where
 
   module _ {n : ℕ} {f g : List (List Bool)} {old mid : List ℕ} {a : Built} (x y z : Reads Tree) (u : BuildsRead n x f g old mid a) where
     either-builds :
-        {h :
-        List (List Bool)} {new : List ℕ} {b c : Built} → Two either x y z → BuildsRead (a .letters) y g h mid new b → Chosen a b c → BuildsRead n z f h old new c
+        {h : List (List Bool)} {new : List ℕ} {b c : Built} → Two either x y z → BuildsRead (a .letters) y g h mid new b → Chosen a b c
+        → BuildsRead n z f h old new c
     unfolding opened
     either-builds w v o = rw (w .tree, w .behind) (builds-alternation u v o)
 
