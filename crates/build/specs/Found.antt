@@ -29,7 +29,7 @@ abbrev repetitionIf : Bool → List ℕ → Reads Count
 repetitionIf true s = repetition s
 repetitionIf false s = found (between 1 1) s
 
-pub counted : List ℕ → Reads Count
+unfoldable pub counted : List ℕ → Reads Count
 counted s = repetitionIf (repeats s) s
 
 pub counted-repeated : (s : List ℕ) → repeats s ≡ true → counted s ≡ repetition s

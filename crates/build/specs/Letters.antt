@@ -1,9 +1,9 @@
 -- A set of labels as letters: the labels written one by one, and the range of letters that they take. Assumes nothing.
 use Prim.Native.Nat.{ℕ, zero, suc, _+_, _-_, _≤_, _<_}
-use mathlib.Core.Path.{_≡_, refl, sym, ap, ap₂, _∙_}
+use mathlib.Core.Path.{_≡_, refl, sym, ap, _∙_}
 use mathlib.Core.Logic.{_⊎_, inl, inr}
 use mathlib.Core.Bool.{Bool, true, false, _&&_, _||_, or-false, and-false}
-use mathlib.Core.List.{List, [], _∷_, _++_}
+use mathlib.Core.List.{List, [], _++_}
 use native.Mathlib.Omega.{arith}
 use lib.ListN.{length, getD, drop, set, replicate}
 use lib.Seq.{getD-set-same, getD-set-other}
@@ -16,14 +16,13 @@ use Rattle.lists.specs.Written.{Stored}
 use Rattle.relation.specs.Sets.{member, arc}
 use Rattle.expression.specs.Tree.{Set, member as memberOf}
 use Rattle.expression.specs.Sets.{a-set}
-use Rattle.positions.specs.Opened.{labelsIn, anyOf, labels}
-use Rattle.positions.specs.Numbered.{numbered}
-use Rattle.positions.specs.Equations.{Same, alone, numbered-any-of}
+use Rattle.positions.specs.Opened.{labelsIn, anyOf}
+use Rattle.positions.specs.Equations.{alone, numbered-any-of}
 use Rattle.positions.specs.Letters.{any-of-labels}
 use Rattle.tokens.specs.Place.{place}
 use Rattle.tokens.specs.Answers.{setAt}
 use Rattle.build.specs.Found.{restOf}
-use Rattle.build.specs.Shown.{Shows, Builds}
+use Rattle.build.specs.Shown.{Builds}
 use Rattle.build.specs.declared.Built.{Built}
 
 -- The labels still to come at a label of the loop.

@@ -5,5 +5,8 @@ pub mod Letters
 pub mod Tokens
 pub mod Places
 pub mod Made
-pub mod Turns
+pub mod Pieces
+pub mod BranchTurns
+pub mod PieceTurns
 pub mod Whole
+pub mod Examples

@@ -1,32 +1,25 @@
--- What a part of the text is made of, by the steps of its reading: the parts that the builder goes through. Assumes nothing.
+-- A part of the text that was read from a place on; and what alternations and branches are made of, by the steps of their reading.
+-- Assumes nothing.
 use mathlib.Core.Path.{_≡_, refl, sym, ap, subst, _∙_}
 use mathlib.Core.List.{List, []}
 use mathlib.Core.Bool.{Bool, true, false}
-use Prim.Native.Nat.{ℕ, zero, suc, _+_, _-_, _≤_, _<_}
+use Prim.Native.Nat.{ℕ, _+_, _≤_, _<_}
 use Prim.Native.Char.{code}
 use native.Mathlib.Omega.{arith}
 use lib.ListN.{length, getD, drop, length-drop}
 use lib.Dec.{eqb}
-use borrow.Author.Tests.{eqb-true, eq-eqb, ne-eqb}
-use Rattle.refusal.specs.declared.Refusal.the-variants as row
-use Rattle.expression.specs.Tree.{Set, only, Count, between, Tree, set, group, times, join, either}
+use borrow.Author.Tests.{eq-eqb, ne-eqb}
+use Rattle.expression.specs.Tree.{only, Tree, set, join, either}
 use Rattle.expression.specs.Text.{Reads, found, fault, then, next, rest}
-use Rattle.expression.specs.Letters.{labelsOf}
-use Rattle.expression.specs.Sets.{a-set, labelled-set}
-use Rattle.expression.specs.Repetition.{repeats, repetition}
-use Rattle.expression.specs.Read.{Mode, m-alternation, m-branch, m-piece, m-group, ends, grouped, step, read}
-use Rattle.expression.specs.Says.{Says, of-found}
-use Rattle.expression.specs.Own.{Here}
-use Rattle.expression.specs.OwnCounts.{InRange, Repeating, repetition-says}
+use Rattle.expression.specs.Read.{Mode, m-alternation, m-branch, m-piece, ends, step, read}
+use Rattle.expression.specs.Says.{of-found}
 use Rattle.expression.specs.Sense.{Sensible, sensible}
 use Rattle.expression.specs.Front.{Front, Stop}
 use Rattle.expression.specs.Sound.{read-sound}
 use Rattle.expression.specs.Steps.{read-step, read-forward}
-use Rattle.positions.specs.Opened.{opened, repeated}
-use Rattle.tokens.specs.Place.{place, place-drop, behind, next-at, rest-at, byte-is}
-use Rattle.tokens.specs.Answers.{is-found, setOf, SetAt, setAt}
-use Rattle.build.specs.Found.{restOf, treeOf, countOf, counted, counted-repeated, counted-plain, not-found, then-first, then-is}
-use Rattle.build.specs.Copies.{Alike, alike-by, one-copy}
+use Rattle.tokens.specs.Place.{place, behind, next-at, rest-at}
+use Rattle.tokens.specs.Answers.{is-found}
+use Rattle.build.specs.Found.{restOf, treeOf, not-found, then-first, then-is}
 use Rattle.build.specs.Places.{PartAt, treeAt, endAt}
 
 -- x is made of a and then b
@@ -71,33 +64,45 @@ module _ (A text : List ℕ) where
           }
       by (fault n r) k h = not-found h
 
+  -- What goes on, by f, behind a part that was found.
+  module _ (m : Mode) (d at : ℕ) (f : Tree → List ℕ → Reads Tree) (x : Reads Tree) (s : x ≡ then (read A m d (drop at text)) f) (h : is-found x ≡ true) where
+    pub first-found : PartAt A text m d at
+    first-found = then-first f (read A m d (drop at text)) (ap is-found (sym s) ∙ h)
+
+    pub goes-on : (e : ℕ) → e ≡ endAt A text m d at → x ≡ f (treeAt A text m d at) (drop e text)
+    goes-on e q =
+        s ∙ then-is f (set (only [])) (read A m d (drop at text)) first-found
+        ∙ ap (f (treeAt A text m d at)) (reading m d at first-found .rests ∙ ap (λ i. drop i text) (sym q))
+
+    ends-there : (e : ℕ) → e ≡ endAt A text m d at → x ≡ found (treeAt A text m d at) (drop e text) → x ≡ read A m d (drop at text)
+    ends-there e q k = k ∙ ap (λ i. found (treeAt A text m d at) (drop i text)) q ∙ sym (reading m d at first-found .is)
+
   module _ (d at : ℕ) where
     -- branches with `|` between them
     abbrev bar : Bool → Tree → List ℕ → Reads Tree
     bar b t s = elim b [ true ↦ then (read A m-alternation d (rest s)) (λ u r. found (either t u) r) | false ↦ found t s ]
 
+    abbrev behind-branch : Tree → List ℕ → Reads Tree
+    behind-branch t s = bar (next "|" s) t s
+
     module _ (h : PartAt A text m-alternation d at) where
-      alternation-step : read A m-alternation d (drop at text) ≡ then (read A m-branch d (drop at text)) (λ t s. bar (next "|" s) t s)
+      alternation-step : read A m-alternation d (drop at text) ≡ then (read A m-branch d (drop at text)) behind-branch
       unfolding step
       alternation-step = read-step A m-alternation d (drop at text)
 
       pub branch-found : PartAt A text m-branch d at
-      branch-found = then-first (λ t s. bar (next "|" s) t s) (read A m-branch d (drop at text)) (ap is-found (sym alternation-step) ∙ h)
+      branch-found = first-found m-branch d at behind-branch (read A m-alternation d (drop at text)) alternation-step h
 
       module _ (e : ℕ) (q : e ≡ endAt A text m-branch d at) where
         by-bar : (b : Bool) → eqb (getD text e 0) (code "|") ≡ b → read A m-alternation d (drop at text) ≡ bar b (treeAt A text m-branch d at) (drop e text)
         by-bar b k =
-            let t = treeAt A text m-branch d at in
-            alternation-step
-            ∙ then-is (λ t s. bar (next "|" s) t s) (set (only [])) (read A m-branch d (drop at text)) branch-found
-            ∙ ap (λ s. bar (next "|" s) t s) (reading m-branch d at branch-found .rests ∙ ap (λ i. drop i text) (sym q))
-            ∙ ap (λ b. bar b t (drop e text)) (next-at "|" text e refl ∙ k)
+            goes-on m-branch d at behind-branch (read A m-alternation d (drop at text)) alternation-step h e q
+            ∙ ap (λ b. bar b (treeAt A text m-branch d at) (drop e text)) (next-at "|" text e refl ∙ k)
 
         pub alternation-alone : (getD text e 0 ≡ code "|" → ⊥) → read A m-alternation d (drop at text) ≡ read A m-branch d (drop at text)
         alternation-alone k =
-            by-bar false (ne-eqb (getD text e 0) (code "|") k)
-            ∙ ap (λ i. found (treeAt A text m-branch d at) (drop i text)) q
-            ∙ sym (reading m-branch d at branch-found .is)
+            ends-there m-branch d at behind-branch (read A m-alternation d (drop at text)) alternation-step h e q
+            (by-bar false (ne-eqb (getD text e 0) (code "|") k))
 
         pub alternation-more :
             getD text e 0 ≡ code "|"
@@ -113,165 +118,28 @@ module _ (A text : List ℕ) where
     abbrev last : Bool → Tree → List ℕ → Reads Tree
     last b t s = elim b [ true ↦ found t s | false ↦ then (read A m-branch d s) (λ u r. found (join t u) r) ]
 
+    abbrev behind-piece : Tree → List ℕ → Reads Tree
+    behind-piece t s = last (ends s) t s
+
     module _ (h : PartAt A text m-branch d at) where
-      branch-step : read A m-branch d (drop at text) ≡ then (read A m-piece d (drop at text)) (λ t s. last (ends s) t s)
+      branch-step : read A m-branch d (drop at text) ≡ then (read A m-piece d (drop at text)) behind-piece
       unfolding step
       branch-step = read-step A m-branch d (drop at text)
 
       pub piece-found : PartAt A text m-piece d at
-      piece-found = then-first (λ t s. last (ends s) t s) (read A m-piece d (drop at text)) (ap is-found (sym branch-step) ∙ h)
+      piece-found = first-found m-piece d at behind-piece (read A m-branch d (drop at text)) branch-step h
 
       module _ (e : ℕ) (q : e ≡ endAt A text m-piece d at) where
         by-end : (b : Bool) → ends (drop e text) ≡ b → read A m-branch d (drop at text) ≡ last b (treeAt A text m-piece d at) (drop e text)
         by-end b k =
-            let t = treeAt A text m-piece d at in
-            branch-step
-            ∙ then-is (λ t s. last (ends s) t s) (set (only [])) (read A m-piece d (drop at text)) piece-found
-            ∙ ap (λ s. last (ends s) t s) (reading m-piece d at piece-found .rests ∙ ap (λ i. drop i text) (sym q))
-            ∙ ap (λ b. last b t (drop e text)) k
+            goes-on m-piece d at behind-piece (read A m-branch d (drop at text)) branch-step h e q
+            ∙ ap (λ b. last b (treeAt A text m-piece d at) (drop e text)) k
 
         pub branch-last : ends (drop e text) ≡ true → read A m-branch d (drop at text) ≡ read A m-piece d (drop at text)
-        branch-last k =
-            by-end true k ∙ ap (λ i. found (treeAt A text m-piece d at) (drop i text)) q
-            ∙ sym (reading m-piece d at piece-found .is)
+        branch-last k = ends-there m-piece d at behind-piece (read A m-branch d (drop at text)) branch-step h e q (by-end true k)
 
         pub branch-more :
             ends (drop e text) ≡ false
             → Two join (read A m-piece d (drop at text)) (read A m-branch d (drop e text)) (read A m-branch d (drop at text))
         branch-more k =
             two join (read A m-piece d (drop at text)) (read A m-branch d (drop e text)) (read A m-branch d (drop at text)) (by-end false k) h
-
-  -- a group, repeated or not
-  abbrev repeating : Bool → Tree → List ℕ → Reads Tree
-  repeating b t s = elim b [ true ↦ then (repetition s) (λ c r. found (times t c) r) | false ↦ found t s ]
-
-  -- x is the tree t, repeated as the count says that was read
-  pub record Counted (t : Tree) (y : Reads Count) (x : Reads Tree) : Type 0 where
-    pub counts : is-found y ≡ true
-    pub range : InRange (countOf y)
-    pub behind : restOf x ≡ restOf y
-    pub opens : Alike (repeated (opened A t) (countOf y)) (opened A (treeOf x))
-
-  counted-of : (t : Tree) (s : List ℕ) (x : Reads Tree) (b : Bool) → repeats s ≡ b → x ≡ repeating b t s → is-found x ≡ true → Counted t (counted s) x
-  unfolding then opened
-  counted-of t s x true k e h = rw (counted-repeated s k) (by (repetition s) (repetition-says s) e)
-    where
-      by : (y : Reads Count) → Says (Repeating s) (Here s) y → x ≡ then y (λ c r. found (times t c) r) → Counted t y x
-      by (found c r) says e =
-          subst (Counted t (found c r)) (sym e)
-          (record { counts = refl; range = says .in-range; behind = refl; opens = alike-by (repeated (opened A t) c) (repeated (opened A t) c) refl })
-      by (fault n r) says e = not-found (ap is-found (sym e) ∙ h)
-  counted-of t s x false k e h =
-      rw (counted-plain s k)
-      (subst (Counted t (found (between 1 1) s)) (sym e)
-      (record { counts = refl; range = (omega arith, omega arith, omega arith); behind = refl; opens = one-copy (opened A t) }))
-
-  module _ (d at : ℕ) where
-    module _ (h : PartAt A text m-piece d at) where
-      piece-step : read A m-piece d (drop at text) ≡ then (read A m-group d (drop at text)) (λ t s. repeating (repeats s) t s)
-      unfolding step
-      piece-step = read-step A m-piece d (drop at text)
-
-      pub group-found : PartAt A text m-group d at
-      group-found = then-first (λ t s. repeating (repeats s) t s) (read A m-group d (drop at text)) (ap is-found (sym piece-step) ∙ h)
-
-      pub piece-counted : Counted (treeAt A text m-group d at) (counted (drop (endAt A text m-group d at) text)) (read A m-piece d (drop at text))
-      piece-counted =
-          let t = treeAt A text m-group d at in
-          let s = drop (endAt A text m-group d at) text in
-          counted-of t s (read A m-piece d (drop at text)) (repeats s) refl
-          (piece-step
-          ∙ then-is (λ t s. repeating (repeats s) t s) (set (only [])) (read A m-group d (drop at text)) group-found
-          ∙ ap (λ s. repeating (repeats s) t s) (reading m-group d at group-found .rests))
-          h
-
-    -- a set, or an alternation in parentheses
-    abbrev opening : Bool → Reads Tree
-    opening b = elim b [
-      | true ↦ grouped (read A m-alternation) d (drop at text)
-      | false ↦ then (labelled-set A (drop at text)) (λ c s. found (set c) s)
-    ]
-
-    by-open : (b : Bool) → eqb (getD text at 0) (code "(") ≡ b → read A m-group d (drop at text) ≡ opening b
-    unfolding step
-    by-open b k = read-step A m-group d (drop at text) ∙ ap opening (next-at "(" text at refl ∙ k)
-
-  abbrev judged : List ℕ → Bool → Set → List ℕ → Reads Set
-  judged s b c r = elim b [ true ↦ fault row.Foreign s | false ↦ found c r ]
-
-  abbrev labelled : List ℕ → Reads Set → Reads Tree
-  labelled s y = then (then y (λ c r. judged s (eqb (labelsOf A c) 0) c r)) (λ c r. found (set c) r)
-
-  -- x is the set that was read
-  pub record IsSet (y : Reads Set) (x : Reads Tree) : Type 0 where
-    pub there : is-found y ≡ true
-    pub is : x ≡ found (set (setOf y)) (restOf y)
-
-  set-of : (s : List ℕ) (y : Reads Set) → is-found (labelled s y) ≡ true → IsSet y (labelled s y)
-  unfolding then
-  set-of s (found c r) h = by (eqb (labelsOf A c) 0) h
-    where
-      by : (b : Bool) → is-found (then (judged s b c r) (λ c r. found (set c) r)) ≡ true → IsSet (found c r) (then (judged s b c r) (λ c r. found (set c) r))
-      by true h = not-found h
-      by false h = record { there = refl; is = refl }
-  set-of s (fault n r) h = not-found h
-
-  pub group-set :
-      (d at : ℕ) → PartAt A text m-group d at → (getD text at 0 ≡ code "(" → ⊥) → IsSet (a-set (drop at text)) (read A m-group d (drop at text))
-  unfolding labelled-set
-  group-set d at h k =
-      let s = drop at text in
-      let e : read A m-group d s ≡ labelled s (a-set s) = by-open d at false (ne-eqb (getD text at 0) (code "(") k) in
-      subst (IsSet (a-set s)) (sym e) (set-of s (a-set s) (ap is-found (sym e) ∙ h))
-
-  abbrev closing : Bool → Tree → List ℕ → Reads Tree
-  closing b t s = elim b [ true ↦ found (group t) (rest s) | false ↦ fault row.MisplacedSign s ]
-
-  -- x is the content y in parentheses
-  pub record Enclosed (y x : Reads Tree) : Type 0 where
-    pub inner : is-found y ≡ true
-    pub tree : treeOf x ≡ group (treeOf y)
-    pub end : place text (restOf x) ≡ place text (restOf y) + 1
-    pub within : place text (restOf y) < length text
-
-  closed-by :
-      (d at i : ℕ) (x : Reads Tree) → i ≡ endAt A text m-alternation d at → PartAt A text m-alternation d at
-      → x ≡ closing (next ")" (restOf (read A m-alternation d (drop at text)))) (treeAt A text m-alternation d at) (restOf (read A m-alternation d (drop at text)))
-      → is-found x ≡ true → Enclosed (read A m-alternation d (drop at text)) x
-  closed-by d at i x q inner e h = by (eqb (getD text i 0) (code ")")) refl
-    where
-      rests : restOf (read A m-alternation d (drop at text)) ≡ drop i text
-      rests = reading m-alternation d at inner .rests ∙ ap (λ n. drop n text) (sym q)
-
-      now : (b : Bool) → eqb (getD text i 0) (code ")") ≡ b → x ≡ closing b (treeAt A text m-alternation d at) (drop i text)
-      now b k =
-          e ∙ ap (λ s. closing (next ")" s) (treeAt A text m-alternation d at) s) rests
-          ∙ ap (λ b. closing b (treeAt A text m-alternation d at) (drop i text)) (next-at ")" text i refl ∙ k)
-
-      by : (b : Bool) → eqb (getD text i 0) (code ")") ≡ b → Enclosed (read A m-alternation d (drop at text)) x
-      by true k =
-          let l : i < length text = byte-is text i 40 (eqb-true (getD text i 0) (code ")") k) in
-          record {
-            inner = inner;
-            tree = ap treeOf (now true k);
-            end = ap (λ z. place text (restOf z)) (now true k) ∙ ap (place text) (rest-at text i) ∙ place-drop text (i + 1) (omega arith) ∙ ap (λ n. n + 1) q;
-            within = omega arith;
-          }
-      by false k = not-found (ap is-found (sym (now false k)) ∙ h)
-
-  pub group-enclosed :
-      (d at : ℕ) → PartAt A text m-group d at → getD text at 0 ≡ code "("
-      → (1 ≤ d) × Enclosed (read A m-alternation (d - 1) (drop (at + 1) text)) (read A m-group d (drop at text))
-  unfolding grouped
-  group-enclosed zero at h k =
-      not-found (ap is-found (sym (by-open zero at true (eq-eqb (getD text at 0) (code "(") k))) ∙ h)
-  group-enclosed (suc d) at h k =
-      let z : suc d - 1 ≡ d = omega arith in
-      let e =
-      by-open (suc d) at true (eq-eqb (getD text at 0) (code "(") k)
-      ∙ ap (λ s. then (read A m-alternation d s) (λ t s. closing (next ")" s) t s)) (rest-at text at) in
-      let y = read A m-alternation d (drop (at + 1) text) in
-      let f = then-first (λ t s. closing (next ")" s) t s) y (ap is-found (sym e) ∙ h) in (
-        omega arith,
-        rw z (closed-by d (at + 1) (endAt A text m-alternation d (at + 1)) (read A m-group (suc d) (drop at text)) refl f (e ∙ then-is (λ t s. closing (next ")" s) t s) (set (only [])) y f) h),
-      )

@@ -8,8 +8,8 @@ use native.Mathlib.Omega.{arith}
 use lib.ListN.{length}
 use Rattle.lists.specs.Written.{Stored, stored-then, stored-size}
 use Rattle.relation.specs.Sets.{member, arc, Union, Linked}
-use Rattle.positions.specs.Opened.{Opened, joining, alternation, optional, plus, labels}
-use Rattle.positions.specs.Numbered.{Positions, joint, choice, perhaps, again, numbered}
+use Rattle.positions.specs.Opened.{Opened, joining, alternation, labels}
+use Rattle.positions.specs.Numbered.{Positions, joint, choice, again, numbered}
 use Rattle.positions.specs.Equations.{Same}
 use Rattle.build.specs.Copies.{spared, looped, Alike}
 use Rattle.build.specs.declared.Built.{Built}
@@ -144,7 +144,9 @@ module _ (f g : List (List Bool)) where
         }
 
     -- the same letters, though the empty word may have been added
-    shows-spared : (q : Bool) (x : Built) (e : ℕ) (s : Bool) → Spared a s e x → (s || p .nullable) ≡ q → Shows (record { nullable = q; first = p .first; last = p .last; follow = p .follow }) x f g
+    shows-spared :
+        (q : Bool) (x : Built) (e : ℕ) (s : Bool) → Spared a s e x → (s || p .nullable) ≡ q
+        → Shows (record { nullable = q; first = p .first; last = p .last; follow = p .follow }) x f g
     shows-spared q x e s o z =
         record {
           nullable = o .nullable ∙ ap (λ t. s || t) (u .nullable) ∙ z;
@@ -228,7 +230,9 @@ module _ {n : ℕ} {r : Opened} {e : ℕ} {f g : List (List Bool)} {old mid : Li
       }
 
 -- Room for a part, and for what follows it.
-pub room-first : {A : List ℕ} {r : Opened} {n : ℕ} {marks : List ℕ} {f : List (List Bool)} (s : Opened) → length (labels s) ≤ length (labels r) → Room A r n marks f → Room A s n marks f
+pub room-first :
+    {A : List ℕ} {r : Opened} {n : ℕ} {marks : List ℕ} {f : List (List Bool)} (s : Opened) → length (labels s) ≤ length (labels r) → Room A r n marks f
+    → Room A s n marks f
 room-first s l o = let k = o .few in record { alphabet = o .alphabet; few = omega arith; labelled = o .labelled; rows = o .rows }
 
 pub room-next :

@@ -1,5 +1,5 @@
 -- The whole text as it is built: the arrays tell the automaton of its tree. Assumes nothing.
-use Prim.Native.Nat.{ℕ, zero, suc, _-_, _≤_, _<_}
+use Prim.Native.Nat.{ℕ, zero, suc, _-_, _≤_}
 use mathlib.Core.Path.{_≡_, refl, sym, ap, _∙_}
 use mathlib.Core.Bool.{Bool, true, false, _||_}
 use mathlib.Core.List.{List, [], _∷_}
@@ -8,7 +8,6 @@ use lib.ListN.{length, getD, replicate}
 use Rattle.lists.specs.Written.{Stored, stored-at}
 use Rattle.relation.specs.Sets.{member, arc}
 use Rattle.expression.specs.Tree.{only, Tree, set}
-use Rattle.expression.specs.Text.{then}
 use Rattle.expression.specs.Letters.{lettersOf}
 use Rattle.expression.specs.Read.{m-alternation, read, whole, expressionOf}
 use Rattle.positions.specs.Opened.{Opened, opened, labels}

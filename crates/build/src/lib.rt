@@ -1,6 +1,7 @@
 // Builds the position automaton of an expression's text as arrays (document 01, "Opening and the compiled form"): the labels of the
 // letters, the follow relation as one row a letter, and which letters may be first and last. The letter of number i stands at index i - 1.
-// Alternation, branch, piece and group call each other over a text that reads. A repeated piece is gone through once for each copy.
+// Alternation, branch, piece and group call each other over a text that reads; a repeated piece is gone through once for each copy. At
+// each call the unread text falls, or stays and the next closer part or the next copy is asked for.
 mod parts; // parts.rt: parts put together
 mod token; // token.rt: a set or a repetition at a place
 
@@ -30,11 +31,11 @@ pub struct Built {
 }
 
 // A repetition: at least and at most so many copies are built, the last with arcs back or without; then where it ends.
-pub struct Copies {
-    pub least: usize,
-    pub most: usize,
-    pub onward: bool,
-    pub end: usize,
+struct Copies {
+    least: usize,
+    most: usize,
+    onward: bool,
+    end: usize,
 }
 
 // Branches with `|` between them, behind so many letters.

@@ -8,11 +8,12 @@ use borrow.Author.Needs.{needs}
 use Rattle.lists.specs.Written.{stored-size}
 use Rattle.expression.specs.Read.{m-branch, m-piece}
 use Rattle.tokens.specs.Place.{byte-is}
-use Rattle.build.specs.Made.{reading, branch-found, piece-found, group-found}
-use Rattle.build.specs.Turns.{branch-room, alternation-found, alternation-room, alternation-returns-branch, alternation-returns-choice}
-use Rattle.build.specs.Turns.{first-copy, piece-room, next-found, next-room, branch-returns-piece, branch-returns-joint}
-use Rattle.build.specs.Turns.{few-copies, group-room, count-found, more-left, left-room, piece-returns-last, piece-returns-more}
-use Rattle.build.specs.Turns.{set-found, set-room, deep, content-found, content-within, content-room, group-returns-set, group-returns-content}
+use Rattle.build.specs.Made.{reading, branch-found, piece-found}
+use Rattle.build.specs.Pieces.{group-found}
+use Rattle.build.specs.BranchTurns.{branch-room, alternation-found, alternation-room, alternation-returns-branch, alternation-returns-choice}
+use Rattle.build.specs.BranchTurns.{first-copy, piece-room, next-found, next-room, branch-returns-piece, branch-returns-joint}
+use Rattle.build.specs.PieceTurns.{few-copies, group-room, count-found, more-left, left-room, piece-returns-last, piece-returns-more}
+use Rattle.build.specs.PieceTurns.{set-found, set-room, deep, content-found, content-within, content-room, group-returns-set, group-returns-content}
 use Prim.Native.Nat.{ℕ, _+_, _*_, _-_, _<_}
 use borrow.Fn.Kinds.{In}
 use borrow.Fn.PlainCycle.{Measures, is, falls, and}

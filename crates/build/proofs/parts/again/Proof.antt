@@ -1,7 +1,5 @@
 -- `build::parts::again` meets its contract. Assumes nothing.
 use native.Mathlib.Omega.{arith}
-use mathlib.Core.Path.{_≡_}
-use lib.ListN.{length}
 use borrow.Author.Needs.{needs}
 use Rattle.build.specs.Shown.{looped-on, looped-off}
 use Rattle.build.proofs.parts.again.Statement.{statement}
@@ -14,11 +12,7 @@ slice-aggregate-link-2 : tie.Need-slice-aggregate-link-2
 slice-aggregate-link-2 c = search needs
 
 link-requires : tie.Need-link-requires
-link-requires c κs =
-    let a = c .before .before .before .before .before .before .args .a in
-    let l : 127 ≡ length (a .last) = slice-aggregate-link (c .before) in
-    let f : 127 ≡ length (a .first) = slice-aggregate-link-2 c in
-    omega arith
+link-requires c κs = omega (arith, slice-aggregate-link (c .before), slice-aggregate-link-2 c)
 
 same-length : tie.Need-same-length
 same-length c = search needs

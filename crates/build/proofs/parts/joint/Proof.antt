@@ -1,7 +1,5 @@
 -- `build::parts::joint` meets its contract. Assumes nothing.
 use native.Mathlib.Omega.{arith}
-use mathlib.Core.Path.{_≡_}
-use lib.ListN.{length}
 use borrow.Author.Needs.{needs}
 use Rattle.build.proofs.parts.joint.Statement.{statement}
 use Rattle.build.proofs.parts.joint.Tie as tie
@@ -13,11 +11,7 @@ slice-aggregate-link-2 : tie.Need-slice-aggregate-link-2
 slice-aggregate-link-2 c = search needs
 
 link-requires : tie.Need-link-requires
-link-requires c κs =
-    let s = c .before .before .before .before .before .args in
-    let l : 127 ≡ length (s .a .last) = slice-aggregate-link (c .before) in
-    let f : 127 ≡ length (s .b .first) = slice-aggregate-link-2 c in
-    omega arith
+link-requires c κs = omega (arith, slice-aggregate-link (c .before), slice-aggregate-link-2 c)
 
 merged-requires : tie.Need-merged-requires
 merged-requires c κs = search needs

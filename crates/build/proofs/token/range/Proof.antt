@@ -1,7 +1,7 @@
 -- `build::token::range` meets its contract: the letters up to i are marked. Assumes nothing.
 use Prim.Native.Nat.{_≤_, _-_}
 use native.Mathlib.Omega.{arith}
-use mathlib.Core.Path.{_≡_, refl, sym, subst, _∙_}
+use mathlib.Core.Path.{_≡_, refl, subst}
 use lib.ListN.{length, length-set}
 use Rattle.build.specs.Letters.{Ranged, range-none, range-more}
 use Rattle.build.proofs.token.range.Statement.{statement}

@@ -1,7 +1,7 @@
 -- `build::token::write_labels` meets its contract: what stands in front, what is written and the labels still to come make the whole.
 -- Assumes nothing.
 use Prim.Native.Nat.{_+_, _-_, _≤_}
-use mathlib.Core.Path.{sym, ap, ap₂, subst, _∙_}
+use mathlib.Core.Path.{subst}
 use mathlib.Core.List.{[], _++_}
 use native.Mathlib.Omega.{arith}
 use lib.ListN.{length, take}
