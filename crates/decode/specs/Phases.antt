@@ -10,7 +10,6 @@ use Rattle.lists.specs.Written.{written, written-none, Wrote}
 use Rattle.refusal.specs.declared.Refusal.the-variants.{NoReading}
 use Rattle.refusal.specs.Report.{turned-away}
 use Rattle.ctc.specs.Collapse.{collapse}
-use Rattle.automaton.specs.Automaton.{Accepts}
 use Rattle.automaton.specs.Form.{view, lettersOf, alphabetOf}
 use Rattle.automaton.specs.Valid.{Valid, valid-proper}
 use Rattle.reading.specs.Matrix.{Matrix, price}
@@ -23,7 +22,7 @@ use Rattle.table.specs.Fill.{Sized, Filled, states}
 use Rattle.trace.specs.Traced.{Ready, Traced, traced-front}
 use Rattle.decode.specs.Checks.{needed}
 use Rattle.decode.specs.Passing.{Fits}
-use Rattle.decode.specs.Promise.{Lent, rooms, decoded, outcome-report, path-of, word-of, Answers}
+use Rattle.decode.specs.Promise.{Lent, rooms, read, Answers, DecodeAnswers}
 
 module _ {f : List ℕ} (valid : Valid f) {M : Matrix} (before : Lent) (fits : Fits (alphabetOf f) (lettersOf f) M (rooms before)) where
   pub sized : Sized f M (before .work) (states f)
@@ -32,8 +31,8 @@ module _ {f : List ℕ} (valid : Valid f) {M : Matrix} (before : Lent) (fits : F
   module _ {work : List ℕ} {v : ℕ} (filled : Filled f M (before .work) work v) where
     -- nothing to read
     pub nothing :
-        TOP ≤ v → Answers (Accepts (view f)) M (needed (M .count) (lettersOf f)) before (record { path = before .path; word = before .word; work = work }) (turned-away NoReading)
-    nothing h =
+        TOP ≤ v → length work ≡ length (before .work) → DecodeAnswers f M before (record { path = before .path; word = before .word; work = work }) (turned-away NoReading)
+    nothing h l =
         record {
           outcome = none;
           is = outcome-none (valid-proper f valid) M (fits .wide) (fits .few) (fits .pass) (filled .price) .0 (let w = filled .price .within in omega arith);
@@ -41,6 +40,7 @@ module _ {f : List ℕ} (valid : Valid f) {M : Matrix} (before : Lent) (fits : F
           path = sym (written-none (before .path));
           word = sym (written-none (before .word));
           work = filled .behind;
+          size = l;
         }
 
     module _ (below : v < TOP) where
@@ -69,18 +69,19 @@ module _ {f : List ℕ} (valid : Valid f) {M : Matrix} (before : Lent) (fits : F
       module _ {path : List ℕ} (traced : Traced (view f) M (before .path) path) where
         -- the path, its word and its price
         pub something :
-            {word : List ℕ} {n : ℕ} → Wrote (collapse (take (M .count) path)) (before .word) word n
-            → Answers (Accepts (view f)) M (needed (M .count) (lettersOf f)) before (record { path = path; word = word; work = work }) (decoded v n)
-        something {word} {n} wrote =
+            {word : List ℕ} {n : ℕ} → length work ≡ length (before .work) → Wrote (collapse (take (M .count) path)) (before .word) word n
+            → DecodeAnswers f M before (record { path = path; word = word; work = work }) (read v n 0)
+        something {word} {n} l wrote =
             let best = outcome-best (valid-proper f valid) M (fits .wide) (fits .few) (fits .pass) (filled .price) below (traced .path) (traced .best) in
             let same = ap collapse (traced-front traced) in
             record {
               outcome = some (traced .path);
               is = best;
               answered =
-                  ap₂ decoded (sym (outcome-price (valid-proper f valid) M (fits .wide) (fits .few) (fits .pass) (filled .price) (traced .path) best))
+                  ap₂ (λ p n. read p n 0) (sym (outcome-price (valid-proper f valid) M (fits .wide) (fits .few) (fits .pass) (filled .price) (traced .path) best))
                   (wrote .count ∙ ap length same);
               path = traced .memory;
               word = wrote .memory ∙ ap (λ w. written w (before .word)) same;
               work = filled .behind;
+              size = l;
             }

@@ -29,51 +29,61 @@ pub record Lent : Type 0 where
 abbrev pub rooms : Lent → Rooms
 rooms m = record { path = length (m .path); word = length (m .word); work = length (m .work) }
 
--- the price and the length of a path's word
-abbrev pub decoded : (price length : ℕ) → Report
-decoded p n = record { number = 0; price = p; filled = n; form = 0 }
+-- the price, the length of the word, and that of the form where one was compiled
+abbrev pub read : (price length form : ℕ) → Report
+read p n k = record { number = 0; price = p; filled = n; form = k }
 
 -- what Decode's answer reports
 abbrev pub reported : Decoded → Report
-reported (answer.Path p n) = decoded p n
+reported (answer.Path p n) = read p n 0
 reported (answer.Refused n) = turned-away n
 
 -- What is reported of an outcome, and what stands in path and word memory.
 
-abbrev pub outcome-report : Matrix → Option (List ℕ) → Report
-outcome-report M none = turned-away NoReading
-outcome-report M (some p) = decoded (price M p) (length (collapse p))
+abbrev pub outcome-report : (form : ℕ) → Matrix → Option (List ℕ) → Report
+outcome-report k M none = turned-away NoReading
+outcome-report k M (some p) = read (price M p) (length (collapse p)) k
 
 abbrev pub path-of : Option (List ℕ) → List ℕ
 path-of none = []
 path-of (some p) = p
 
-abbrev pub word-of : Option (List ℕ) → List ℕ
-word-of none = []
-word-of (some p) = collapse p
+abbrev pub word-of : (spelt : List ℕ → List ℕ) → Option (List ℕ) → List ℕ
+word-of spelt none = []
+word-of spelt (some p) = spelt (collapse p)
 
--- Past the checks: the outcome for this set of words, reported and written; the work words that are not needed are as they were.
-pub record Answers (Word : List ℕ → Type 0) (M : Matrix) (need : ℕ) (before after : Lent) (answer : Report) : Type 0 where
+-- a word as labels
+abbrev pub labels : List ℕ → List ℕ
+labels w = w
+
+-- Past the checks: the outcome for this set of words, reported, and written with the word as `spelt` has it; the work words that are not
+-- needed are as they were.
+pub record Answers (Word : List ℕ → Type 0) (spelt : List ℕ → List ℕ) (form : ℕ) (M : Matrix) (need : ℕ) (before after : Lent) (answer : Report) : Type 0 where
   pub outcome : Option (List ℕ)
   pub is : Outcome Word M outcome
-  pub answered : answer ≡ outcome-report M outcome
+  pub answered : answer ≡ outcome-report form M outcome
   pub path : after .path ≡ written (path-of outcome) (before .path)
-  pub word : after .word ≡ written (word-of outcome) (before .word)
+  pub word : after .word ≡ written (word-of spelt outcome) (before .word)
   pub work : drop need (after .work) ≡ drop need (before .work)
+  pub size : length (after .work) ≡ length (before .work)
 
 -- A refusal by the checks: its number, zeros, and all memory as it was.
-abbrev pub Checks : Checked → (Word : List ℕ → Type 0) (M : Matrix) (need : ℕ) (before after : Lent) (answer : Report) → Type 0
-Checks (Refused n) Word M need before after answer = (answer ≡ turned-away n) × (after ≡ before)
-Checks Passed Word M need before after answer = Answers Word M need before after answer
+abbrev pub Checks : Checked → (Passes : (before after : Lent) (answer : Report) → Type 0) (before after : Lent) (answer : Report) → Type 0
+Checks (Refused n) Passes before after answer = (answer ≡ turned-away n) × (after ≡ before)
+Checks Passed Passes before after answer = Passes before after answer
 
-module _ (c : Checked) (Word : List ℕ → Type 0) (M : Matrix) (need : ℕ) where
-  pub checks-refused : (n : Refusal) (memory : Lent) → c ≡ Refused n → Checks c Word M need memory memory (turned-away n)
+module _ (c : Checked) (Passes : (before after : Lent) (answer : Report) → Type 0) where
+  pub checks-refused : (n : Refusal) (memory : Lent) → c ≡ Refused n → Checks c Passes memory memory (turned-away n)
   checks-refused n memory e = rw e (refl, refl)
 
-  pub checks-passed : (before after : Lent) (answer : Report) → c ≡ Passed → Answers Word M need before after answer → Checks c Word M need before after answer
+  pub checks-passed : (before after : Lent) (answer : Report) → c ≡ Passed → Passes before after answer → Checks c Passes before after answer
   checks-passed before after answer e h = rw e h
+
+-- what Decode answers past its checks
+abbrev pub DecodeAnswers : (form : List ℕ) (M : Matrix) (before after : Lent) (answer : Report) → Type 0
+DecodeAnswers f M = Answers (Accepts (view f)) labels 0 M (needed (M .count) (lettersOf f))
 
 -- Decode's promise
 abbrev pub Decodes : (form : List ℕ) (M : Matrix) (before after : Lent) (answer : Report) → Type 0
 Decodes f M before after answer =
-    Checks (first-of (decode-checks f M (rooms before))) (Accepts (view f)) M (needed (M .count) (lettersOf f)) before after answer
+    Checks (first-of (decode-checks f M (rooms before))) (DecodeAnswers f M) before after answer

@@ -11,13 +11,12 @@ ghost use Prim.Native.Nat.{ℕ, _+_, _*_, _<_, _≤_};
 ghost use lib.ListN.{length};
 ghost use Rattle.lists.specs.Each.{all};
 ghost use Rattle.refusal.specs.Verdict.{first-of};
-ghost use Rattle.automaton.specs.Automaton.{Accepts};
-ghost use Rattle.automaton.specs.Form.{view, alphabetOf, lettersOf};
+ghost use Rattle.automaton.specs.Form.{alphabetOf, lettersOf};
 ghost use Rattle.automaton.specs.Valid.{Valid};
 ghost use Rattle.reading.specs.Matrix.{matrix};
-ghost use Rattle.decode.specs.Checks.{passes, needed, matrix-fault, matrix-checks};
+ghost use Rattle.decode.specs.Checks.{passes, matrix-fault, matrix-checks};
 ghost use Rattle.decode.specs.Passing.{Fits};
-ghost use Rattle.decode.specs.Promise.{rooms, Answers, Decodes, reported};
+ghost use Rattle.decode.specs.Promise.{rooms, DecodeAnswers, Decodes, reported};
 
 // What Decode answers: the price of the path and the length of its word, or why it turned the input away.
 pub enum Decoded {
@@ -96,7 +95,7 @@ pub fn decode_valid(
     work: &mut [u32],
 ) -> Decoded
     requires { ⌜ Valid (now form) × Fits (alphabetOf (now form)) (lettersOf (now form)) (matrix (now costs) width count) (rooms (record { path = now path; word = now word; work = now work })) ⌝ }
-    ensures { λ r. ⌜ Answers (Accepts (view (now (form .entry)))) (matrix (now (costs .entry)) width count) (needed count (lettersOf (now (form .entry)))) (record { path = now (path .entry); word = now (word .entry); work = now (work .entry) }) (record { path = now (path .exit); word = now (word .exit); work = now (work .exit) }) (reported r) ⌝ }
+    ensures { λ r. ⌜ DecodeAnswers (now (form .entry)) (matrix (now (costs .entry)) width count) (record { path = now (path .entry); word = now (word .entry); work = now (work .entry) }) (record { path = now (path .exit); word = now (word .exit); work = now (work .exit) }) (reported r) ⌝ }
 {
     let stride = 2 * letters(form) + 1;
     let price = table::fill(form, costs, width, count, work);

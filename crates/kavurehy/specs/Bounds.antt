@@ -24,9 +24,9 @@ use Rattle.automaton.specs.Automaton.{Accepts}
 use Rattle.automaton.specs.Form.{validForm, view, lettersOf, alphabetOf}
 use Rattle.reading.specs.Matrix.{Matrix}
 use Rattle.reading.specs.Reading.{Outcome}
-use Rattle.decode.specs.Checks.{needed, matrix-checks, decode-checks}
+use Rattle.decode.specs.Checks.{matrix-checks, decode-checks}
 use Rattle.decode.specs.Passing.{fits}
-use Rattle.decode.specs.Promise.{Lent, rooms, Checks, Decodes, outcome-report}
+use Rattle.decode.specs.Promise.{Lent, rooms, Checks, DecodeAnswers, Decodes, outcome-report}
 
 -- Collapse and Spread: what passes the checks is short.
 module _ (few : ℕ) (w : List ℕ) where
@@ -57,13 +57,13 @@ spread-fits k word room =
 
 -- Decode: the word is no longer than the path, which has a label for each of at most 255 columns.
 module _ (f : List ℕ) (M : Matrix) (before after : Lent) (answer : Report) where
-  outcome-fits : M .count ≤ 255 → (o : Option (List ℕ)) → Outcome (Accepts (view f)) M o → outcome-report M o .filled ≤ 255
+  outcome-fits : M .count ≤ 255 → (o : Option (List ℕ)) → Outcome (Accepts (view f)) M o → outcome-report 0 M o .filled ≤ 255
   outcome-fits few none h = omega arith
   outcome-fits few (some p) h = let e = h .qualifies .path .one-each in omega (arith, collapse-shorter p)
 
   checks-fit :
       (c : Checked) → first-of (decode-checks f M (rooms before)) ≡ c
-      → Checks c (Accepts (view f)) M (needed (M .count) (lettersOf f)) before after answer → answer .filled ≤ 255
+      → Checks c (DecodeAnswers f M) before after answer → answer .filled ≤ 255
   checks-fit (Refused n) e h = let q = ap (λ (r : Report). r .filled) (h .0) in omega arith
   checks-fit Passed e h =
       let past = first-passed (not (validForm f)) BadForm (matrix-checks (alphabetOf f) (lettersOf f) M (rooms before)) e in

@@ -7,13 +7,12 @@ use borrow.Author.Tests.{not-true, not-false}
 use denote.Ref.{now}
 use Rattle.refusal.specs.declared.Refusal.the-variants.{BadForm}
 use Rattle.refusal.specs.Verdict.{first-of, first-holds, first-fails}
-use Rattle.automaton.specs.Automaton.{Accepts}
-use Rattle.automaton.specs.Form.{validForm, view, alphabetOf, lettersOf}
+use Rattle.automaton.specs.Form.{validForm, alphabetOf, lettersOf}
 use Rattle.automaton.specs.Valid.{Valid, valid-at}
 use Rattle.reading.specs.Matrix.{Matrix, matrix}
-use Rattle.decode.specs.Checks.{needed, matrix-checks, decode-checks}
+use Rattle.decode.specs.Checks.{matrix-checks, decode-checks}
 use Rattle.decode.specs.Passing.{fits}
-use Rattle.decode.specs.Promise.{Lent, rooms, checks-refused, checks-passed}
+use Rattle.decode.specs.Promise.{Lent, rooms, DecodeAnswers, checks-refused, checks-passed}
 use Rattle.decode.proofs.decode.Statement.{statement}
 use Rattle.decode.proofs.decode.Tie as tie
 
@@ -30,7 +29,7 @@ returns : tie.Need-returns
 returns c =
     let s = c .before .before .before .before .before .before .before in
     let f = now (s .args .form) in
-    checks-refused (first-of (decode-checks f (costs s) (rooms (lent s)))) (Accepts (view f)) (costs s) (needed (s .args .count) (lettersOf f)) BadForm (lent s)
+    checks-refused (first-of (decode-checks f (costs s) (rooms (lent s)))) (DecodeAnswers f (costs s)) BadForm (lent s)
     (first-holds (not (validForm f)) BadForm (matrix-checks (alphabetOf f) (lettersOf f) (costs s) (rooms (lent s)))
     (ap not (sym (c .before .valid .ensures) ∙ not-true _ (c .if1 .taken))))
 
@@ -88,7 +87,7 @@ returns-2 c =
     let s = c .before .before .before .before .before .before .before .before .before .before .before .before .before in
     let f = now (s .args .form) in
     let m = c .before .before .before in
-    checks-refused (first-of (decode-checks f (costs s) (rooms (lent s)))) (Accepts (view f)) (costs s) (needed (s .args .count) (lettersOf f)) (c .before .r .given .0 .0) (lent s)
+    checks-refused (first-of (decode-checks f (costs s) (rooms (lent s)))) (DecodeAnswers f (costs s)) (c .before .r .given .0 .0) (lent s)
     (whole m ∙ c .before .r .given .1)
 
 same-length : tie.Need-same-length
@@ -106,7 +105,7 @@ returns-3 c =
     let f = now (s .args .form) in
     let m = c .before .before .before .before .before .before .before .before .before .before .before .before in
     let read = c .before .before .before .before .before .before .decode-valid in
-    checks-passed (first-of (decode-checks f (costs s) (rooms (lent s)))) (Accepts (view f)) (costs s) (needed (s .args .count) (lettersOf f)) (lent s) _ _
+    checks-passed (first-of (decode-checks f (costs s) (rooms (lent s)))) (DecodeAnswers f (costs s)) (lent s) _ _
     (whole m ∙ c .before .before .before .before .before .before .before .before .before .before .enum-told .given .1) (read .ensures)
 
 pub decode-spec : {M : Type 1} → statement M

@@ -30,7 +30,7 @@ same-length : tie.Need-same-length
 same-length c = c .before .before .before .fill .kept .1 .1 .1 .1 .0
 
 returns : tie.Need-returns
-returns c = let s = c .before .before .before .before .before .before .before .before .before .before .before in nothing (s .pre .0) (lent s) (s .pre .1) (c .before .before .before .fill .ensures) (c .if1 .taken)
+returns c = let s = c .before .before .before .before .before .before .before .before .before .before .before in nothing (s .pre .0) (lent s) (s .pre .1) (c .before .before .before .fill .ensures) (c .if1 .taken) (c .before .before .before .fill .kept .1 .1 .1 .1 .0)
 
 trace-requires : tie.Need-trace-requires
 trace-requires c κs =
@@ -69,7 +69,8 @@ same-length-4 c = search needs
 returns-2 : tie.Need-returns-2
 returns-2 c =
     let s = c .before .before .before .before .before .before .before .before .before .before .before .before .before .before .before .before .before .before .before .before .before in
-    something (s .pre .0) (lent s) (s .pre .1) (c .before .before .before .before .before .before .before .before .before .before .before .before .before .fill .ensures) (c .before .before .before .before .before .before .before .before .before .before .if1 .left) (c .before .before .before .before .before .before .before .trace .ensures) (c .before .before .write-collapse .ensures)
+    something (s .pre .0) (lent s) (s .pre .1) (c .before .before .before .before .before .before .before .before .before .before .before .before .before .fill .ensures) (c .before .before .before .before .before .before .before .before .before .before .if1 .left) (c .before .before .before .before .before .before .before .trace .ensures)
+    (c .before .before .before .before .before .before .before .before .before .before .before .before .before .fill .kept .1 .1 .1 .1 .0) (c .before .before .write-collapse .ensures)
 
 pub decode-valid-spec : {M : Type 1} → statement M
 decode-valid-spec =
