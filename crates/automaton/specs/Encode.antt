@@ -78,11 +78,11 @@ module _ (A : Automaton) where
 
 -- From an automaton to its form.
 module _ (k : ℕ) (A : Automaton) (proper : Proper k A) (some : 1 ≤ A .letters) (few : A .letters ≤ 127) (low : 1 ≤ k) (high : k ≤ 95) where
-  letters-same : lettersOf (encode k A) ≡ A .letters
+  pub letters-same : lettersOf (encode k A) ≡ A .letters
   unfolding encode
   letters-same = head-fields (A .letters) (A .ends 0) k (omega arith) (omega arith) .0
 
-  alphabet-same : alphabetOf (encode k A) ≡ k
+  pub alphabet-same : alphabetOf (encode k A) ≡ k
   unfolding encode
   alphabet-same = head-fields (A .letters) (A .ends 0) k (omega arith) (omega arith) .2
 

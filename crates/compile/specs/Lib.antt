@@ -3,3 +3,4 @@ pub mod Meaning
 pub mod Tests
 pub mod Turns
 pub mod Steps
+pub mod Examples

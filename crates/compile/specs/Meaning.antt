@@ -8,12 +8,13 @@ use mathlib.Core.List.{List, [], _∷_}
 use native.Mathlib.Omega.{arith}
 use lib.ListN.{length}
 use lib.Dec.{leb, ltb}
-use borrow.Author.Tests.{leb-true, ltb-false, not-false}
+use borrow.Author.Tests.{leb-true, ltb-false, le-ltb, not-false}
 use Rattle.lists.specs.Order.{and-left, and-right}
 use Rattle.lists.specs.Each.{all}
 use Rattle.refusal.specs.declared.Refusal.{Refusal}
 use Rattle.refusal.specs.declared.Refusal.the-variants.{Alphabet, TextLength, TextByte, Letters, FormMemory}
-use Rattle.refusal.specs.Verdict.{Verdict, passed, refused, Check, check, unless, then}
+use Rattle.refusal.specs.Verdict.{Verdict, passed, refused, Check, check, unless, unless-neither, then, first-of, first-all}
+use Rattle.refusal.specs.declared.Checked.the-variants.{Passed}
 use Rattle.automaton.specs.Automaton.{Accepts}
 use Rattle.automaton.specs.Form.{validForm, view, lettersOf as formLetters, alphabetOf}
 use Rattle.labels.specs.Calls.{between}
@@ -21,14 +22,19 @@ use Rattle.expression.specs.Tree.{Tree}
 use Rattle.expression.specs.Text.{Reads, found, fault}
 use Rattle.expression.specs.Letters.{lettersOf}
 use Rattle.expression.specs.Read.{expressionOf}
-use Rattle.expression.specs.Grammar.{WordsOf}
+use Rattle.expression.specs.Grammar.{TextOf, WordsOf}
 use Rattle.expression.specs.Exact.{exact, words-of-text, expression-whole}
 use Rattle.expression.specs.Sense.{sensible}
-use Rattle.positions.specs.Compiled.{formOf, form-valid, form-words}
+use Rattle.positions.specs.Compiled.{formOf, form-valid, form-alphabet, form-letters, form-words}
 use Rattle.compile.specs.Call.{distinct, is-alphabet, text-checks, formed, read-form, compile-call}
 
+-- the form f is that of the text s over the alphabet A: valid, with its K and L, and with the text's words
 pub record Means (A s f : List ℕ) : Type 0 where
   pub valid : validForm f ≡ true
+  pub alphabet : alphabetOf f ≡ length A
+  pub tree : Tree
+  pub text : TextOf A 16 tree s
+  pub letters : formLetters f ≡ lettersOf A tree
   pub words : (w : List ℕ) → Accepts (view f) w ↔ WordsOf A s w
 
 -- what passed a list of checks, passed each
@@ -54,6 +60,10 @@ module _ (A s : List ℕ) (room : ℕ) (f : List ℕ) where
       subst (Means A s) same
       (record {
         valid = form-valid A t o low high few;
+        alphabet = form-alphabet A t o low high few;
+        tree = t;
+        text = exact A s t .0 whole;
+        letters = form-letters A t o low high few;
         words = λ w. Iff·trans (form-words A t o low high few w) (Iff·symm (words-of-text A s t whole w));
       })
 
@@ -71,3 +81,13 @@ module _ (A s : List ℕ) (room : ℕ) (f : List ℕ) where
           let size = and-left (between 1 95 (length A)) (all (between 32 126) A && distinct A) (not-false (is-alphabet A) (a .0)) in
           tree (leb-true 1 (length A) (and-left (leb 1 (length A)) (leb (length A) 95) size)) (leb-true (length A) 95 (and-right (leb 1 (length A)) (leb (length A) 95) size))
           (expressionOf A s) refl (rw (sym (unless-same s s′ (c .1))) at g)
+
+  -- The other way: what no row turns away compiles.
+  pub compiles :
+      (t : Tree) → first-of (text-checks A s) ≡ Passed → TextOf A 16 t s → lettersOf A t ≤ 127 → length (formOf A t) ≤ room
+      → compile-call A s room ≡ passed (formOf A t)
+  unfolding compile-call then
+  compiles t e x h l =
+      ap (λ v. then v (λ s. read-form A room (expressionOf A s))) (first-all s (text-checks A s) e)
+      ∙ ap (read-form A room) (exact A s t .1 x)
+      ∙ unless-neither (formOf A t) (ltb 127 (lettersOf A t)) (ltb room (length (formOf A t))) Letters FormMemory (le-ltb 127 (lettersOf A t) h) (le-ltb room (length (formOf A t)) l)

@@ -1,15 +1,15 @@
 -- The compiled form of a tree (document 01, "Opening and the compiled form"): it is valid, and stands for the tree's words.
 -- Assumes nothing.
 use Prim.Native.Nat.{ℕ, _≤_}
-use mathlib.Core.Path.{_≡_}
+use mathlib.Core.Path.{_≡_, _∙_}
 use mathlib.Core.Logic.{_↔_, Iff·trans, Iff·symm}
 use mathlib.Core.Bool.{true}
 use mathlib.Core.List.{List}
 use native.Mathlib.Omega.{arith}
 use lib.ListN.{length}
 use Rattle.automaton.specs.Automaton.{Accepts}
-use Rattle.automaton.specs.Form.{encode, validForm, view}
-use Rattle.automaton.specs.Encode.{encode-valid, encode-accepts}
+use Rattle.automaton.specs.Form.{encode, validForm, view, alphabetOf, lettersOf as formLetters}
+use Rattle.automaton.specs.Encode.{encode-valid, encode-accepts, letters-same, alphabet-same}
 use Rattle.expression.specs.Tree.{Tree, Words}
 use Rattle.expression.specs.Letters.{lettersOf}
 use Rattle.expression.specs.Sense.{Sensible, letters-some}
@@ -30,6 +30,17 @@ module _ (A : List ℕ) (t : Tree) (o : Sensible A t) (low : 1 ≤ length A) (hi
   form-valid =
       encode-valid (length A) (automatonOf A t) (automaton-proper A t)
       (omega (arith, automaton-letters A t o, letters-some A t o)) (omega (arith, automaton-letters A t o)) low high
+
+  pub form-alphabet : alphabetOf (formOf A t) ≡ length A
+  form-alphabet =
+      alphabet-same (length A) (automatonOf A t) (automaton-proper A t)
+      (omega (arith, automaton-letters A t o, letters-some A t o)) (omega (arith, automaton-letters A t o)) low high
+
+  pub form-letters : formLetters (formOf A t) ≡ lettersOf A t
+  form-letters =
+      letters-same (length A) (automatonOf A t) (automaton-proper A t)
+      (omega (arith, automaton-letters A t o, letters-some A t o)) (omega (arith, automaton-letters A t o)) low high
+      ∙ automaton-letters A t o
 
   pub form-words : (w : List ℕ) → Accepts (view (formOf A t)) w ↔ Words A t w
   form-words w =

@@ -1,0 +1,56 @@
+-- Document 01's compile lines, and ties of refusals, computed from the definitions. Assumes nothing.
+use Prim.Native.Nat.{ℕ}
+use Prim.Native.String.{String}
+use mathlib.Core.Path.{_≡_, refl}
+use mathlib.Core.Bool.{Bool, true, false, _&&_}
+use mathlib.Core.List.{List, [], _∷_, flatMap}
+use lib.ListN.{length}
+use lib.Dec.{eqb}
+use Rattle.lists.specs.Each.{all}
+use Rattle.lists.specs.Among.{any, keep}
+use Rattle.lists.specs.Ascending.{numbers}
+use Rattle.refusal.specs.Number.{numberOf}
+use Rattle.refusal.specs.Verdict.{Verdict, passed, refused, unless, then}
+use Rattle.automaton.specs.Form.{encode}
+use Rattle.expression.specs.Bytes.{bytes}
+use Rattle.expression.specs.Letters.{labelsOf, lettersOf}
+use Rattle.expression.specs.Text.{then as behind, first-of, split, enclosed, provided}
+use Rattle.expression.specs.Sets.{closed, reserved, items, members, inside, bracket, escaped, a-set, labelled-set}
+use Rattle.expression.specs.Repetition.{number, from-on, from-to, comma, counts, sign, repetition}
+use Rattle.expression.specs.Read.{grouped, step, go, read, whole, expressionOf}
+use Rattle.positions.specs.Opened.{anyOf, copies, nested, repeated, opened, labels}
+use Rattle.positions.specs.Numbered.{numbered, positionAutomaton}
+use Rattle.compile.specs.Call.{distinct, compile-call}
+
+-- an alphabet, a text, room for the form, the refusal (0: none) and the length of what is filled
+data Row : Type 0 where
+  row : String → String → ℕ → ℕ → ℕ → Row
+
+said : Verdict (List ℕ) → ℕ → ℕ → Bool
+said (passed f) n l = eqb n 0 && eqb l (length f)
+said (refused m) n l = eqb n (numberOf m)
+
+meets : Row → Bool
+meets (row A s room n l) = said (compile-call (bytes A) (bytes s) room) n l
+
+failing : List Row → List Row
+failing [] = []
+failing (r ∷ rs) = elim (meets r) [ true ↦ failing rs | false ↦ r ∷ [] ]
+
+rows : List Row
+rows =
+    -- the lines to try
+    row "ab" "ab*" 5 0 5 ∷ row "ab" "ab*" 4 10 0 ∷ row "ab" "a{0}" 99 6 0 ∷ row "ab" "a{2,1}" 99 6 0 ∷ row "ab" "a*?" 3 0 3 ∷ row "ab" "a**" 99 4 0
+    ∷ row "ab" "[b-a]" 99 7 0 ∷ row "ab" "c" 99 8 0 ∷ row "ab" "a{128}" 99 9 0
+    -- 1 before 2 before 3 before 4; 3 anywhere before 4; 8 further left before 4; 8 before 9 before 10
+    ∷ row "" "" 0 1 0 ∷ row "aa" "*" 0 1 0 ∷ row "ab" "" 0 2 0 ∷ row "ab" "*\t" 0 3 0 ∷ row "ab" "*" 0 4 0 ∷ row "ab" "c*" 0 8 0 ∷ row "ab" "a{128}c" 0 8 0 ∷ row "ab" "a{128}" 0 9 0 ∷ row "ab" "a" 0 10 0
+    ∷ []
+
+computed : failing rows ≡ []
+unfolding failing meets said rows compile-call distinct then unless all any keep numbers flatMap encode labelsOf lettersOf behind first-of split enclosed provided closed reserved items members inside bracket escaped a-set labelled-set number from-on from-to comma counts sign repetition grouped step go read whole expressionOf anyOf copies nested repeated opened labels numbered positionAutomaton
+computed = refl
+
+-- P: `ab*` in hexadecimal
+five-words : compile-call (bytes "ab") (bytes "ab*") 5 ≡ passed (0x10020002 ∷ 0x20000301 ∷ 0x20000202 ∷ 0x30000102 ∷ 0x30000202 ∷ [])
+unfolding compile-call distinct then unless all any keep numbers flatMap encode labelsOf lettersOf behind first-of split enclosed provided closed reserved items members inside bracket escaped a-set labelled-set number from-on from-to comma counts sign repetition grouped step go read whole expressionOf anyOf copies nested repeated opened labels numbered positionAutomaton
+five-words = refl
