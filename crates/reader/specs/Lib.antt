@@ -1,0 +1,4 @@
+pub mod Promise
+pub mod Memory
+pub mod Spelling
+pub mod Steps
