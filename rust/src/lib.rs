@@ -1,0 +1,162 @@
+//! The proved calls of `libkavurehy.a` behind safe functions: slices in, a [`Result`] with a [`Refusal`] out.
+//!
+//! Every call takes any input. What it cannot take it turns away, with a row of the table of refusals and all lent memory
+//! as it was (but for the needed work words after [`Refusal::NoReading`]). On success the memory behind what was written is
+//! as it was too.
+//!
+//! ```
+//! use kavurehy::{decode, work_words, Matrix};
+//!
+//! // The letter a, then any number of b, over the alphabet ab.
+//! let form = [0x10020002, 0x20000301, 0x20000202, 0x30000102, 0x30000202];
+//! // Two columns, each with the costs of blank, a and b.
+//! let matrix = Matrix { costs: &[5, 1, 9, 5, 9, 2], width: 3, columns: 2 };
+//! let (mut path, mut word) = ([0; 2], [0; 2]);
+//! let mut work = vec![0; work_words(2, 2)];
+//!
+//! let reading = decode(&form, matrix, &mut path, &mut word, &mut work).unwrap();
+//! assert_eq!(reading.price, 3);
+//! assert_eq!(path, [1, 2]);
+//! assert_eq!(word[..reading.length], [1, 2]);
+//! ```
+#![deny(unsafe_op_in_unsafe_fn)]
+
+pub mod raw;
+
+mod refusal;
+
+pub use refusal::Refusal;
+
+/// A matrix of costs: `columns` columns, one after another, each with `width` costs in label order, the blank first.
+#[derive(Clone, Copy, Debug)]
+pub struct Matrix<'a> {
+    pub costs: &'a [u32],
+    pub width: usize,
+    pub columns: usize,
+}
+
+/// What [`decode`] reports: the price of the path and the length of its word.
+#[derive(Clone, Copy, Debug, PartialEq, Eq)]
+pub struct Reading {
+    pub price: u32,
+    pub length: usize,
+}
+
+/// How many work words [`decode`] needs for so many columns and letters.
+pub const fn work_words(columns: usize, letters: usize) -> usize {
+    (columns + 1) * (2 * letters + 1)
+}
+
+/// Does the form accept the word of labels 1 to K?
+///
+/// Refusals: [`Refusal::BadForm`], [`Refusal::Label`].
+pub fn judge(form: &[u32], word: &[u8]) -> Result<bool, Refusal> {
+    let mut accepted = [0];
+    // SAFETY: each pointer comes with its list's length, and `accepted` is of this call alone.
+    let number = unsafe {
+        raw::kavurehy_judge(
+            form.as_ptr(),
+            form.len(),
+            word.as_ptr(),
+            word.len(),
+            &mut accepted,
+        )
+    };
+    Refusal::check(number)?;
+    Ok(accepted[0] == 1)
+}
+
+/// Writes the word that a path of labels 0 to `k` collapses to; its length.
+///
+/// Refusals: [`Refusal::OutputMemory`] below the path's length, [`Refusal::Label`].
+pub fn collapse(k: usize, path: &[u8], word: &mut [u8]) -> Result<usize, Refusal> {
+    let mut counts = [0];
+    // SAFETY: each pointer comes with its list's length; `word` and `counts` are lent to nobody else.
+    let number = unsafe {
+        raw::kavurehy_collapse(
+            k,
+            path.as_ptr(),
+            path.len(),
+            word.as_mut_ptr(),
+            word.len(),
+            &mut counts,
+        )
+    };
+    Refusal::check(number)?;
+    Ok(counts[0] as usize)
+}
+
+/// Writes the shortest path that collapses to a word of labels 1 to `k`; its length.
+///
+/// Refusals: [`Refusal::OutputMemory`] below that length, [`Refusal::Label`].
+pub fn spread(k: usize, word: &[u8], path: &mut [u8]) -> Result<usize, Refusal> {
+    let mut counts = [0];
+    // SAFETY: as in `collapse`.
+    let number = unsafe {
+        raw::kavurehy_spread(
+            k,
+            word.as_ptr(),
+            word.len(),
+            path.as_mut_ptr(),
+            path.len(),
+            &mut counts,
+        )
+    };
+    Refusal::check(number)?;
+    Ok(counts[0] as usize)
+}
+
+/// Writes the cheapest path of one label for each column whose collapse the form accepts, among equally cheap ones the first
+/// by labels, and its collapse, the word. The work words that are needed ([`work_words`]) hold anything afterwards.
+///
+/// Refusals: [`Refusal::BadForm`], [`Refusal::Matrix`], [`Refusal::Cost`], [`Refusal::OutputMemory`], [`Refusal::Work`],
+/// [`Refusal::NoReading`], the first that applies.
+pub fn decode(
+    form: &[u32],
+    matrix: Matrix<'_>,
+    path: &mut [u8],
+    word: &mut [u8],
+    work: &mut [u32],
+) -> Result<Reading, Refusal> {
+    let mut counts = [0; 2];
+    // SAFETY: each pointer comes with its list's length; the lent lists and `counts` are lent to nobody else.
+    let number = unsafe {
+        raw::kavurehy_decode(
+            form.as_ptr(),
+            form.len(),
+            matrix.costs.as_ptr(),
+            matrix.costs.len(),
+            matrix.width,
+            matrix.columns,
+            path.as_mut_ptr(),
+            path.len(),
+            word.as_mut_ptr(),
+            word.len(),
+            work.as_mut_ptr(),
+            work.len(),
+            &mut counts,
+        )
+    };
+    Refusal::check(number)?;
+    let [price, length] = counts;
+    Ok(Reading {
+        price,
+        length: length as usize,
+    })
+}
+
+/// Writes one cost for each confidence.
+///
+/// Refusal: [`Refusal::OutputMemory`] below their number.
+pub fn costs(confidences: &[u8], costs: &mut [u32]) -> Result<(), Refusal> {
+    // SAFETY: each pointer comes with its list's length; `costs` is lent to nobody else.
+    let number = unsafe {
+        raw::kavurehy_costs(
+            confidences.as_ptr(),
+            confidences.len(),
+            costs.as_mut_ptr(),
+            costs.len(),
+        )
+    };
+    Refusal::check(number)
+}

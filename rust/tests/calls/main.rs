@@ -1,0 +1,13 @@
+//! The exported calls against document 01, on random input from a printed seed (`KAVUREHY_SEED` sets another). `oracle` says what
+//! the document says, by other means than the Rattle code; every list that is lent stands between guards.
+
+mod decode;
+mod forms;
+mod judge;
+mod labels;
+mod lines;
+mod oracle;
+mod support;
+
+/// How often each call answers each of its numbers, at least, on the random input of its test.
+const LEAST: usize = 500;
