@@ -90,11 +90,12 @@ tried-true A s M o p (refused n) e h = let z : _≡_ {A = ℕ} 0 1 = cc in absur
 tried-true A s M o p (passed f) e h =
     let m = compiled-means A s 99 f e in
     let d = accepts-decides (view f) (alphabetOf f) (valid-proper f (valid-at f (m .valid))) in
-    let found = same-true (decided M (accepts (view f))) o (and-left (same (decided M (accepts (view f))) o) (eqb (priced M o) p) h) in
-    (subst (Outcome (WordsOf A s) M) found
-     (outcome-same M (Accepts (view f)) (WordsOf A s) (λ w. m .words w .0) (λ w. m .words w .1) (decided M (accepts (view f)))
-     (decided-outcome M (Accepts (view f)) (accepts (view f)) (λ w. d w .0) (λ w. d w .1))),
-     eqb-true (priced M o) p (and-right (same (decided M (accepts (view f))) o) (eqb (priced M o) p) h))
+    let found = same-true (decided M (accepts (view f))) o (and-left (same (decided M (accepts (view f))) o) (eqb (priced M o) p) h) in (
+      subst (Outcome (WordsOf A s) M) found
+          (outcome-same M (Accepts (view f)) (WordsOf A s) (λ w. m .words w .0) (λ w. m .words w .1) (decided M (accepts (view f)))
+          (decided-outcome M (Accepts (view f)) (accepts (view f)) (λ w. d w .0) (λ w. d w .1))),
+      eqb-true (priced M o) p (and-right (same (decided M (accepts (view f))) o) (eqb (priced M o) p) h),
+    )
 
 holds-stated : (c : Case) → holds c ≡ true → Stated c
 unfolding holds
