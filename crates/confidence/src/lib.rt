@@ -10,7 +10,7 @@ ghost use Rattle.lists.specs.Written.{Wrote};
 ghost use Rattle.refusal.specs.Report.{reported, Fills};
 ghost use Rattle.confidence.specs.Cost.{shift, cost-of, costs-call};
 
-// The square of a power of a byte: c to the power n, at most the fourth.
+// The square of a number up to the fourth power of 255.
 fn square(m: u64) -> u64
     requires { ⌜ m ≤ 255 ^ 4 ⌝ }
     ensures { λ r. ⌜ r ≡ m * m ⌝ }

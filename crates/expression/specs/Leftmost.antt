@@ -18,7 +18,7 @@ use Rattle.expression.specs.Sound.{read-sound}
 use Rattle.expression.specs.Exact.{exact}
 
 -- A refusal of row 4 to 8 at the leftmost fault: the text is no expression, and the text in front of the fault begins one, so that no
--- fault stands further left.
+-- fault stands further left. Which row it is, and that braces and brackets are refused at their opening sign, the reading itself says.
 pub record Leftmost (A s : List ℕ) (n : Refusal) (r : List ℕ) : Type 0 where
   pub row : Textual n
   pub none : (t : Tree) → TextOf A 16 t s → ⊥

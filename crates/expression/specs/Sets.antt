@@ -25,7 +25,7 @@ abbrev pub with : Range → Option (List Range) → Option (List Range)
 with r none = none
 with r (some rs) = some (r ∷ rs)
 
--- "A `-` may begin an item only first or just before the closing `]`": an item that is not just before it may begin with c
+-- "A `-` may begin an item only first or just before the closing `]`": whether an item that begins with c may stand here, where more follows inside
 abbrev pub begins : Bool → ℕ → Bool
 begins first c = first || not (eqb c (code "-"))
 

@@ -11,6 +11,8 @@ use Rattle.refusal.specs.declared.Counted.the-variants.{Filled, Refused}
 use Rattle.refusal.specs.Number.{numberOf}
 use Rattle.refusal.specs.Verdict.{Verdict, passed, refused}
 
+-- `filled` is the length of the list that the call is for (Compile: the form's words; Decode and Read: the word), `form` that of the form
+-- which Read writes besides
 pub record Report : Type 0 where
   pub number : ℕ
   pub price : ℕ
