@@ -3,3 +3,4 @@ pub mod Memory
 pub mod Spelling
 pub mod Steps
 pub mod Cases
+pub mod Demands
