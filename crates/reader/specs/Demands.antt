@@ -5,7 +5,7 @@ use mathlib.Core.Path.{_≡_, ap, _∙_}
 use mathlib.Core.Logic.{_⊎_, inl, inr}
 use mathlib.Core.Option.{Option, some, none}
 use mathlib.Core.List.{List}
-use lib.ListN.{length}
+use lib.ListN.{length, drop}
 use Rattle.lists.specs.Each.{Each}
 use Rattle.lists.specs.Written.{written, written-none}
 use Rattle.refusal.specs.declared.Refusal.{Refusal}
@@ -59,6 +59,15 @@ module _ (A s : List ℕ) (M : Matrix) (form form′ : List ℕ) (before after :
     demand-1-matrix n e =
         let h = rw e at (rw compiles at (reads .reads)) in
         (h .0, h .1, reads .memory ∙ ap (λ v. written (filling v) form) compiles)
+
+    -- past the checks: the form in its memory, and the work words that are not needed as they were
+    pub demand-1-memory :
+        first-of (matrix-checks (length A) (lettersOf f) M (rooms before)) ≡ Passed
+        → (form′ ≡ written f form) × (drop (needed (M .count) (lettersOf f)) (after .work) ≡ drop (needed (M .count) (lettersOf f)) (before .work))
+        × (length (after .work) ≡ length (before .work))
+    demand-1-memory e =
+        let h : Answers (WordsOf A s) (characters A) (length f) M (needed (M .count) (lettersOf f)) before after answer = rw e at (rw compiles at (reads .reads)) in
+        (reads .memory ∙ ap (λ v. written (filling v) form) compiles, h .work, h .size)
 
     -- Demand 2: the form means the text.
     pub demand-2 : Means A s f
