@@ -1,10 +1,11 @@
 -- What the call Judge makes of a form and a word: accepted or not, or the refusal that applies (document 01, "What is turned away",
 -- rows 11 and 17), and what it reports. Assumes nothing.
 use Prim.Native.Nat.{ℕ, _≤_}
-use mathlib.Core.Path.{_≡_, ap, _∙_}
+use mathlib.Core.Path.{_≡_, refl, ap, _∙_}
 use mathlib.Core.Bool.{Bool, true, false, not}
 use mathlib.Core.Logic.{_↔_}
 use mathlib.Core.List.{List, [], _∷_}
+use native.Mathlib.Omega.{arith}
 use lib.ListN.{length}
 use lib.Dec.{leb}
 use borrow.Author.Tests.{le-leb}
@@ -56,22 +57,32 @@ module _ (form word : List ℕ) where
   judged-word e f =
       unless-neither (accepts (view form) word) (not (validForm form)) (label-fault (alphabetOf form) 1 word) BadForm Label (ap not e) f
 
-  -- of a valid form and a word of at most 255 labels 1 to K: accepted exactly if some walk spells the word
-  pub judged-exact :
-      validForm form ≡ true → length word ≤ 255 → Each (λ x. (1 ≤ x) × (x ≤ alphabetOf form)) word → (judged form word ≡ passed true) ↔ Accepts (view form) word
-  judged-exact e short labels = ((λ q. decided .0 (cc word-passes)), λ q. word-passes ∙ ap passed (decided .1 q))
-    where
-      decided : (accepts (view form) word ≡ true) ↔ Accepts (view form) word
-      decided = accepts-decides (view form) (alphabetOf form) (view-proper form e) word
+  -- Of a valid form and a word of at most 255 labels 1 to K: accepted exactly if some walk spells the word, rejected exactly if none does.
+  module _ (valid : validForm form ≡ true) (short : length word ≤ 255) (labels : Each (λ x. (1 ≤ x) × (x ≤ alphabetOf form)) word) where
+    decided : (accepts (view form) word ≡ true) ↔ Accepts (view form) word
+    decided = accepts-decides (view form) (alphabetOf form) (view-proper form valid) word
 
-      size : between 1 95 (alphabetOf form) ≡ true
-      size =
-          let h = valid-at form e .head in
-          and-both (leb 1 (alphabetOf form)) (leb (alphabetOf form) 95) (le-leb 1 (alphabetOf form) (h .alphabet-low)) (le-leb (alphabetOf form) 95 (h .alphabet-high))
+    size : between 1 95 (alphabetOf form) ≡ true
+    size =
+        let h = valid-at form valid .head in
+        and-both (leb 1 (alphabetOf form)) (leb (alphabetOf form) 95) (le-leb 1 (alphabetOf form) (h .alphabet-low)) (le-leb (alphabetOf form) 95 (h .alphabet-high))
 
-      word-passes : judged form word ≡ passed (accepts (view form) word)
-      word-passes =
-          judged-word e
-          (fault-labels (alphabetOf form) 1 word size short
-          ∙ ap not (each-all (between 1 (alphabetOf form)) (λ x. (1 ≤ x) × (x ≤ alphabetOf form))
-          (λ x h. and-both (leb 1 x) (leb x (alphabetOf form)) (le-leb 1 x (h .0)) (le-leb x (alphabetOf form) (h .1))) word labels))
+    word-passes : judged form word ≡ passed (accepts (view form) word)
+    word-passes =
+        judged-word valid
+        (fault-labels (alphabetOf form) 1 word size short
+        ∙ ap not (each-all (between 1 (alphabetOf form)) (λ x. (1 ≤ x) × (x ≤ alphabetOf form))
+        (λ x h. and-both (leb 1 x) (leb x (alphabetOf form)) (le-leb 1 x (h .0)) (le-leb x (alphabetOf form) (h .1))) word labels))
+
+    pub judged-exact : (judged form word ≡ passed true) ↔ Accepts (view form) word
+    judged-exact = ((λ q. decided .0 (cc word-passes)), λ q. word-passes ∙ ap passed (decided .1 q))
+
+    pub judged-rejects : (judged form word ≡ passed false) ↔ (Accepts (view form) word → ⊥)
+    judged-rejects = ((λ q a. rejected q (decided .1 a)), λ none. word-passes ∙ ap passed (never (accepts (view form) word) (λ e. none (decided .0 e))))
+      where
+        rejected : judged form word ≡ passed false → accepts (view form) word ≡ true → ⊥
+        rejected q e = let z : _≡_ {A = ℕ} 0 1 = cc word-passes in absurd (omega arith)
+
+        never : (b : Bool) → (b ≡ true → ⊥) → b ≡ false
+        never true h = absurd (h refl)
+        never false h = refl
