@@ -13,12 +13,6 @@ ghost use Rattle.automaton.specs.Form.{bit, headWord, letterWord, arcWord, enco
 ghost use Rattle.encode.specs.Arrays.{has, arrayed, form-call, Sized};
 ghost use Rattle.encode.specs.Parts.{lettersBy, rowBy, arcsBy};
 
-fn wide(x: u8) -> usize
-    ensures { λ r. ⌜ r ≡ x ⌝ }
-{
-    x as usize
-}
-
 fn narrow(x: usize) -> u32
     requires { ⌜ x < 4294967296 ⌝ }
     ensures { λ r. ⌜ r ≡ x ⌝ }
@@ -45,7 +39,7 @@ fn head_word(l: usize, empty: bool, k: usize) -> u32
 fn letter_word(label: u8, first: bool, last: bool) -> u32
     ensures { λ r. ⌜ r ≡ letterWord label first last ⌝ }
 {
-    narrow(0x20000000 + one_if(last) * 0x200 + one_if(first) * 0x100 + wide(label))
+    narrow(0x20000000 + one_if(last) * 0x200 + one_if(first) * 0x100 + label as usize)
 }
 
 // The word of an arc from letter to letter.

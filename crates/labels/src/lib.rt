@@ -13,7 +13,8 @@ ghost use Rattle.ctc.specs.Collapse.{collapse as collapseOf};
 ghost use Rattle.ctc.specs.Spread.{spread as spreadOf, pairs};
 ghost use Rattle.labels.specs.Calls.{between, label-fault, collapse-call, spread-call, added, spaced};
 
-fn wide(x: u8) -> usize
+// A label as a number.
+pub fn wide(x: u8) -> usize
     ensures { λ r. ⌜ r ≡ x ⌝ }
 {
     x as usize

@@ -4,6 +4,7 @@ use decode::Decoded;
 use decode::check_matrix;
 use decode::decode_valid;
 use form::letters;
+use labels::wide;
 use refusal::Checked;
 use refusal::Counted;
 use refusal::Refusal;
@@ -26,12 +27,6 @@ pub enum Reading {
         form: usize,
     },
     Refused(Refusal),
-}
-
-fn wide(x: u8) -> usize
-    ensures { λ r. ⌜ r ≡ x ⌝ }
-{
-    x as usize
 }
 
 // Puts the character of each of the first n labels in its place.

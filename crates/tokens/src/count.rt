@@ -11,12 +11,6 @@ ghost use Rattle.tokens.specs.Answers.{repeatsOf};
 ghost use Rattle.tokens.specs.Counts.{number-or, ranged, counted};
 ghost use Rattle.tokens.specs.Signs.{braced, modified};
 
-fn wide(x: u8) -> usize
-    ensures { λ r. ⌜ r ≡ x ⌝ }
-{
-    x as usize
-}
-
 // The number that these digits make, or 256 for none.
 fn number(digits: &[u8]) -> usize
     ensures { λ r. ⌜ r ≡ number-or (numberOf (now (digits .entry))) ⌝ }
@@ -37,7 +31,7 @@ fn number(digits: &[u8]) -> usize
         if 57 < b {
             return 256;
         }
-        n = 10 * n + wide(b - 48);
+        n = 10 * n + (b - 48) as usize;
         if 255 < n {
             return 256;
         }
