@@ -6,16 +6,29 @@
    list of the call. A call keeps no pointer.
 
    Each call returns 0, or the number of the refusal that applies:
+      1 alphabet       not 1 to 95 distinct bytes, each 32 to 126
+      2 text length    0 or over 255
+      3 text byte      one outside 32 to 126
+      4 misplaced sign a repetition with nothing to repeat, or behind another but for one question mark; an empty branch or group; a stray
+                       or missing closing parenthesis; a caret or dollar sign outside brackets without a backslash; a backslash before
+                       another sign than it may stand before
+      5 depth          a 17th open group
+      6 count          braces ill-formed or out of range
+      7 bracket        unclosed, a range descending, a hyphen where no item may begin with it, or [. [= [: inside
+      8 foreign        a character that is not in the alphabet, or a bracket without a label
+      9 letters        more than 127
+     10 form memory    shorter than the form
      11 bad form       the list is no valid form
      12 matrix         more than 255 columns, a width other than K + 1, or a list of another length than columns * width
      13 cost           one over 1,000,000
-     14 output memory  decode: path or word memory below the number of columns; collapse: below the path; spread: below the need;
+     14 output memory  decode, read: path or word memory below the number of columns; collapse: below the path; spread: below the need;
                        costs: below the number of confidences
      15 work           fewer than (columns + 1) * (2 * L + 1) words
-     16 no reading     no path of so many labels collapses to a word that the form accepts
+     16 no reading     no path of so many labels collapses to a word that the form accepts (read: to a word of the expression)
      17 label          K not 1 to 95, a label over K, 0 in a word, or a list over 255
-   Where several apply it is the lowest. At a refusal each count is 0 and all lent memory is as it was, but for the needed work words
-   after 16. On success the memory behind what is counted is as it was too. */
+   Where several apply it is the lowest, but of 4 to 8 the one leftmost in the text. At a refusal each count is 0 and all lent memory is
+   as it was, but for the needed work words after 16, and but for the form memory of read: 12 to 16 leave it as compile does. On success
+   the memory behind what is counted is as it was too. */
 #ifndef KAVUREHY_H
 #define KAVUREHY_H
 
@@ -25,6 +38,12 @@
 #ifdef __cplusplus
 extern "C" {
 #endif
+
+/* Writes the form of an expression over an alphabet: it accepts a word of labels exactly if the word is one of the expression's, by its
+   text. counts[0] is the form's length. Memory of 16,257 words (the head, 127 letters, an arc from each to each) is enough for every
+   expression. Refusals: 1 to 10. */
+uint32_t kavurehy_compile(const uint8_t *alphabet, size_t alphabet_length, const uint8_t *text, size_t text_length, uint32_t *form,
+                          size_t form_memory, uint32_t counts[1]);
 
 /* accepted[0] is 1 if the form accepts the word of labels 1 to K, and 0 if it does not. Refusals: 11, 17. */
 uint32_t kavurehy_judge(const uint32_t *form, size_t form_length, const uint8_t *word, size_t word_length, uint32_t accepted[1]);
@@ -45,6 +64,15 @@ uint32_t kavurehy_spread(size_t k, const uint8_t *word, size_t word_length, uint
 uint32_t kavurehy_decode(const uint32_t *form, size_t form_length, const uint32_t *costs, size_t costs_length, size_t width, size_t columns,
                          uint8_t *path, size_t path_memory, uint8_t *word, size_t word_memory, uint32_t *work, size_t work_memory,
                          uint32_t counts[2]);
+
+/* Compiles an expression over an alphabet and reads a matrix by it: writes the form as compile does, and path and word as decode does, but
+   the word as characters of the alphabet, and with the words of the expression for those that the form accepts. counts[0] is the price,
+   counts[1] the word's length, counts[2] the form's. The needed work words, (columns + 1) * (2 * L + 1) for an expression of L letters,
+   hold anything afterwards; the others are as they were. Refusals: 1 to 10, 12 to 16. After 12 to 16 the form memory holds the form,
+   though counts[2] is 0. */
+uint32_t kavurehy_read(const uint8_t *alphabet, size_t alphabet_length, const uint8_t *text, size_t text_length, const uint32_t *costs,
+                       size_t costs_length, size_t width, size_t columns, uint32_t *form, size_t form_memory, uint8_t *path,
+                       size_t path_memory, uint8_t *word, size_t word_memory, uint32_t *work, size_t work_memory, uint32_t counts[3]);
 
 /* Writes one cost for each confidence: 72 for 0, else the largest whole n with 2^n * c^8 <= 2^64. Refusal: 14. */
 uint32_t kavurehy_costs(const uint8_t *confidences, size_t confidences_length, uint32_t *costs, size_t costs_memory);

@@ -1,23 +1,22 @@
 //! The proved calls of `libkavurehy.a` behind safe functions: slices in, a [`Result`] with a [`Refusal`] out.
 //!
 //! Every call takes any input. What it cannot take it turns away, with a row of the table of refusals and all lent memory
-//! as it was (but for the needed work words after [`Refusal::NoReading`]). On success the memory behind what was written is
-//! as it was too.
+//! as it was, but for the needed work words after [`Refusal::NoReading`], and but for [`read`]'s form memory, which from
+//! [`Refusal::Matrix`] on is as [`compile`] leaves it. On success the memory behind what was written is as it was too.
 //!
 //! ```
-//! use kavurehy::{decode, work_words, Matrix};
+//! use kavurehy::{read, work_words, Matrix, FORM_WORDS};
 //!
-//! // The letter a, then any number of b, over the alphabet ab.
-//! let form = [0x10020002, 0x20000301, 0x20000202, 0x30000102, 0x30000202];
-//! // Two columns, each with the costs of blank, a and b.
-//! let matrix = Matrix { costs: &[5, 1, 9, 5, 9, 2], width: 3, columns: 2 };
-//! let (mut path, mut word) = ([0; 2], [0; 2]);
-//! let mut work = vec![0; work_words(2, 2)];
+//! // Three columns, each with the costs of blank, a and b.
+//! let matrix = Matrix { costs: &[5, 1, 9, 5, 1, 9, 5, 1, 9], width: 3, columns: 3 };
+//! let mut form = vec![0; FORM_WORDS];
+//! let (mut path, mut word) = ([0; 3], [0; 3]);
+//! let mut work = vec![0; work_words(3, 2)];
 //!
-//! let reading = decode(&form, matrix, &mut path, &mut word, &mut work).unwrap();
-//! assert_eq!(reading.price, 3);
-//! assert_eq!(path, [1, 2]);
-//! assert_eq!(word[..reading.length], [1, 2]);
+//! let reading = read(b"ab", b"aa", matrix, &mut form, &mut path, &mut word, &mut work).unwrap();
+//! assert_eq!(reading.price, 7);
+//! assert_eq!(path, [1, 0, 1]);
+//! assert_eq!(word[..reading.length], *b"aa");
 //! ```
 #![deny(unsafe_op_in_unsafe_fn)]
 
@@ -42,9 +41,52 @@ pub struct Reading {
     pub length: usize,
 }
 
-/// How many work words [`decode`] needs for so many columns and letters.
+/// What [`read`] reports: the price of the path, the length of its word and that of the form.
+#[derive(Clone, Copy, Debug, PartialEq, Eq)]
+pub struct TextReading {
+    pub price: u32,
+    pub length: usize,
+    pub form: usize,
+}
+
+/// Form memory that is enough for every expression: the head, 127 letters and an arc from each to each.
+pub const FORM_WORDS: usize = 1 + 127 + 127 * 127;
+
+/// How many work words [`decode`] and [`read`] need for so many columns and letters.
 pub const fn work_words(columns: usize, letters: usize) -> usize {
     (columns + 1) * (2 * letters + 1)
+}
+
+/// Writes the form of an expression over an alphabet; its length.
+///
+/// ```
+/// use kavurehy::{compile, judge, Refusal};
+///
+/// let mut form = [0; 5];
+/// assert_eq!(compile(b"ab", b"ab*", &mut form), Ok(5));
+/// assert_eq!(form, [0x10020002, 0x20000301, 0x20000202, 0x30000102, 0x30000202]);
+/// assert_eq!(judge(&form, &[1, 2, 2]), Ok(true));
+/// assert_eq!(compile(b"ab", b"a**", &mut form), Err(Refusal::MisplacedSign));
+/// ```
+///
+/// Refusals: rows 1 to 10 of the table, the first that applies; of rows 4 to 8 ([`Refusal::MisplacedSign`] to
+/// [`Refusal::Foreign`]) the leftmost in the text.
+pub fn compile(alphabet: &[u8], text: &[u8], form: &mut [u32]) -> Result<usize, Refusal> {
+    let mut counts = [0];
+    // SAFETY: each pointer comes with its list's length; `form` and `counts` are lent to nobody else.
+    let number = unsafe {
+        raw::kavurehy_compile(
+            alphabet.as_ptr(),
+            alphabet.len(),
+            text.as_ptr(),
+            text.len(),
+            form.as_mut_ptr(),
+            form.len(),
+            &mut counts,
+        )
+    };
+    Refusal::check(number)?;
+    Ok(counts[0] as usize)
 }
 
 /// Does the form accept the word of labels 1 to K?
@@ -109,6 +151,22 @@ pub fn spread(k: usize, word: &[u8], path: &mut [u8]) -> Result<usize, Refusal> 
 /// Writes the cheapest path of one label for each column whose collapse the form accepts, among equally cheap ones the first
 /// by labels, and its collapse, the word. The work words that are needed ([`work_words`]) hold anything afterwards.
 ///
+/// ```
+/// use kavurehy::{decode, work_words, Matrix};
+///
+/// // The letter a, then any number of b, over the alphabet ab.
+/// let form = [0x10020002, 0x20000301, 0x20000202, 0x30000102, 0x30000202];
+/// // Two columns, each with the costs of blank, a and b.
+/// let matrix = Matrix { costs: &[5, 1, 9, 5, 9, 2], width: 3, columns: 2 };
+/// let (mut path, mut word) = ([0; 2], [0; 2]);
+/// let mut work = vec![0; work_words(2, 2)];
+///
+/// let reading = decode(&form, matrix, &mut path, &mut word, &mut work).unwrap();
+/// assert_eq!(reading.price, 3);
+/// assert_eq!(path, [1, 2]);
+/// assert_eq!(word[..reading.length], [1, 2]);
+/// ```
+///
 /// Refusals: [`Refusal::BadForm`], [`Refusal::Matrix`], [`Refusal::Cost`], [`Refusal::OutputMemory`], [`Refusal::Work`],
 /// [`Refusal::NoReading`], the first that applies.
 pub fn decode(
@@ -142,6 +200,55 @@ pub fn decode(
     Ok(Reading {
         price,
         length: length as usize,
+    })
+}
+
+/// Writes the form of an expression over an alphabet, the cheapest path of one label for each column whose collapse is a word
+/// of the expression, among equally cheap ones the first by labels, and that word as characters. The crate's example calls it.
+///
+/// A form of L letters needs [`work_words`] for L; those hold anything afterwards. L is in bits 0 to 7 of the form's first
+/// word, which stands in the form memory after [`Refusal::Work`] too.
+///
+/// Refusals: those of [`compile`], then [`Refusal::Matrix`], [`Refusal::Cost`], [`Refusal::OutputMemory`],
+/// [`Refusal::Work`], [`Refusal::NoReading`], the first that applies.
+pub fn read(
+    alphabet: &[u8],
+    text: &[u8],
+    matrix: Matrix<'_>,
+    form: &mut [u32],
+    path: &mut [u8],
+    word: &mut [u8],
+    work: &mut [u32],
+) -> Result<TextReading, Refusal> {
+    let mut counts = [0; 3];
+    // SAFETY: as in `decode`.
+    let number = unsafe {
+        raw::kavurehy_read(
+            alphabet.as_ptr(),
+            alphabet.len(),
+            text.as_ptr(),
+            text.len(),
+            matrix.costs.as_ptr(),
+            matrix.costs.len(),
+            matrix.width,
+            matrix.columns,
+            form.as_mut_ptr(),
+            form.len(),
+            path.as_mut_ptr(),
+            path.len(),
+            word.as_mut_ptr(),
+            word.len(),
+            work.as_mut_ptr(),
+            work.len(),
+            &mut counts,
+        )
+    };
+    Refusal::check(number)?;
+    let [price, length, form] = counts;
+    Ok(TextReading {
+        price,
+        length: length as usize,
+        form: form as usize,
     })
 }
 

@@ -2,6 +2,16 @@
 //! other list of the call.
 
 extern "C" {
+    pub fn kavurehy_compile(
+        alphabet: *const u8,
+        alphabet_length: usize,
+        text: *const u8,
+        text_length: usize,
+        form: *mut u32,
+        form_memory: usize,
+        counts: &mut [u32; 1],
+    ) -> u32;
+
     pub fn kavurehy_judge(
         form: *const u32,
         form_length: usize,
@@ -42,6 +52,26 @@ extern "C" {
         work: *mut u32,
         work_memory: usize,
         counts: &mut [u32; 2],
+    ) -> u32;
+
+    pub fn kavurehy_read(
+        alphabet: *const u8,
+        alphabet_length: usize,
+        text: *const u8,
+        text_length: usize,
+        costs: *const u32,
+        costs_length: usize,
+        width: usize,
+        columns: usize,
+        form: *mut u32,
+        form_memory: usize,
+        path: *mut u8,
+        path_memory: usize,
+        word: *mut u8,
+        word_memory: usize,
+        work: *mut u32,
+        work_memory: usize,
+        counts: &mut [u32; 3],
     ) -> u32;
 
     pub fn kavurehy_costs(

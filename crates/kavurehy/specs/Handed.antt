@@ -10,6 +10,7 @@ use Rattle.refusal.specs.Report.{Report, report, filling, Fills}
 use Rattle.form.specs.Judge.{Judgement, judged, report as judgement}
 use Rattle.reading.specs.Matrix.{Matrix}
 use Rattle.decode.specs.Promise.{Lent, Decodes}
+use Rattle.reader.specs.Promise.{Reads}
 
 -- Which counts of a report are handed back, in their order.
 
@@ -18,6 +19,9 @@ length-alone a = a .filled ∷ []
 
 abbrev pub price-and-length : Report → List ℕ
 price-and-length a = a .price ∷ (a .filled ∷ [])
+
+abbrev pub price-and-lengths : Report → List ℕ
+price-and-lengths a = a .price ∷ (a .filled ∷ (a .form ∷ []))
 
 -- A report handed back: its number, 0 where nothing is refused, and those counts.
 pub record Hands (counts : Report → List ℕ) (answer : Report) (handed : List ℕ) (result : ℕ) : Type 0 where
@@ -49,6 +53,12 @@ pub record DecodesCounted (form : List ℕ) (M : Matrix) (before after : Lent) (
   pub decodes : Decodes form M before after answer
   pub hands : Hands price-and-length answer handed result
 
+-- Read, in the same way.
+pub record ReadsCounted (alphabet text : List ℕ) (M : Matrix) (form form′ : List ℕ) (before after : Lent) (handed : List ℕ) (result : ℕ) : Type 0 where
+  pub answer : Report
+  pub reads : Reads alphabet text M form form′ before after answer
+  pub hands : Hands price-and-lengths answer handed result
+
 -- From the promise inside to the promise exported.
 
 pub hands-as :
@@ -61,7 +71,7 @@ pub hands-judgement-as :
     → HandsJudgement answer handed result
 hands-judgement-as e h = rw e (record { number = h .1; accepted = h .0 })
 
-module _ (verdict : Verdict (List ℕ)) {answer : Report} {before after : List ℕ} (fills : Fills verdict answer before after) where
+module _ {verdict : Verdict (List ℕ)} {answer : Report} {before after : List ℕ} (fills : Fills verdict answer before after) where
   pub fills-counted : {handed : List ℕ} {result : ℕ} → Hands length-alone answer handed result → FillsCounted verdict before after handed result
   fills-counted h = record { hands = rw (fills .answered) at h; memory = fills .memory }
 

@@ -1,8 +1,6 @@
 -- `kavurehy::hand_length` meets its contract. Assumes nothing.
 use mathlib.Core.Path.{ap, _∙_}
-use native.Mathlib.Omega.{arith}
 use borrow.Author.Needs.{needs}
-use Rattle.refusal.specs.declared.Counted.{Counted}
 use Rattle.refusal.specs.Report.{reported}
 use Rattle.kavurehy.specs.Handed.{length-alone, hands-as}
 use Rattle.kavurehy.proofs.hand_length.Statement.{statement}
@@ -11,14 +9,8 @@ use Rattle.kavurehy.proofs.hand_length.Tie as tie
 enum-known-answer : tie.Need-enum-known-answer
 enum-known-answer c = search needs
 
-cast-give-one : tie.Need-cast-give-one
-cast-give-one c =
-    let e = ap (λ (a : Counted). reported a .filled) (c .before .before .answer .given .1) in
-    let few = c .before .before .before .before .pre in
-    omega arith
-
 give-one-requires : tie.Need-give-one-requires
-give-one-requires c κs = search needs
+give-one-requires c κs = rw (c .before .before .answer .given .1) at (c .before .before .before .before .pre)
 
 enum-known-answer-2 : tie.Need-enum-known-answer-2
 enum-known-answer-2 c = search needs
@@ -39,4 +31,4 @@ returns-2 c =
 
 pub hand-length-spec : {M : Type 1} → statement M
 hand-length-spec =
-    tie.close (tie.spec enum-known-answer cast-give-one give-one-requires enum-known-answer-2 number-requires give-one-requires-2 returns returns-2)
+    tie.close (tie.spec enum-known-answer give-one-requires enum-known-answer-2 number-requires give-one-requires-2 returns returns-2)

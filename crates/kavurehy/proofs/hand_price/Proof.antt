@@ -1,8 +1,6 @@
 -- `kavurehy::hand_price` meets its contract. Assumes nothing.
 use mathlib.Core.Path.{ap, _∙_}
-use native.Mathlib.Omega.{arith}
 use borrow.Author.Needs.{needs}
-use Rattle.decode.specs.declared.Decoded.{Decoded}
 use Rattle.decode.specs.Promise.{reported}
 use Rattle.kavurehy.specs.Handed.{price-and-length, hands-as}
 use Rattle.kavurehy.proofs.hand_price.Statement.{statement}
@@ -11,14 +9,8 @@ use Rattle.kavurehy.proofs.hand_price.Tie as tie
 enum-known-answer : tie.Need-enum-known-answer
 enum-known-answer c = search needs
 
-cast-give-two : tie.Need-cast-give-two
-cast-give-two c =
-    let e = ap (λ (a : Decoded). reported a .filled) (c .before .before .answer .given .1) in
-    let few = c .before .before .before .before .pre in
-    omega arith
-
 give-two-requires : tie.Need-give-two-requires
-give-two-requires c κs = search needs
+give-two-requires c κs = rw (c .before .before .answer .given .1) at (c .before .before .before .before .pre)
 
 enum-known-answer-2 : tie.Need-enum-known-answer-2
 enum-known-answer-2 c = search needs
@@ -39,4 +31,4 @@ returns-2 c =
 
 pub hand-price-spec : {M : Type 1} → statement M
 hand-price-spec =
-    tie.close (tie.spec enum-known-answer cast-give-two give-two-requires enum-known-answer-2 number-requires give-two-requires-2 returns returns-2)
+    tie.close (tie.spec enum-known-answer give-two-requires enum-known-answer-2 number-requires give-two-requires-2 returns returns-2)

@@ -1,11 +1,8 @@
 -- `kavurehy::kavurehy_costs` meets its contract. Assumes nothing.
 use mathlib.Core.Path.{sym, ap, _∙_}
 use borrow.Author.Needs.{needs}
-use lib.ListN.{length}
-use denote.Ref.{now}
 use Rattle.refusal.specs.declared.Counted.{Counted}
 use Rattle.refusal.specs.Report.{reported}
-use Rattle.confidence.specs.Cost.{costs-call}
 use Rattle.kavurehy.specs.Handed.{fills-plain}
 use Rattle.kavurehy.proofs.kavurehy_costs.Statement.{statement}
 use Rattle.kavurehy.proofs.kavurehy_costs.Tie as tie
@@ -27,8 +24,7 @@ same-length c = search needs
 
 returns : tie.Need-returns
 returns c =
-    let a = c .before .before .before .before .before .before .before .before .args in
-    fills-plain (costs-call (now (a .confidences)) (length (now (a .costs)))) (c .before .before .before .before .costs .ensures)
+    fills-plain (c .before .before .before .before .costs .ensures)
     (sym (ap (λ (r : Counted). reported r .number) (c .enum-told .given .1)))
 
 same-length-2 : tie.Need-same-length-2
@@ -36,8 +32,7 @@ same-length-2 c = search needs
 
 returns-2 : tie.Need-returns-2
 returns-2 c =
-    let a = c .before .before .before .before .before .before .before .before .before .before .args in
-    fills-plain (costs-call (now (a .confidences)) (length (now (a .costs)))) (c .before .before .before .before .before .before .costs .ensures)
+    fills-plain (c .before .before .before .before .before .before .costs .ensures)
     (c .number .ensures ∙ sym (ap (λ (r : Counted). reported r .number) (c .before .before .row .given .1)))
 
 pub kavurehy-costs-spec : {M : Type 1} → statement M

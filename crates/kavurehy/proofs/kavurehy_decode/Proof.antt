@@ -1,5 +1,4 @@
 -- `kavurehy::kavurehy_decode` meets its contract. Assumes nothing.
-use native.Mathlib.Omega.{arith}
 use borrow.Author.Needs.{needs}
 use denote.Ref.{now}
 use Rattle.reading.specs.Matrix.{matrix}
@@ -16,8 +15,7 @@ hand-price-requires c κs =
     let a = c .before .before .before .before .before .before .before .before .before .before .before .before .before .before .before .before .args in
     let d = c .before .before .before .before .before .before .before .decode in
     let before : Lent = record { path = now (a .path); word = now (a .word); work = now (a .work) } in
-    let few = decode-fits (now (a .form)) (matrix (now (a .costs)) (a .width) (a .columns)) before _ (reported (d .result)) (d .ensures) in
-    omega arith
+    decode-fits (now (a .form)) (matrix (now (a .costs)) (a .width) (a .columns)) before _ (reported (d .result)) (d .ensures)
 
 same-length : tie.Need-same-length
 same-length c = search needs
@@ -29,7 +27,7 @@ same-length-3 : tie.Need-same-length-3
 same-length-3 c = search needs
 
 returns : tie.Need-returns
-returns c = record { answer = reported (c .before .before .before .before .before .before .before .before .decode .result); decodes = c .before .before .before .before .before .before .before .before .decode .ensures; hands = c .hand-price .ensures }
+returns c = search needs
 
 pub kavurehy-decode-spec : {M : Type 1} → statement M
 kavurehy-decode-spec = tie.close (tie.spec decode-requires hand-price-requires same-length same-length-2 same-length-3 returns)
