@@ -13,10 +13,9 @@ use ghost.Atoms.{Atoms}
 use contract.Lifetimes.{Lfts, Shares}
 use contract.Monad.{Fun}
 use contract.Running.{givenOf, tables, tablesOf}
-use types.Kit.{Given, ‵, raw, _$_, _∵_, !, qed, by, move, use1, fjoin, suffices, frame, done}
+use types.Kit.{Given, ‵, raw, _$_, _∵_, !, qed, by, move, fjoin, suffices, frame}
 use types.Part.{agg}
 use types.Run.{look, init, forget, stop, from, load, and-then, no-more, assigns, returns, enter, alloc1, alloc0, params1, pass1, pass0, free1, free0}
-use sound.WpLaws.{WpFn-mono}
 use denote.RattleType.{flat, owns}
 use denote.Laws.{Are, Ises, Spells, valss}
 use denote.Plain.{uint-vals, uint-tells}
@@ -29,18 +28,15 @@ use denote.Struct.Rest.{own-shut}
 use denote.Triple.Entry.{Args, Vals, alive, onEntry}
 use denote.Triple.Spec.{Meets, tripleOf}
 use denote.Triple.Table.{entered}
-use denote.Triple.Walked.{says, Stays, walkOf, Walks, ends-at, walked, walk-meets}
+use denote.Triple.Walked.{says}
 use Rattle.decode.specs.declared.Matrix.{Matrix}
-use Rattle.decode.proofs.Given.{all-given, all-go}
+use Rattle.decode.proofs.PassedOn.{After, ends, passed-meets}
 use Rattle.decode.proofs.Matrix as T
 use Rattle.decode.proofs.Matrix.Laws as T′
 use Rattle.decode.proofs.matrix_of.Key.{name as #maker}
 use Rattle.decode.proofs.matrix_of as maker
 use Rattle.decode.proofs.matrix_of.Statement as stated
 use Rattle.decode.proofs.matrix_of.Code as code
-
-abbrev stayed : Stays (maker.ended .signature .params) (maker.ended .kept)
-stayed = all-given (maker.ended .signature .params) (maker.ended .kept)
 
 -- how the parameters' values are spelled
 abbrev spelled : (κs : Lfts 1) → Spells (typesAt (maker.signature .params) κs)
@@ -57,12 +53,12 @@ module _ {M : Type 1} (𝓤 : URA M) (H : Heap 𝓤) (A : Atoms 𝓤) (W : Given
   made = record { costs = a .0; width = a .1 .0; count = a .1 .1 .0 }
 
   abbrev Post : Val → SProp 𝓤
-  Post = walkOf 𝓤 H A maker.ended stayed (maker.clauses 𝓤 H A mem run) .post ((κs, qs, tt, a, vals), tt)
+  Post = After 𝓤 H A maker.ended (maker.clauses 𝓤 H A mem run) ((κs, qs, tt, a, vals), tt)
 
   exits : ent 𝓤 (onEntry 𝓤 H A maker.signature κs qs a vals) (Post (T′.lowered made))
   exits =
       qed W (raw (alive 𝓤 H A maker.signature κs qs) ∷ ‵ (owns (typesAt (maker.signature .params) κs) a vals) ∷ []) ∵
-      suffices ! _ (ends-at 𝓤 H A maker.ended stayed (maker.clauses 𝓤 H A mem run) W ((κs, qs, tt, a, vals), tt) (T′.lowered made) made (tt, (tt, (tt, tt))) (tt, (tt, (tt, tt)))) $ says ! (refl, refl) $ frame ! $
+      suffices ! _ (ends 𝓤 H A maker.ended (maker.clauses 𝓤 H A mem run) W ((κs, qs, tt, a, vals), tt) (T′.lowered made) made (tt, (tt, (tt, tt)))) $ says ! (refl, refl) $ frame ! $
       nothing ! $ nothing ! $ fjoin ! $ nothing ! $ fjoin ! $ nothing ! $ fjoin ! $ frame ! $ by ! (own-shut 𝓤 H A W (T.the-type α) (T′.the-laws α) a)
 
   module _ (C : Calls 𝓤 H) (Λ : Loops 𝓤 H) where
@@ -78,17 +74,12 @@ module _ {M : Type 1} (𝓤 : URA M) (H : Heap 𝓤) (A : Atoms 𝓤) (W : Given
         returns ! (look ! 6 refl) $ forget ! 0 refl $ forget ! 2 refl $ forget ! 4 refl $ forget ! 6 refl $
         move ! (6 ∷ 7 ∷ []) $ free1 ! $ move ! (4 ∷ 5 ∷ []) $ free1 ! $ move ! (2 ∷ 3 ∷ []) $ free1 ! $ free1 ! $ free0 ! $ by ! exits))))
 
-module _ {M : Type 1} (𝓤 : URA M) (H : Heap 𝓤) (A : Atoms 𝓤) (W : Given 𝓤 H A) (mem : Memory → SProp 𝓤) (run : Routine → Fun 𝓤) where
-  walks : (C : Calls 𝓤 H) (Λ : Loops 𝓤 H) → Walks 𝓤 H A maker.ended stayed (WpFn 𝓤 H C Λ code.function) (maker.clauses 𝓤 H A mem run)
-  walks C Λ =
-      walked 𝓤 H A maker.ended stayed (maker.clauses 𝓤 H A mem run) (WpFn 𝓤 H C Λ code.function) spelled
-      (λ κs. (shr-slice-tells (named 0) (κs .0) u32, (uint-tells w64, (uint-tells w64, tt)))) (λ κs qs bounds a g are. via 𝓤 _ (fst∗ 𝓤 _ (emp 𝓤)) (walk 𝓤 H A W mem run κs qs a C Λ are))
-
 meets : {M : Type 1} (𝓤 : URA M) (H : Heap 𝓤) (A : Atoms 𝓤) → Given 𝓤 H A → (mem : Memory → SProp 𝓤) (run : Routine → Fun 𝓤) (𝓣 : Tables 𝓤 H)
     → Meets 𝓤 H A maker.signature (WpFn 𝓤 H (𝓣 .C) (𝓣 .Λ) code.function) (maker.spec 𝓤 H A mem run)
 meets 𝓤 H A W mem run 𝓣 =
-    walk-meets 𝓤 H A maker.ended stayed W (all-go 𝓤 H A W (maker.ended .signature .params) (maker.ended .kept)) (maker.clauses 𝓤 H A mem run) (WpFn 𝓤 H (𝓣 .C) (𝓣 .Λ) code.function)
-    (WpFn-mono 𝓤 H (W .laws) 𝓣 code.function) (walks 𝓤 H A W mem run (𝓣 .C) (𝓣 .Λ))
+    passed-meets 𝓤 H A maker.ended (maker.clauses 𝓤 H A mem run) W 𝓣 code.function spelled
+    (λ κs. (shr-slice-tells (named 0) (κs .0) u32, (uint-tells w64, (uint-tells w64, tt))))
+    (λ κs qs bounds a g are. via 𝓤 _ (fst∗ 𝓤 _ (emp 𝓤)) (walk 𝓤 H A W mem run κs qs a (𝓣 .C) (𝓣 .Λ) are))
 
 pub matrix-of-spec : {M : Type 1} → stated.statement M
 unfolding code.routine tablesOf
