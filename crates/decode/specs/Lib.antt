@@ -1,4 +1,5 @@
 pub mod Checks
 pub mod Passing
+pub mod View
 pub mod Promise
 pub mod Phases

@@ -16,7 +16,15 @@ ghost use Rattle.automaton.specs.Valid.{Valid};
 ghost use Rattle.reading.specs.Matrix.{matrix};
 ghost use Rattle.decode.specs.Checks.{passes, matrix-fault, matrix-checks};
 ghost use Rattle.decode.specs.Passing.{Fits};
+ghost use Rattle.decode.specs.View.{value};
 ghost use Rattle.decode.specs.Promise.{rooms, DecodeAnswers, Decodes, reported};
+
+// The matrix as one thing: its costs, one column after another; its column width; its column count.
+pub struct Matrix<'a> {
+    pub costs: &'a [u32],
+    pub width: usize,
+    pub count: usize,
+}
 
 // What Decode answers: the price of the path and the length of its word, or why it turned the input away.
 pub enum Decoded {
@@ -107,8 +115,8 @@ pub fn decode_valid(
     Decoded::Path { price, length }
 }
 
-// Document 01's Decode.
-pub fn decode(
+// The work of Decode: the first check that holds, or what is read past them.
+fn decode_parts(
     form: &[u32],
     costs: &[u32],
     width: usize,
@@ -137,4 +145,51 @@ pub fn decode(
         Checked::Refused(r) => Decoded::Refused(r),
         Checked::Passed => decode_valid(form, costs, width, count, path, word, work),
     }
+}
+
+// The view of lent costs, with their column width and their number of columns.
+pub fn matrix_of(costs: &[u32], width: usize, count: usize) -> Matrix
+    ensures { λ r. ⌜ (r .costs ≡ costs .entry) × (value r ≡ matrix (now (costs .entry)) width count) ⌝ }
+{
+    Matrix {
+        costs,
+        width,
+        count,
+    }
+}
+
+// Document 01's Decode.
+pub fn decode_matrix(
+    form: &[u32],
+    matrix: Matrix,
+    path: &mut [u8],
+    word: &mut [u8],
+    work: &mut [u32],
+) -> Decoded
+    ensures { λ r. ⌜ Decodes (now (form .entry)) (value (matrix .entry)) (record { path = now (path .entry); word = now (word .entry); work = now (work .entry) }) (record { path = now (path .exit); word = now (word .exit); work = now (work .exit) }) (reported r) ⌝ }
+{
+    decode_parts(
+        form,
+        matrix.costs,
+        matrix.width,
+        matrix.count,
+        path,
+        word,
+        work,
+    )
+}
+
+// Decode for a caller that has the matrix by its parts: no view is in the signature, so the caller's proof needs no walk by hand.
+pub fn decode(
+    form: &[u32],
+    costs: &[u32],
+    width: usize,
+    count: usize,
+    path: &mut [u8],
+    word: &mut [u8],
+    work: &mut [u32],
+) -> Decoded
+    ensures { λ r. ⌜ Decodes (now (form .entry)) (matrix (now (costs .entry)) width count) (record { path = now (path .entry); word = now (word .entry); work = now (work .entry) }) (record { path = now (path .exit); word = now (word .exit); work = now (work .exit) }) (reported r) ⌝ }
+{
+    decode_matrix(form, matrix_of(costs, width, count), path, word, work)
 }

@@ -1,8 +1,10 @@
 // Read: from an alphabet, the text of an expression and a matrix of costs to the cheapest path whose collapse is a word of the expression,
 // with the word as characters (document 01, demand 3).
 use decode::Decoded;
+use decode::Matrix;
 use decode::check_matrix;
 use decode::decode_valid;
+use decode::matrix_of;
 use form::letters;
 use labels::wide;
 use refusal::Checked;
@@ -15,6 +17,7 @@ ghost use Rattle.automaton.specs.Form.{alphabetOf, lettersOf};
 ghost use Rattle.automaton.specs.Valid.{Valid};
 ghost use Rattle.decode.specs.Passing.{Fits};
 ghost use Rattle.decode.specs.Promise.{rooms};
+ghost use Rattle.decode.specs.View.{value};
 ghost use Rattle.reading.specs.Matrix.{matrix};
 ghost use Rattle.reader.specs.Promise.{reported, ReadsAccepted, ChecksForm, Reads};
 ghost use Rattle.reader.specs.Spelling.{Labels, Spelt};
@@ -100,8 +103,8 @@ fn read_form(
     }
 }
 
-// Document 01's Read.
-pub fn read(
+// The work of Read: Compile's refusal, or what the form that it wrote reads.
+fn read_parts(
     alphabet: &[u8],
     text: &[u8],
     costs: &[u32],
@@ -120,4 +123,54 @@ pub fn read(
             read_form(alphabet, &form[..n], costs, width, count, path, word, work)
         }
     }
+}
+
+// Document 01's Read.
+pub fn read_matrix(
+    alphabet: &[u8],
+    text: &[u8],
+    matrix: Matrix,
+    form: &mut [u32],
+    path: &mut [u8],
+    word: &mut [u8],
+    work: &mut [u32],
+) -> Reading
+    ensures { λ r. ⌜ Reads (now (alphabet .entry)) (now (text .entry)) (value (matrix .entry)) (now (form .entry)) (now (form .exit)) (record { path = now (path .entry); word = now (word .entry); work = now (work .entry) }) (record { path = now (path .exit); word = now (word .exit); work = now (work .exit) }) (reported r) ⌝ }
+{
+    read_parts(
+        alphabet,
+        text,
+        matrix.costs,
+        matrix.width,
+        matrix.count,
+        form,
+        path,
+        word,
+        work,
+    )
+}
+
+// Read for a caller that has the matrix by its parts: no view is in the signature, so the caller's proof needs no walk by hand.
+pub fn read(
+    alphabet: &[u8],
+    text: &[u8],
+    costs: &[u32],
+    width: usize,
+    count: usize,
+    form: &mut [u32],
+    path: &mut [u8],
+    word: &mut [u8],
+    work: &mut [u32],
+) -> Reading
+    ensures { λ r. ⌜ Reads (now (alphabet .entry)) (now (text .entry)) (matrix (now (costs .entry)) width count) (now (form .entry)) (now (form .exit)) (record { path = now (path .entry); word = now (word .entry); work = now (work .entry) }) (record { path = now (path .exit); word = now (word .exit); work = now (work .exit) }) (reported r) ⌝ }
+{
+    read_matrix(
+        alphabet,
+        text,
+        matrix_of(costs, width, count),
+        form,
+        path,
+        word,
+        work,
+    )
 }

@@ -1,0 +1,7 @@
+-- The matrix that a view lends: its costs, its column width and its column count. Assumes nothing.
+use denote.Ref.{now}
+use Rattle.reading.specs.Matrix.{Matrix, matrix}
+use Rattle.decode.specs.declared.Matrix.{Matrix as View}
+
+abbrev pub value : View → Matrix
+value v = matrix (now (v .costs)) (v .width) (v .count)
