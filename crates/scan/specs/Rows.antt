@@ -103,6 +103,41 @@ pub lines-none : linesOf [] ≡ some []
 unfolding closed pieces
 lines-none = refl
 
+-- a text whose lines are known begins with the first of them
+pub record FirstLine (s l : List ℕ) (ls : List (List ℕ)) : Type 0 where
+  pub behind : List ℕ
+  pub splits : s ≡ l ++ (10 ∷ behind)
+  pub others : linesOf behind ≡ some ls
+
+pub lines-back : (s l : List ℕ) (ls : List (List ℕ)) → linesOf s ≡ some (l ∷ ls) → FirstLine s l ls
+unfolding longer both
+lines-back [] l ls e = let n = lines-none in let z : _≡_ {A = ℕ} 0 1 = cc in absurd (omega arith)
+lines-back (b ∷ s) l ls e =
+    ⊎-elim (λ q. ends (linesOf s) refl q (sym (ap (λ a. linesOf (a ∷ s)) q ∙ lines-end [] s tt) ∙ e))
+    (λ q. goes-on (linesOf s) (lines-back s) (sym (lines-longer b [] s (q, tt)) ∙ e)) (eq-or-ne b 10)
+  where
+    ends : (o : Option (List (List ℕ))) → linesOf s ≡ o → b ≡ 10 → both (some []) o ≡ some (l ∷ ls) → FirstLine (b ∷ s) l ls
+    ends none p q h = let z : _≡_ {A = ℕ} 0 1 = cc in absurd (omega arith)
+    ends (some ms) p q h =
+        let k : [] ≡ l = cc in
+        let m : ms ≡ ls = cc in
+        record { behind = s; splits = ap (λ a. a ∷ s) q ∙ ap (λ x. x ++ (10 ∷ s)) k; others = p ∙ ap some m }
+
+    goes-on :
+        (o : Option (List (List ℕ))) → ((m : List ℕ) (ms : List (List ℕ)) → o ≡ some (m ∷ ms) → FirstLine s m ms)
+        → longer (b ∷ []) o ≡ some (l ∷ ls) → FirstLine (b ∷ s) l ls
+    goes-on none ih h = let z : _≡_ {A = ℕ} 0 1 = cc in absurd (omega arith)
+    goes-on (some []) ih h = let z : _≡_ {A = ℕ} 0 1 = cc in absurd (omega arith)
+    goes-on (some (m ∷ ms)) ih h =
+        let k : b ∷ m ≡ l = cc in
+        let n : ms ≡ ls = cc in
+        let f = ih m ms refl in
+        record {
+          behind = f .behind;
+          splits = ap (λ x. b ∷ x) (f .splits) ∙ ap (λ x. x ++ (10 ∷ f .behind)) k;
+          others = f .others ∙ ap some n;
+        }
+
 -- Columns.
 
 unfoldable pub columnsOf : Option (List (List ℕ)) → Option (List (List ℕ))

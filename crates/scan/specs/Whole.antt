@@ -17,7 +17,7 @@ use Rattle.expression.specs.Text.{provided}
 use Rattle.scan.specs.Sheet.{both, every, linesOf, columnOf, Sheet, laid, sheetFrom, sheetOf, widthOr, matrixOf}
 use Rattle.scan.specs.Rows.{Free, lines-end, lines-open, lines-none, columnsOf, rows}
 use Rattle.scan.specs.Places.{part, part-length, part-rest, LineEnd}
-use Rattle.scan.specs.Storing.{fitting, StoredMatrix}
+use Rattle.scan.specs.Matrices.{fitting, StoredMatrix}
 use Rattle.scan.specs.Answers.{answerOf, Scans}
 use Rattle.scan.specs.declared.Scanned.{Scanned}
 use Rattle.scan.specs.declared.Scanned.the-variants as scanned

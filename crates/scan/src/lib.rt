@@ -5,7 +5,8 @@ ghost use lib.ListN.{length};
 ghost use Rattle.scan.specs.Answers.{Scans};
 ghost use Rattle.scan.specs.Places.{LineEnd};
 ghost use Rattle.scan.specs.Digits.{digit, separator, padded, Digits as DigitsOf, ReadCost};
-ghost use Rattle.scan.specs.Storing.{StoredColumn, StoredColumns, StoredMatrix};
+ghost use Rattle.scan.specs.Storing.{StoredColumn, StoredColumns};
+ghost use Rattle.scan.specs.Matrices.{StoredMatrix};
 
 // The lengths of a sheet's first two lines, and its matrix's width and count.
 pub enum Scanned {

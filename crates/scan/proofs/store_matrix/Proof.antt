@@ -6,7 +6,8 @@ use borrow.Author.Needs.{needs}
 use lib.ListN.{length}
 use denote.Ref.{now}
 use Rattle.scan.specs.declared.Column.the-variants.{Ends}
-use Rattle.scan.specs.Storing.{StoredColumn, StoredColumns, matrix-none, matrix-bad, matrix-uneven, matrix-is}
+use Rattle.scan.specs.Storing.{StoredColumn, StoredColumns}
+use Rattle.scan.specs.Matrices.{matrix-none, matrix-bad, matrix-uneven, matrix-is}
 use Rattle.scan.proofs.store_matrix.Statement.{statement}
 use Rattle.scan.proofs.store_matrix.Tie as tie
 
