@@ -53,7 +53,9 @@ module _ (other : ℕ) (input : List ℕ) (at : ℕ) (before : List ℕ) where
         memory = sym (written-none before);
       }
 
-  pub matrix-bad : (middle after : List ℕ) → at < length input → StoredColumn input at 0 before middle column.Bad → StoredMatrix other input at before after body.Bad
+  pub matrix-bad :
+      (middle after : List ℕ) → at < length input → StoredColumn input at 0 before middle column.Bad
+      → StoredMatrix other input at before after body.Bad
   matrix-bad middle after l h [] e q = rows-some (drop at input) (let k = length-drop at input in omega arith) e
   matrix-bad middle after l h (c ∷ cs) e q =
       let k = h c cs e in
@@ -65,7 +67,8 @@ module _ (other : ℕ) (input : List ℕ) (at : ℕ) (before : List ℕ) where
     first : w ≡ length (h .costs)
     first = h .stored .next ∙ omega arith
 
-    pub matrix-uneven : (after : List ℕ) → StoredColumns w input e w 1 middle after columns.Bad → StoredMatrix other input at before after body.Bad
+    pub matrix-uneven :
+        (after : List ℕ) → StoredColumns w input e w 1 middle after columns.Bad → StoredMatrix other input at before after body.Bad
     matrix-uneven after s cs q t =
         let k = both-back (h .costs) (rows (drop e input)) cs (sym (h .is) ∙ q) in
         let u : fitting (h .costs ∷ k .0) ≡ true = rw (k .2) at t in

@@ -1,9 +1,9 @@
 -- Where the parts of a sheet are in its input, and how many costs it has: what a caller of `scan` relies on. Assumes nothing.
 use mathlib.Core.Path.{_≡_, refl, ap, _∙_, subst}
 use mathlib.Core.Option.{Option, some, none}
-use mathlib.Core.List.{List, [], _∷_, _++_, flatten}
+use mathlib.Core.List.{List, [], _∷_, flatten}
 use mathlib.Core.Bool.{Bool, true, false, _&&_}
-use Prim.Native.Nat.{ℕ, suc, _+_, _*_, _≤_}
+use Prim.Native.Nat.{ℕ, _+_, _*_, _≤_}
 use native.Mathlib.Omega.{arith}
 use lib.ListN.{length, take, drop, length-append}
 use lib.Seq.{take-append-seam, drop-append-add}
@@ -12,7 +12,7 @@ use borrow.Author.Tests.{eqb-true, eq-eqb, leb-true}
 use Rattle.lists.specs.Each.{all}
 use Rattle.lists.specs.Order.{and-left, and-right, and-both}
 use Rattle.expression.specs.Text.{provided}
-use Rattle.scan.specs.Sheet.{both, every, linesOf, columnOf, Sheet, even, laid, sheetFrom, sheetOf, widthOr, matrixOf}
+use Rattle.scan.specs.Sheet.{every, linesOf, columnOf, Sheet, even, laid, sheetFrom, sheetOf, widthOr, matrixOf}
 use Rattle.scan.specs.Rows.{FirstLine, lines-back}
 use Rattle.scan.specs.Answers.{answerOf}
 use Rattle.scan.specs.declared.Scanned.the-variants as scanned
