@@ -8,6 +8,7 @@ use native.Mathlib.Omega.{arith}
 use borrow.Author.Tests.{lt-ltb, le-ltb}
 use lib.ListN.{length, length-append}
 use Rattle.lists.specs.Order.{lt-or-le}
+use Rattle.expression.specs.Repetition.{value}
 use Rattle.print.specs.Lines.{digit, digits, decimal}
 
 digits-one : (k n : ℕ) → n < 10 → digits (suc k) n ≡ digit n ∷ []
@@ -48,26 +49,19 @@ decimal-short (suc k) n h =
     ⊎-elim (λ l. let e = ap length (decimal-one n l) in omega arith)
     (λ l. let e = decimal-longer n l in let d = decimal-short k (n / 10) (omega arith) in omega arith) (lt-or-le n 10)
 
--- the number that digits stand for, the last one of the lowest place
-abbrev with-digit : ℕ → List ℕ → ℕ
-with-digit n [] = n
-with-digit n (d ∷ ds) = with-digit (n * 10 + (d - 48)) ds
-
-abbrev pub value : List ℕ → ℕ
-value ds = with-digit 0 ds
-
-value-append : (n d : ℕ) (ds : List ℕ) → with-digit n (ds ++ (d ∷ [])) ≡ with-digit n ds * 10 + (d - 48)
+-- a digit behind others
+value-append : (n d : ℕ) (ds : List ℕ) → value n (ds ++ (d ∷ [])) ≡ 10 * value n ds + (d - 48)
 value-append n d [] = refl
-value-append n d (e ∷ ds) = value-append (n * 10 + (e - 48)) d ds
+value-append n d (e ∷ ds) = value-append (10 * n + (e - 48)) d ds
 
--- a numeral stands for its number
-digits-value : (k n : ℕ) → n < k → value (digits k n) ≡ n
+-- read as a number, a numeral gives what was written
+digits-value : (k n : ℕ) → n < k → value 0 (digits k n) ≡ n
 digits-value zero n h = absurd (omega arith)
 digits-value (suc k) n h =
-    ⊎-elim (λ l. ap value (digits-one k n l) ∙ omega arith)
-    (λ l. let i = digits-value k (n / 10) (omega arith) in ap value (digits-more k n l) ∙ value-append 0 (digit (n % 10)) (digits k (n / 10)) ∙ omega arith)
+    ⊎-elim (λ l. ap (value 0) (digits-one k n l) ∙ omega arith)
+    (λ l. let i = digits-value k (n / 10) (omega arith) in ap (value 0) (digits-more k n l) ∙ value-append 0 (digit (n % 10)) (digits k (n / 10)) ∙ omega arith)
     (lt-or-le n 10)
 
-pub decimal-value : (n : ℕ) → value (decimal n) ≡ n
+pub decimal-value : (n : ℕ) → value 0 (decimal n) ≡ n
 unfolding decimal
 decimal-value n = digits-value (n + 1) n (omega arith)
