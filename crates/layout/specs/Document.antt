@@ -1,8 +1,7 @@
 -- Document 01's sheet and some of its lines to try, as inputs of the sheet program and what is printed for each. Assumes nothing.
-use Prim.Native.Nat.{ℕ}
-use mathlib.Core.Path.{_≡_, refl}
+use mathlib.Core.Path.{refl}
 use mathlib.Core.Option.{some, none}
-use mathlib.Core.List.{List, [], _∷_, flatMap}
+use mathlib.Core.List.{[], _∷_, flatMap}
 use Rattle.lists.specs.Each.{all}
 use Rattle.lists.specs.Among.{any, keep}
 use Rattle.lists.specs.Ascending.{numbers}

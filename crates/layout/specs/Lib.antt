@@ -1,2 +1,4 @@
 pub mod Answer
 pub mod Document
+pub mod Promise
+pub mod Steps
