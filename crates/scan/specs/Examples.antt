@@ -1,7 +1,7 @@
 -- Sheets read by computation: document 01's sheet, the edges of the layout, and texts that are no sheet. Assumes nothing.
 use mathlib.Core.Path.{_≡_, refl}
 use mathlib.Core.Option.{Option, some, none}
-use mathlib.Core.List.{List, [], _∷_, _++_, map}
+use mathlib.Core.List.{List, [], _∷_, _++_, map, flatten}
 use mathlib.Core.Bool.{Bool, true, false, not}
 use Prim.Native.Nat.{ℕ, zero, suc}
 use Prim.Native.String.{String}
@@ -19,7 +19,6 @@ use Rattle.scan.specs.Sheet.{
   costOf,
   columnOf,
   Sheet,
-  joined,
   laid,
   sheetFrom,
   sheetOf,
@@ -38,11 +37,11 @@ document : Sheet
 document = record { alphabet = bytes "ab"; text = bytes "aa"; columns = column ∷ (column ∷ (column ∷ [])) }
 
 document-sheet : sheetOf (bytes "ab\naa\n5 1 9\n5 1 9\n5 1 9\n") ≡ some document
-unfolding document column sheetOf sheetFrom laid joined columnOf costOf closed every both pieces onto provided all
+unfolding document column sheetOf sheetFrom laid flatten columnOf costOf closed every both pieces onto provided all
 document-sheet = refl
 
 document-matrix : matrixOf document ≡ matrix (5 ∷ (1 ∷ (9 ∷ (5 ∷ (1 ∷ (9 ∷ (5 ∷ (1 ∷ (9 ∷ []))))))))) 3 3
-unfolding document column joined
+unfolding document column flatten
 document-matrix = refl
 
 -- no column line: the width is K + 1; both lines may be empty
@@ -50,15 +49,15 @@ no-column : Sheet
 no-column = record { alphabet = bytes "ab"; text = bytes "aa"; columns = [] }
 
 no-column-sheet : sheetOf (bytes "ab\naa\n") ≡ some no-column
-unfolding no-column sheetOf sheetFrom laid joined columnOf costOf closed every both pieces onto provided all
+unfolding no-column sheetOf sheetFrom laid flatten columnOf costOf closed every both pieces onto provided all
 no-column-sheet = refl
 
 no-column-matrix : matrixOf no-column ≡ matrix [] 3 0
-unfolding no-column joined
+unfolding no-column flatten
 no-column-matrix = refl
 
 empty-lines : sheetOf (bytes "\n\n") ≡ some (record { alphabet = []; text = []; columns = [] })
-unfolding sheetOf sheetFrom laid joined columnOf costOf closed every both pieces onto provided all
+unfolding sheetOf sheetFrom laid flatten columnOf costOf closed every both pieces onto provided all
 empty-lines = refl
 
 -- the costs that texts are
@@ -93,7 +92,7 @@ no-sheets : all (λ s. is-none (sheetOf (bytes s)))
     ∷ "ab\r\naa\r\n5 1 9\r\n"
     ∷ [])
     ≡ true
-unfolding is-none sheetOf sheetFrom laid joined columnOf costOf closed every both pieces onto provided all
+unfolding is-none sheetOf sheetFrom laid flatten columnOf costOf closed every both pieces onto provided all
 no-sheets = refl
 
 -- texts of 65,535 bytes and of one more, with an empty alphabet line
@@ -101,7 +100,7 @@ long : ℕ → List ℕ
 long n = 10 ∷ (replicate n 97 ++ (10 ∷ []))
 
 limit-of-bytes : map (λ n. is-none (sheetOf (long n))) (65533 ∷ (65534 ∷ [])) ≡ false ∷ (true ∷ [])
-unfolding long is-none sheetOf sheetFrom laid joined columnOf costOf closed every both pieces onto provided all
+unfolding long is-none sheetOf sheetFrom laid flatten columnOf costOf closed every both pieces onto provided all
 limit-of-bytes = refl
 
 -- 16,384 costs and one more: columns of one cost 0
@@ -110,5 +109,5 @@ many zero = []
 many (suc n) = 48 ∷ (10 ∷ many n)
 
 limit-of-costs : map (λ n. is-none (sheetOf (10 ∷ (10 ∷ many n)))) (16384 ∷ (16385 ∷ [])) ≡ false ∷ (true ∷ [])
-unfolding many is-none sheetOf sheetFrom laid joined columnOf costOf closed every both pieces onto provided all
+unfolding many is-none sheetOf sheetFrom laid flatten columnOf costOf closed every both pieces onto provided all
 limit-of-costs = refl

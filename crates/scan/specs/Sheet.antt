@@ -2,7 +2,7 @@
 -- column, numbers of 1 to 7 digits with no extra leading zero, one space between." What is no sheet is row 18 of the table.
 -- Assumes nothing.
 use mathlib.Core.Option.{Option, some, none}
-use mathlib.Core.List.{List, [], _∷_, _++_}
+use mathlib.Core.List.{List, [], _∷_, flatten}
 use mathlib.Core.Bool.{Bool, true, false, cond, not, _&&_}
 use Prim.Native.Nat.{ℕ, _+_}
 use Prim.Native.Char.{code}
@@ -69,14 +69,9 @@ abbrev pub even : List (List ℕ) → Bool
 even [] = true
 even (c ∷ cs) = all (λ d. eqb (length d) (length c)) cs
 
--- one column behind another
-unfoldable pub joined : List (List ℕ) → List ℕ
-joined [] = []
-joined (c ∷ cs) = c ++ joined cs
-
 unfoldable pub laid : List ℕ → List ℕ → Option (List (List ℕ)) → Option Sheet
 laid a t none = none
-laid a t (some cs) = provided (even cs && leb (length (joined cs)) 16384) (some (record { alphabet = a; text = t; columns = cs }))
+laid a t (some cs) = provided (even cs && leb (length (flatten cs)) 16384) (some (record { alphabet = a; text = t; columns = cs }))
 
 -- "There may be no column line."
 unfoldable pub sheetFrom : Option (List (List ℕ)) → Option Sheet
@@ -94,5 +89,6 @@ abbrev pub widthOr : ℕ → List (List ℕ) → ℕ
 widthOr other [] = other
 widthOr other (c ∷ cs) = length c
 
+-- the columns one behind another
 abbrev pub matrixOf : Sheet → Matrix
-matrixOf S = matrix (joined (S .columns)) (widthOr (length (S .alphabet) + 1) (S .columns)) (length (S .columns))
+matrixOf S = matrix (flatten (S .columns)) (widthOr (length (S .alphabet) + 1) (S .columns)) (length (S .columns))

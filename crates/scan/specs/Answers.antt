@@ -1,0 +1,20 @@
+-- What `scan` promises: it answers the sheet that the input is, or that it is none, and stores the sheet's costs. Assumes nothing.
+use mathlib.Core.Path.{_≡_}
+use mathlib.Core.Option.{Option, some, none}
+use mathlib.Core.List.{List}
+use Prim.Native.Nat.{ℕ}
+use lib.ListN.{length}
+use Rattle.lists.specs.Written.{written}
+use Rattle.scan.specs.Sheet.{Sheet, sheetOf, matrixOf}
+use Rattle.scan.specs.declared.Scanned.{Scanned}
+use Rattle.scan.specs.declared.Scanned.the-variants as scanned
+
+-- a sheet as it is answered: the lengths of its two lines, and its matrix's width and count
+abbrev pub answerOf : Option Sheet → Scanned
+answerOf none = scanned.Bad
+answerOf (some S) = scanned.Sheet (length (S .alphabet)) (length (S .text)) (matrixOf S .width) (matrixOf S .count)
+
+pub record Scans (input before after : List ℕ) (r : Scanned) : Type 0 where
+  pub answer : r ≡ answerOf (sheetOf input)
+  pub costs : (S : Sheet) → sheetOf input ≡ some S → after ≡ written (matrixOf S .costs) before
+  pub size : length after ≡ length before
