@@ -2,3 +2,4 @@ pub mod Answer
 pub mod Document
 pub mod Promise
 pub mod Steps
+pub mod Sheets

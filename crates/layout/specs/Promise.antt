@@ -27,3 +27,10 @@ module _ (Printed : List ℕ → Type 0) (bytes out out′ : List ℕ) (answer :
         within = omega (arith, ap length (wrote .memory), written-fits bytes out);
         counted = e ∙ ap length (sym (ap (take answer) (wrote .memory) ∙ take-written bytes out answer e));
       }
+
+-- what is printed, said in other words
+pub answers-as :
+    (P Q : List ℕ → Type 0) (out out′ : List ℕ) (answer : ℕ) → ((bytes : List ℕ) → P bytes → Q bytes) → Answers P out out′ answer
+    → Answers Q out out′ answer
+answers-as P Q out out′ answer f a =
+    record { bytes = a .bytes; is = f (a .bytes) (a .is); wrote = a .wrote; within = a .within; counted = a .counted }
