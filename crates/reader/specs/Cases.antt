@@ -101,7 +101,7 @@ holds-stated : (c : Case) → holds c ≡ true → Stated c
 unfolding holds
 holds-stated (case A s costs t o p) h = tried-true (bytes A) (bytes s) (matrix costs (length (bytes A) + 1) t) o p (compile-call (bytes A) (bytes s) 99) refl h
 
-pub cases : List Case
+unfoldable pub cases : List Case
 cases =
     case "ab" "ab" (5 ∷ 1 ∷ 9 ∷ 5 ∷ 9 ∷ 2 ∷ []) 2 (some (1 ∷ 2 ∷ [])) 3
     ∷ case "ab" "aa" (5 ∷ 1 ∷ 9 ∷ 5 ∷ 1 ∷ 9 ∷ 5 ∷ 1 ∷ 9 ∷ []) 3 (some (1 ∷ 0 ∷ 1 ∷ [])) 7

@@ -31,7 +31,7 @@ use Rattle.reader.specs.Memory.{written-over, take-written, written-fits
 use Rattle.reader.specs.Spelling.{Labels, Spelt}
 
 -- no row has the number 0
-number-some : (n : Refusal) → 1 ≤ numberOf n
+pub number-some : (n : Refusal) → 1 ≤ numberOf n
 number-some Alphabet = omega arith
 number-some TextLength = omega arith
 number-some TextByte = omega arith

@@ -1,0 +1,81 @@
+// From the bytes of a sheet to the bytes that are printed for it (document 01, "Confidences and the sheet program").
+use reader::Reading;
+use refusal::Refusal;
+use scan::Scanned;
+ghost use mathlib.Core.Path.{_≡_};
+ghost use Prim.Native.Nat.{_≤_};
+ghost use lib.ListN.{length};
+ghost use Rattle.reading.specs.Matrix.{matrix};
+ghost use Rattle.layout.specs.Answer.{PrintsReading, Prints};
+ghost use Rattle.layout.specs.Promise.{Answers};
+ghost use Rattle.layout.specs.Steps.{Sized};
+
+// Reads an alphabet, a text and a matrix, and prints what Read answers; the number of bytes.
+fn answer_reading(
+    alphabet: &[u8],
+    text: &[u8],
+    costs: &[u32],
+    width: usize,
+    count: usize,
+    form: &mut [u32],
+    path: &mut [u8],
+    word: &mut [u8],
+    work: &mut [u32],
+    out: &mut [u8],
+) -> usize
+    requires { ⌜ Sized (now form) (record { path = now path; word = now word; work = now work }) × (1300 ≤ length (now out)) ⌝ }
+    ensures { λ r. ⌜ Answers (PrintsReading (now (alphabet .entry)) (now (text .entry)) (matrix (now (costs .entry)) width count)) (now (out .entry)) (now (out .exit)) r ⌝ }
+{
+    match reader::read(alphabet, text, costs, width, count, form, path, word, work) {
+        Reading::Refused(r) => print::print_refusal(r, out),
+        Reading::Path {
+            price,
+            length,
+            form: _,
+        } => print::print_reading(price, &word[..length], &path[..count], out),
+    }
+}
+
+// Reads a sheet and prints its reading or refusal; the number of bytes.
+pub fn answer(
+    input: &[u8],
+    costs: &mut [u32],
+    form: &mut [u32],
+    path: &mut [u8],
+    word: &mut [u8],
+    work: &mut [u32],
+    out: &mut [u8],
+) -> usize
+    requires { ⌜ 16384 ≤ length (now costs) ⌝ }
+    requires { ⌜ length (now form) ≡ 16384 ⌝ }
+    requires { ⌜ length (now path) ≡ 255 ⌝ }
+    requires { ⌜ length (now word) ≡ 255 ⌝ }
+    requires { ⌜ length (now work) ≡ 16384 ⌝ }
+    requires { ⌜ 1300 ≤ length (now out) ⌝ }
+    ensures { λ r. ⌜ Answers (Prints (now (input .entry))) (now (out .entry)) (now (out .exit)) r ⌝ }
+{
+    let Scanned::Sheet {
+        alphabet,
+        text,
+        width,
+        count,
+    } = scan::scan(input, costs)
+    else {
+        return print::print_refusal(Refusal::Sheet, out);
+    };
+    let begin = alphabet + 1;
+    let end = begin + text;
+    let size = count * width;
+    answer_reading(
+        &input[..alphabet],
+        &input[begin..end],
+        &costs[..size],
+        width,
+        count,
+        form,
+        path,
+        word,
+        work,
+        out,
+    )
+}

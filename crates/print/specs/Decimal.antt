@@ -1,0 +1,67 @@
+-- Laws of the decimal numeral: its last digit, its length, the number that it stands for. Assumes nothing.
+use Prim.Native.Nat.{ℕ, zero, suc, _+_, _-_, _*_, _/_, _%_, _^_, _<_, _≤_}
+use mathlib.Core.Path.{_≡_, refl, sym, ap, _∙_}
+use mathlib.Core.Logic.{⊎-elim}
+use mathlib.Core.List.{List, [], _∷_, _++_}
+use native.Mathlib.Nat.{pow-suc}
+use native.Mathlib.Omega.{arith}
+use borrow.Author.Tests.{lt-ltb, le-ltb}
+use lib.ListN.{length, length-append}
+use Rattle.lists.specs.Order.{lt-or-le}
+use Rattle.expression.specs.Repetition.{value}
+use Rattle.print.specs.Lines.{digit, digits, decimal}
+
+digits-one : (k n : ℕ) → n < 10 → digits (suc k) n ≡ digit n ∷ []
+unfolding digits
+digits-one k n h = rw (lt-ltb n 10 h, digits)
+
+digits-more : (k n : ℕ) → 10 ≤ n → digits (suc k) n ≡ digits k (n / 10) ++ (digit (n % 10) ∷ [])
+unfolding digits
+digits-more k n h = rw (le-ltb n 10 h, digits)
+
+-- divisions enough give the same digits
+digits-enough : (k j n : ℕ) → n < k → n < j → digits k n ≡ digits j n
+digits-enough zero j n h g = absurd (omega arith)
+digits-enough (suc k) zero n h g = absurd (omega arith)
+digits-enough (suc k) (suc j) n h g =
+    ⊎-elim (λ l. digits-one k n l ∙ sym (digits-one j n l))
+    (λ l. digits-more k n l ∙ ap (λ ds. ds ++ (digit (n % 10) ∷ [])) (digits-enough k j (n / 10) (omega arith) (omega arith)) ∙ sym (digits-more j n l))
+    (lt-or-le n 10)
+
+pub decimal-one : (n : ℕ) → n < 10 → decimal n ≡ digit n ∷ []
+unfolding decimal
+decimal-one n h = digits-enough (n + 1) (suc n) n (omega arith) (omega arith) ∙ digits-one n n h
+
+pub decimal-more : (n : ℕ) → 10 ≤ n → decimal n ≡ decimal (n / 10) ++ (digit (n % 10) ∷ [])
+unfolding decimal
+decimal-more n h =
+    digits-enough (n + 1) (suc n) n (omega arith) (omega arith) ∙ digits-more n n h
+    ∙ ap (λ ds. ds ++ (digit (n % 10) ∷ [])) (digits-enough n (n / 10 + 1) (n / 10) (omega arith) (omega arith))
+
+pub decimal-longer : (n : ℕ) → 10 ≤ n → length (decimal n) ≡ length (decimal (n / 10)) + 1
+decimal-longer n h = ap length (decimal-more n h) ∙ length-append (decimal (n / 10)) (digit (n % 10) ∷ [])
+
+-- a number below 10 ^ k has at most k digits
+pub decimal-short : (k n : ℕ) → n < 10 ^ suc k → length (decimal n) ≤ suc k
+decimal-short zero n h = let l = ap length (decimal-one n (omega arith)) in omega arith
+decimal-short (suc k) n h =
+    let p = pow-suc 10 (suc k) in
+    ⊎-elim (λ l. let e = ap length (decimal-one n l) in omega arith)
+    (λ l. let e = decimal-longer n l in let d = decimal-short k (n / 10) (omega arith) in omega arith) (lt-or-le n 10)
+
+-- a digit behind others
+value-append : (n d : ℕ) (ds : List ℕ) → value n (ds ++ (d ∷ [])) ≡ 10 * value n ds + (d - 48)
+value-append n d [] = refl
+value-append n d (e ∷ ds) = value-append (10 * n + (e - 48)) d ds
+
+-- read as a number, a numeral gives what was written
+digits-value : (k n : ℕ) → n < k → value 0 (digits k n) ≡ n
+digits-value zero n h = absurd (omega arith)
+digits-value (suc k) n h =
+    ⊎-elim (λ l. ap (value 0) (digits-one k n l) ∙ omega arith)
+    (λ l. let i = digits-value k (n / 10) (omega arith) in ap (value 0) (digits-more k n l) ∙ value-append 0 (digit (n % 10)) (digits k (n / 10)) ∙ omega arith)
+    (lt-or-le n 10)
+
+pub decimal-value : (n : ℕ) → value 0 (decimal n) ≡ n
+unfolding decimal
+decimal-value n = digits-value (n + 1) n (omega arith)
