@@ -9,9 +9,8 @@
       1 alphabet       not 1 to 95 distinct bytes, each 32 to 126
       2 text length    0 or over 255
       3 text byte      one outside 32 to 126
-      4 misplaced sign a repetition with nothing to repeat, or behind another but for one question mark; an empty branch or group; a stray
-                       or missing closing parenthesis; a caret or dollar sign outside brackets without a backslash; a backslash before
-                       another sign than it may stand before
+      4 misplaced sign a repetition with nothing to repeat, or behind another but for one ?; an empty branch or group; a stray or missing );
+                       ^ or $ outside brackets without \ in front; \ in front of none of the signs that it makes ordinary
       5 depth          a 17th open group
       6 count          braces ill-formed or out of range
       7 bracket        unclosed, a range descending, a hyphen where no item may begin with it, or [. [= [: inside
@@ -40,8 +39,8 @@ extern "C" {
 #endif
 
 /* Writes the form of an expression over an alphabet: it accepts a word of labels exactly if the word is one of the expression's, by its
-   text. counts[0] is the form's length. Memory of 16,257 words (the head, 127 letters, an arc from each to each) is enough for every
-   expression. Refusals: 1 to 10. */
+   text. counts[0] is the form's length. No form is longer than 16,257 words: the head, 127 letters, an arc from each to each. Refusals:
+   1 to 10. */
 uint32_t kavurehy_compile(const uint8_t *alphabet, size_t alphabet_length, const uint8_t *text, size_t text_length, uint32_t *form,
                           size_t form_memory, uint32_t counts[1]);
 

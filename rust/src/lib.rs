@@ -49,7 +49,7 @@ pub struct TextReading {
     pub form: usize,
 }
 
-/// Form memory that is enough for every expression: the head, 127 letters and an arc from each to each.
+/// The length of the longest form: the head, 127 letters and an arc from each to each.
 pub const FORM_WORDS: usize = 1 + 127 + 127 * 127;
 
 /// How many work words [`decode`] and [`read`] need for so many columns and letters.

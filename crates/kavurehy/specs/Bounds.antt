@@ -1,5 +1,5 @@
 -- The lengths that the calls report fit 32 bits. Assumes nothing.
-use Prim.Native.Nat.{ℕ, suc, _*_, _^_, _<_, _≤_}
+use Prim.Native.Nat.{ℕ, _*_, _^_, _<_, _≤_}
 use mathlib.Core.Path.{_≡_, refl, ap}
 use mathlib.Core.Bool.{Bool, true, false, not, _||_}
 use mathlib.Core.List.{List, [], _∷_, map, flatMap}
@@ -11,7 +11,7 @@ use lib.Dec.{ltb}
 use borrow.Author.Tests.{ltb-false}
 use Rattle.lists.specs.Order.{or-neither}
 use Rattle.lists.specs.Each.{all}
-use Rattle.lists.specs.Among.{keep, keeping}
+use Rattle.lists.specs.Among.{keep, keep-shorter, flat-length}
 use Rattle.lists.specs.Ascending.{numbers, length-numbers}
 use Rattle.refusal.specs.declared.Refusal.{Refusal}
 use Rattle.refusal.specs.declared.Refusal.the-variants.{BadForm, OutputMemory, Label}
@@ -64,22 +64,8 @@ spread-few k word room =
     filled-few 510 (spread word) (ltb room (length (spread word))) (label-fault k 1 word) OutputMemory Label
     (λ e. let h = short k 1 word e in omega (arith, spread-length word, few-pairs-in word))
 
--- Compile: a head, a word for each of at most 127 letters, and at most as many arcs from each.
-keep-shorter : {A : Type 0} (p : A → Bool) (xs : List A) → length (keep p xs) ≤ length xs
-unfolding keep
-keep-shorter p [] = omega arith
-keep-shorter p (x ∷ xs) = by (p x) (keep-shorter p xs)
-  where
-    by : (b : Bool) → length (keep p xs) ≤ length xs → length (keeping b x (keep p xs)) ≤ suc (length xs)
-    by true h = omega arith
-    by false h = omega arith
-
-flat-most : {A B : Type 0} (f : A → List B) (n : ℕ) → ((x : A) → length (f x) ≤ n) → (xs : List A) → length (flatMap f xs) ≤ length xs * n
-unfolding flatMap
-flat-most f n h [] = omega arith
-flat-most f n h (x ∷ xs) = let a = h x in let b = flat-most f n h xs in omega (arith, length-append (f x) (flatMap f xs))
-
-form-few : (f : List ℕ) → validForm f ≡ true → length f ≤ 16257
+-- Compile: a form has its head, a word for each of at most 127 letters, and at most an arc from each to each.
+pub form-few : (f : List ℕ) → validForm f ≡ true → length f ≤ 16257
 unfolding encode
 form-few f valid =
     let A = view f in
@@ -88,7 +74,7 @@ form-few f valid =
     let size = length-numbers 1 (A .letters) in
     let count : length letters ≤ 127 = omega arith in
     let row : (i : ℕ) → length (arcsFrom A i) ≤ A .letters = λ i. omega (arith, length-map (keep (A .follow i) letters) (arcWord i), keep-shorter (A .follow i) letters) in
-    let arcs = flat-most (arcsFrom A) (A .letters) row letters in
+    let arcs = flat-length (arcsFrom A) (A .letters) row letters in
     let square : length letters * A .letters ≤ 127 * 127 = mul-le-mul count few in
     let same = ap length (encode-view f valid) in
     omega (arith, length-map letters (letterOf A), length-append (map (letterOf A) letters) (flatMap (arcsFrom A) letters))

@@ -1,13 +1,13 @@
 -- Which elements a list has: as a fact, as a test, and after a map, a choice or a joining.
 -- Assumes nothing.
-use Prim.Native.Nat.{ℕ, zero, suc, _+_, _<_}
+use Prim.Native.Nat.{ℕ, zero, suc, _+_, _*_, _<_, _≤_}
 use mathlib.Core.Path.{_≡_, refl, sym, ap, ap₂, subst, _∙_}
 use mathlib.Core.Bool.{Bool, true, false, cond, _||_}
 use mathlib.Core.Logic.{_⊎_, inl, inr}
 use mathlib.Core.List.{List, [], _∷_, _++_, map, flatMap}
 use native.Mathlib.Nat.{le-of-suc-le-suc, not-suc-le-zero}
 use native.Mathlib.Omega.{arith}
-use lib.ListN.{length, getD}
+use lib.ListN.{length, getD, length-append}
 use Rattle.lists.specs.Each.{Each}
 use Rattle.lists.specs.Order.{or-either}
 
@@ -97,6 +97,15 @@ module _ {A : Type 0} where
   keeping-length true x xs = omega arith
   keeping-length false x xs = omega arith
 
+  pub keep-shorter : (p : A → Bool) (xs : List A) → length (keep p xs) ≤ length xs
+  unfolding keep
+  keep-shorter p [] = omega arith
+  keep-shorter p (x ∷ xs) = by (p x) (keep-shorter p xs)
+    where
+      by : (t : Bool) → length (keep p xs) ≤ length xs → length (keeping t x (keep p xs)) ≤ suc (length xs)
+      by true h = omega arith
+      by false h = omega arith
+
   pub among-keep : (p : A → Bool) (a : A) (xs : List A) → Among a xs → p a ≡ true → Among a (keep p xs)
   unfolding keep
   among-keep p a [] m h = absurd m
@@ -157,3 +166,9 @@ module _ {A B : Type 0} (f : A → List B) where
           → (a : A) × ((a ≡ x) ⊎ Among a xs) × Among b (f a)
       by (inl l) ih = (x, inl refl, l)
       by (inr r) ih = let q = ih r in (q .0, inr (q .1), q .2)
+
+  -- lists of at most n elements each
+  pub flat-length : (n : ℕ) → ((a : A) → length (f a) ≤ n) → (xs : List A) → length (flatMap f xs) ≤ length xs * n
+  unfolding flatMap
+  flat-length n h [] = omega arith
+  flat-length n h (x ∷ xs) = let a = h x in let b = flat-length n h xs in omega (arith, length-append (f x) (flatMap f xs))
