@@ -1,34 +1,25 @@
-//! Compile: the readings of the document's open points by hand, random texts against the model, and what the forms accept.
+//! Compile: random texts against the model, and what the forms accept.
 use crate::model::derivatives::Machine;
 use crate::model::expression::{parse, Tree};
-use crate::model::form::Form;
-use crate::model::opening;
+use crate::model::opening::{compile, compile_within};
 use crate::model::words::is_word;
-use crate::support::{random, Lent, Random, Tally};
+use crate::support::{number, random, Lent, Random, Tally};
 use crate::texts::{alphabet, bad_alphabet, text};
 use crate::writer::expression;
 use crate::LEAST;
-use kavurehy::{raw, Refusal, FORM_WORDS};
-use std::rc::Rc;
+use kavurehy::{raw, FORM_WORDS};
 
 const CASES: usize = 200_000;
 
-/// The tree and the form, or the first row of 1 to 10 that applies.
-pub fn model(alphabet: &[u8], text: &[u8], memory: usize) -> Result<(Rc<Tree>, Form), u32> {
-    let (tree, form) = opening::compile(alphabet, text)?;
-    if form.words().len() > memory {
-        return Err(10);
-    }
-    Ok((tree, form))
-}
-
 /// Compiles, and holds the answer and the form memory to the document; the number of the refusal, or 0.
 pub fn hold(alphabet: &[u8], text: &[u8], memory: usize) -> u32 {
-    let expected = model(alphabet, text, memory).map(|(_, form)| form.words());
-    let written = expected.clone().unwrap_or_default();
+    let expected = compile_within(alphabet, text, memory).map(|(_, form)| form.words());
+    let row = *expected.as_ref().err().unwrap_or(&0);
+    let written = expected.unwrap_or_default();
+    let said = format!("{} {}", alphabet.escape_ascii(), text.escape_ascii());
     let mut form = Lent::new(memory);
     let mut counts = [u32::MAX];
-    let number = unsafe {
+    let answered = unsafe {
         raw::kavurehy_compile(
             alphabet.as_ptr(),
             alphabet.len(),
@@ -39,31 +30,15 @@ pub fn hold(alphabet: &[u8], text: &[u8], memory: usize) -> u32 {
             &mut counts,
         )
     };
-    let said = (alphabet.escape_ascii(), text.escape_ascii());
-    assert_eq!(number, expected.err().unwrap_or(0), "{} {}", said.0, said.1);
-    assert_eq!(counts, [written.len() as u32], "{} {}", said.0, said.1);
+    assert_eq!((answered, counts), (row, [written.len() as u32]), "{said}");
     form.wrote(&written);
 
-    let mut again = Lent::new(memory);
-    let answer = kavurehy::compile(alphabet, text, again.memory());
-    let expected = if number == 0 {
-        Ok(written.len())
-    } else {
-        Err(number)
-    };
-    assert_eq!(answer.map_err(Refusal::number), expected);
-    again.wrote(&written);
-    number
-}
-
-/// Room around the form's length: mostly enough, at times short.
-pub fn room(r: &mut Random, need: usize) -> usize {
-    match r.below(20) {
-        0 => need.saturating_sub(r.from(1, 5)),
-        1 => r.below(need + 1),
-        2..=9 => need,
-        _ => need + r.from(1, 9),
-    }
+    let mut form = Lent::new(memory);
+    let answer = kavurehy::compile(alphabet, text, form.memory());
+    assert_eq!(number(&answer), row, "{said}");
+    assert_eq!(answer.unwrap_or(0), written.len(), "{said}");
+    form.wrote(&written);
+    row
 }
 
 #[test]
@@ -78,8 +53,9 @@ fn random_texts() {
         if r.chance(2) {
             alphabet = bad_alphabet(&mut r);
         }
-        let need = opening::compile(&alphabet, &text).map_or(5, |c| c.1.words().len());
-        tally.add(hold(&alphabet, &text, room(&mut r, need)));
+        let need = compile(&alphabet, &text).map_or(5, |c| c.1.words().len());
+        let memory = r.room(need);
+        tally.add(hold(&alphabet, &text, memory));
     }
     tally.demand("compile", LEAST, &[0, 1, 2, 3, 4, 5, 6, 7, 8, 9, 10]);
 }

@@ -1,19 +1,26 @@
 //! Decode: an exhaustive search on small matrices, another exact method on long lines, each refusal in its place.
-use crate::call::{few_columns, Line, Memory};
 use crate::forms::{damaged, flipped, random_form, KINDS};
+use crate::matrix::{few_columns, Line, Memory};
 use crate::model::collapse;
 use crate::model::form::Form;
 use crate::model::ranked::ranked;
 use crate::model::search::{exhaustive, tied, Best};
-use crate::support::{random, Random, Tally};
+use crate::support::{number, random, Random, Tally};
 use crate::LEAST;
-use kavurehy::{raw, Reading, Refusal};
+use kavurehy::raw;
 
 /// A call of Decode.
 #[derive(Clone, Debug)]
 struct Call {
     form: Vec<u32>,
     line: Line,
+}
+
+/// What it answers and writes: the number, the price with the word's length, and all lent memory.
+struct Answer {
+    number: u32,
+    counts: [u32; 2],
+    memory: Memory,
 }
 
 impl Call {
@@ -41,29 +48,49 @@ impl Call {
         }
     }
 
-    /// The number and the counts that the library answers, with what it leaves in memory.
-    fn answer(&self) -> (u32, [u32; 2], Memory) {
+    /// By the exported call.
+    fn answer(&self) -> Answer {
         let mut memory = Memory::lend(&self.line);
         let mut counts = [u32::MAX; 2];
-        let line = &self.line;
         let number = unsafe {
             raw::kavurehy_decode(
                 self.form.as_ptr(),
                 self.form.len(),
-                line.costs.as_ptr(),
-                line.costs.len(),
-                line.width,
-                line.columns,
+                self.line.costs.as_ptr(),
+                self.line.costs.len(),
+                self.line.width,
+                self.line.columns,
                 memory.path.memory().as_mut_ptr(),
-                line.path,
+                self.line.path,
                 memory.word.memory().as_mut_ptr(),
-                line.word,
+                self.line.word,
                 memory.work.memory().as_mut_ptr(),
-                line.work,
+                self.line.work,
                 &mut counts,
             )
         };
-        (number, counts, memory)
+        Answer {
+            number,
+            counts,
+            memory,
+        }
+    }
+
+    /// By the safe function.
+    fn answer_safe(&self) -> Answer {
+        let mut memory = Memory::lend(&self.line);
+        let reading = kavurehy::decode(
+            &self.form,
+            self.line.matrix(),
+            memory.path.memory(),
+            memory.word.memory(),
+            memory.work.memory(),
+        );
+        Answer {
+            number: number(&reading),
+            counts: reading.map_or([0; 2], |x| [x.price, x.length as u32]),
+            memory,
+        }
     }
 
     /// The form and the work words needed, or the first row of 11 to 15 that applies.
@@ -80,25 +107,21 @@ impl Call {
             Err(row) => (Err(row), 0),
             Ok((form, need)) => (search(&form).ok_or(16), need),
         };
-        let (price, path) = match &expected {
-            Ok(best) => (best.price, &best.path[..]),
-            Err(_) => (0, &[][..]),
+        let (number, price, path) = match &expected {
+            Ok(best) => (0, best.price, &best.path[..]),
+            Err(row) => (*row, 0, &[][..]),
         };
         let word = collapse(path);
-        let (number, counts, mut memory) = self.answer();
+        let counts = [price, word.len() as u32];
+        for answer in [self.answer(), self.answer_safe()] {
+            assert_eq!(
+                (answer.number, answer.counts),
+                (number, counts),
+                "{self:x?}"
+            );
+            answer.memory.wrote(path, &word, touched);
+        }
         tally.add(number);
-        assert_eq!(number, *expected.as_ref().err().unwrap_or(&0), "{self:x?}");
-        assert_eq!(counts, [price, word.len() as u32], "{self:x?}");
-        memory.wrote(path, &word, touched);
-
-        let [path, word_memory] = [memory.path.memory(), memory.word.memory()];
-        let work = memory.work.memory();
-        let again = kavurehy::decode(&self.form, self.line.matrix(), path, word_memory, work);
-        let length = word.len();
-        assert_eq!(
-            again.map_err(Refusal::number),
-            expected.clone().map(|_| Reading { price, length })
-        );
         expected
     }
 

@@ -1,6 +1,6 @@
 //! Collapse, Spread and the costs of confidences.
 use crate::model;
-use crate::support::{random, Lent, Random, Tally};
+use crate::support::{number, random, Lent, Random, Tally};
 use crate::LEAST;
 use kavurehy::{raw, Refusal};
 
@@ -32,21 +32,9 @@ fn alphabet(r: &mut Random) -> usize {
     }
 }
 
-/// Room around the need: short, exact or more.
-fn room(r: &mut Random, need: usize) -> usize {
-    match r.below(8) {
-        0 => need.saturating_sub(r.from(1, 5)),
-        1 | 2 => need,
-        _ => need + r.from(0, 20),
-    }
-}
-
-fn as_number<T>(answer: &Result<T, Refusal>) -> u32 {
-    answer.as_ref().err().map_or(0, |row| row.number())
-}
-
 /// Holds both functions of a call that fills one list, and the memory, to what is expected; the number.
 fn hold(
+    given: (usize, &[u8]),
     expected: &Result<Vec<u8>, u32>,
     memory: usize,
     call: impl Fn(&mut [u8], &mut [u32; 1]) -> u32,
@@ -58,16 +46,17 @@ fn hold(
     };
     let mut lent = Lent::new(memory);
     let mut counts = [u32::MAX];
-    let number = call(lent.memory(), &mut counts);
-    assert_eq!((number, counts), (row, [written.len() as u32]));
+    let answered = call(lent.memory(), &mut counts);
+    let length = [written.len() as u32];
+    assert_eq!((answered, counts), (row, length), "{given:?}");
     lent.wrote(written);
 
     let mut lent = Lent::new(memory);
     let answer = safe(lent.memory());
-    assert_eq!(as_number(&answer), row);
+    assert_eq!(number(&answer), row, "{given:?}");
     assert_eq!(answer.unwrap_or(0), written.len());
     lent.wrote(written);
-    number
+    row
 }
 
 #[test]
@@ -77,7 +66,7 @@ fn collapse() {
     for _ in 0..CASES {
         let k = alphabet(&mut r);
         let path = labels(&mut r, k, 0);
-        let memory = room(&mut r, path.len());
+        let memory = r.room(path.len());
         let expected = match memory < path.len() {
             true => Err(14),
             false if model::bad_labels(k, 0, &path) => Err(17),
@@ -89,7 +78,7 @@ fn collapse() {
             raw::kavurehy_collapse(k, path.as_ptr(), path.len(), word, word_memory, counts)
         };
         let safe = |word: &mut [u8]| kavurehy::collapse(k, &path, word);
-        tally.add(hold(&expected, memory, call, safe));
+        tally.add(hold((k, &path), &expected, memory, call, safe));
     }
     tally.demand("collapse", LEAST, &[0, 14, 17]);
 }
@@ -102,7 +91,7 @@ fn spread() {
         let k = alphabet(&mut r);
         let word = labels(&mut r, k, 1);
         let need = word.len() + word.windows(2).filter(|pair| pair[0] == pair[1]).count();
-        let memory = room(&mut r, need);
+        let memory = r.room(need);
         let expected = match memory < need {
             true => Err(14),
             false if model::bad_labels(k, 1, &word) => Err(17),
@@ -114,7 +103,7 @@ fn spread() {
             raw::kavurehy_spread(k, word.as_ptr(), word.len(), path, path_memory, counts)
         };
         let safe = |path: &mut [u8]| kavurehy::spread(k, &word, path);
-        tally.add(hold(&expected, memory, call, safe));
+        tally.add(hold((k, &word), &expected, memory, call, safe));
         if let Ok(path) = expected {
             assert_eq!(model::collapse(&path), word);
         }
@@ -134,13 +123,13 @@ fn costs() {
 
     let mut r = random("costs");
     let mut tally = Tally::default();
-    for _ in 0..CASES / 10 {
+    for _ in 0..CASES / 5 {
         let length = *r.pick(&[0, 1, 10, 100, 255, 256, 1000]);
         let confidences: Vec<u8> = (0..length).map(|_| r.next() as u8).collect();
-        let mut memory = Lent::new(room(&mut r, length));
+        let mut memory = Lent::new(r.room(length));
         let short = memory.memory().len() < length;
         let answer = kavurehy::costs(&confidences, memory.memory());
-        tally.add(as_number(&answer));
+        tally.add(number(&answer));
         if short {
             assert_eq!(answer, Err(Refusal::OutputMemory));
             memory.wrote(&[]);

@@ -1,13 +1,13 @@
 //! The exported calls against document 01, on random input from a printed seed (`KAVUREHY_SEED` sets another). `model` says what
 //! the document says, by other means than the Rattle code; every list that is lent stands between guards.
 
-mod call;
 mod compile;
 mod decode;
 mod forms;
 mod judge;
 mod labels;
 mod lines;
+mod matrix;
 mod model;
 mod read;
 mod read_call;

@@ -1,8 +1,8 @@
 //! Read, from the text to the path: an exhaustive search on small matrices, another exact method on longer lines, each refusal
 //! in its place.
-use crate::call::Line;
+use crate::matrix::Line;
 use crate::model::collapse;
-use crate::model::opening;
+use crate::model::opening::compile;
 use crate::model::ranked::ranked;
 use crate::model::search::tied;
 use crate::model::words::is_word;
@@ -23,7 +23,7 @@ fn small_reads() {
     for _ in 0..150_000 {
         let mut call = Call::small(&mut r);
         if let Ok(best) = call.hold_small(&mut tally) {
-            let (tree, form) = opening::compile(&call.alphabet, &call.text).unwrap();
+            let (tree, form) = compile(&call.alphabet, &call.text).unwrap();
             let costs = &call.line.costs;
             ties += usize::from(tied(form.k, costs, &best, |w| is_word(&tree, w)));
             let word = collapse(&best.path);
@@ -49,12 +49,12 @@ fn medium_reads() {
     let mut r = random("medium_reads");
     let mut tally = Tally::default();
     let mut left_out = 0;
-    for _ in 0..10_000 {
+    for _ in 0..20_000 {
         let call = Call::proper(&mut r, 12, 24, |r, alphabet| expression(r, alphabet, 5).0);
         left_out += usize::from(call.hold_long(&mut tally, 200).is_none());
     }
     tally.demand("read of medium lines", LEAST, &[0, 10, 16]);
-    assert!(left_out < 1_000, "{left_out} lines were left out");
+    assert!(left_out < 2_000, "{left_out} lines were left out");
 }
 
 /// Up to 255 columns, 127 letters and 95 characters, and all three seen.
@@ -64,7 +64,7 @@ fn long_reads() {
     let mut tally = Tally::default();
     let mut left_out = 0;
     let mut most = [0; 3];
-    for n in 0..800 {
+    for n in 0..1_200 {
         let (characters, size) = [(95, 12), (5, 10), (40, 8), (95, 0)][n % 4];
         let call = Call::proper(&mut r, characters, 255, |r, alphabet| match size {
             0 => many_letters(r, alphabet),
@@ -74,7 +74,7 @@ fn long_reads() {
             None => left_out += 1,
             Some(Err(_)) => {}
             Some(Ok(best)) => {
-                let form = opening::compile(&call.alphabet, &call.text).unwrap().1;
+                let form = compile(&call.alphabet, &call.text).unwrap().1;
                 let seen = [best.path.len(), form.letters.len(), form.k.into()];
                 most = std::array::from_fn(|i| most[i].max(seen[i]));
             }
@@ -82,7 +82,7 @@ fn long_reads() {
     }
     tally.demand("read of long lines", 20, &[0, 10, 16]);
     assert_eq!(most, [255, 127, 95]);
-    assert!(left_out < 80, "{left_out} lines were left out");
+    assert!(left_out < 120, "{left_out} lines were left out");
 }
 
 #[test]

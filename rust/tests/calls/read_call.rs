@@ -1,17 +1,16 @@
 //! A call of Read: what it is given, what the document says of it, and what the library says.
-use crate::call::{few_columns, Line, Memory};
-use crate::compile::{model, room};
+use crate::matrix::{few_columns, Line, Memory};
 use crate::model::collapse;
 use crate::model::derivatives::Machine;
 use crate::model::expression::Tree;
 use crate::model::form::Form;
-use crate::model::opening;
+use crate::model::opening::{compile, compile_within};
 use crate::model::ranked::ranked;
 use crate::model::search::{exhaustive, Best};
 use crate::model::words::is_word;
-use crate::support::{Lent, Random, Tally};
+use crate::support::{number, Lent, Random, Tally};
 use crate::texts::{alphabet, bad_alphabet, damage, text};
-use kavurehy::{raw, Refusal};
+use kavurehy::raw;
 use std::rc::Rc;
 
 /// A call of Read; `form` is the length of the form memory.
@@ -40,10 +39,10 @@ struct Answer {
 }
 
 impl Call {
-    /// A call with memory enough, mostly; the columns for this text may be as many as `most` says.
+    /// A call with at most so many columns; with memory enough, mostly.
     fn random(r: &mut Random, alphabet: Vec<u8>, text: Vec<u8>, most: usize) -> Call {
         let k = alphabet.len();
-        let (letters, form) = match opening::compile(&alphabet, &text) {
+        let (letters, form) = match compile(&alphabet, &text) {
             Ok((_, form)) => (form.letters.len(), form.words().len()),
             Err(_) => (r.from(1, 4), r.from(3, 9)),
         };
@@ -51,7 +50,7 @@ impl Call {
         Call {
             alphabet,
             text,
-            form: room(r, form),
+            form: r.room(form),
             line: Line::random(r, k, letters, columns),
         }
     }
@@ -76,7 +75,7 @@ impl Call {
         loop {
             let alphabet = alphabet(r, characters);
             let text = write(r, &alphabet);
-            if opening::compile(&alphabet, &text).is_ok() {
+            if compile(&alphabet, &text).is_ok() {
                 return Call::random(r, alphabet, text, columns);
             }
         }
@@ -140,7 +139,7 @@ impl Call {
             memory.work.memory(),
         );
         Answer {
-            number: reading.map_or_else(Refusal::number, |_| 0),
+            number: number(&reading),
             counts: reading.map_or([0; 3], |x| [x.price, x.length as u32, x.form as u32]),
             form,
             memory,
@@ -149,7 +148,7 @@ impl Call {
 
     /// By the document; `search` finds the best path of an expression and its form.
     fn expected(&self, search: impl Fn(&Rc<Tree>, &Form) -> Option<Best>) -> Expected {
-        match model(&self.alphabet, &self.text, self.form) {
+        match compile_within(&self.alphabet, &self.text, self.form) {
             Err(row) => Expected {
                 answer: Err(row),
                 form: Vec::new(),
@@ -187,10 +186,10 @@ impl Call {
         search: impl Fn(&Rc<Tree>, &Form) -> Option<Best>,
     ) -> Result<Best, u32> {
         let expected = self.expected(search);
-        let answer = self.answer();
-        tally.add(answer.number);
-        self.compare(&expected, &answer);
-        self.compare(&expected, &self.answer_safe());
+        for answer in [self.answer(), self.answer_safe()] {
+            self.compare(&expected, &answer);
+        }
+        tally.add(*expected.answer.as_ref().err().unwrap_or(&0));
         expected.answer
     }
 
@@ -204,7 +203,7 @@ impl Call {
 
     /// By what remains of the tree, and by the form; none if what remains has more than `most` states.
     pub fn hold_long(&self, tally: &mut Tally, most: usize) -> Option<Result<Best, u32>> {
-        let (tree, form) = opening::compile(&self.alphabet, &self.text).ok()?;
+        let (tree, form) = compile(&self.alphabet, &self.text).ok()?;
         let machine = Machine::new(&tree, form.k, most)?;
         let answer = self.hold(tally, |_, form| {
             let best = machine.best(&self.line.costs, self.line.width);

@@ -1,12 +1,13 @@
 //! How rows 1 to 10 of the table are read, text by text, with the numbers written by hand: the model and Compile are both held
 //! to them.
-use crate::compile::{hold, model};
+use crate::compile::hold;
+use crate::model::opening::compile;
 use kavurehy::FORM_WORDS;
 
 /// This text over this alphabet is answered with this number.
 fn answers(alphabet: &[u8], row: u32, text: &str) {
     let text = text.as_bytes();
-    let by_model = model(alphabet, text, FORM_WORDS).err().unwrap_or(0);
+    let by_model = compile(alphabet, text).err().unwrap_or(0);
     assert_eq!(by_model, row, "model: {}", text.escape_ascii());
     assert_eq!(hold(alphabet, text, FORM_WORDS), row);
 }

@@ -27,6 +27,19 @@ pub fn compile(alphabet: &[u8], text: &[u8]) -> Result<(Rc<Tree>, Form), u32> {
     Ok((tree, form))
 }
 
+/// The same with form memory of this length: the first row of 1 to 10.
+pub fn compile_within(
+    alphabet: &[u8],
+    text: &[u8],
+    memory: usize,
+) -> Result<(Rc<Tree>, Form), u32> {
+    let (tree, form) = compile(alphabet, text)?;
+    if form.words().len() > memory {
+        return Err(10);
+    }
+    Ok((tree, form))
+}
+
 /// How many letters an expression opens into. Nested counts multiply beyond any integer: the largest stands for all of those.
 fn letters(tree: &Tree) -> usize {
     match tree {

@@ -1,4 +1,4 @@
-//! What a call of Decode or Read is given besides the form or the text: a matrix, and path, word and work memory.
+//! What Decode and Read are given besides a form or a text: a matrix, and path, word and work memory.
 use crate::support::{Lent, Random};
 use kavurehy::Matrix;
 
