@@ -1,5 +1,5 @@
 //! Random valid forms, and every way to damage one.
-use crate::oracle::{Form, Letter};
+use crate::model::form::{Form, Letter};
 use crate::support::Random;
 
 /// A valid form of at most so many characters and letters. A quarter have one label only, so that blanks are needed
@@ -30,46 +30,52 @@ pub fn random_form(r: &mut Random, most_characters: usize, most_letters: usize) 
 /// The kinds of damage that `damaged` knows.
 pub const KINDS: usize = 24;
 
-/// A list that is no valid form, by one kind of damage to a valid one.
+/// A list that is no valid form, by one kind of damage to a valid one: a field out of range, or the layout broken.
 pub fn damaged(r: &mut Random, kind: usize) -> Vec<u32> {
     let mut form = random_form(r, 20, 12);
     while form.letters.len() < 2 {
         form.letters.push(form.letters[0].clone());
     }
-    let l = form.letters.len();
     form.arcs.extend([(1, 2), (2, 1)]);
-    let i = r.below(l);
-    let letter = 1 + i;
-    let source = r.from(1, l) as u8;
-    let other_kind = |r: &mut Random, word: u32| {
-        let kind = (word >> 28) + r.from(1, 15) as u32;
-        word & 0x0fff_ffff | kind << 28
-    };
-    // A field out of range: letters, characters, a label, an arc's target or source.
     match kind {
-        0 => return Vec::new(),
+        0 => Vec::new(),
+        1..=10 => out_of_range(r, form, kind).words(),
+        _ => broken(r, &form, kind),
+    }
+}
+
+/// A field out of range: letters, characters, a label, an arc's target or source.
+fn out_of_range(r: &mut Random, mut form: Form, kind: usize) -> Form {
+    let l = form.letters.len();
+    let i = r.below(l);
+    let letter = r.from(1, l) as u8;
+    match kind {
         1 => form.letters.clear(),
-        2 => form.letters.resize(
-            r.edge(128, 255),
-            Letter {
-                label: 1,
-                first: true,
-                last: true,
-            },
-        ),
+        2 => form
+            .letters
+            .resize(r.edge(128, 255), form.letters[i].clone()),
         3 => form.k = 0,
         4 => form.k = r.edge(96, 255) as u8,
         5 => form.letters[i].label = 0,
         6 => form.letters[i].label = r.edge(form.k as usize + 1, 255) as u8,
-        7 => drop(form.arcs.insert((source, 0))),
-        8 => drop(form.arcs.insert((source, r.edge(l + 1, 255) as u8))),
-        9 => drop(form.arcs.insert((0, source))),
-        10 => drop(form.arcs.insert((r.edge(l + 1, 255) as u8, source))),
-        _ => {}
+        7 => drop(form.arcs.insert((letter, 0))),
+        8 => drop(form.arcs.insert((letter, r.edge(l + 1, 255) as u8))),
+        9 => drop(form.arcs.insert((0, letter))),
+        _ => drop(form.arcs.insert((r.edge(l + 1, 255) as u8, letter))),
     }
+    form
+}
+
+/// The layout broken: a kind, an unnamed bit, a list cut short, arcs out of order or twice, a word too many, a wrong count.
+fn broken(r: &mut Random, form: &Form, kind: usize) -> Vec<u32> {
     let mut words = form.words();
+    let l = form.letters.len();
+    let letter = r.from(1, l);
     let arc = 1 + l + r.below(form.arcs.len());
-    // The layout broken: a kind, an unnamed bit, a list cut short, arcs out of order or twice, a word too many, a wrong count.
+    let other_kind = |r: &mut Random, word: u32| {
+        let kind = (word >> 28) + r.from(1, 15) as u32;
+        word & 0x0fff_ffff | kind << 28
+    };
     match kind {
         11 => words[0] = other_kind(r, words[0]),
         12 => words[0] |= 1 << *r.pick(&[9, 10, 11, 12, 13, 14, 15, 24, 25, 26, 27]),
@@ -83,8 +89,7 @@ pub fn damaged(r: &mut Random, kind: usize) -> Vec<u32> {
         20 => words.push(words[letter]),
         21 => words[0] += 1,
         22 => words[0] -= 1,
-        23 => words.push(0),
-        _ => {}
+        _ => words.push(0),
     }
     words
 }

@@ -1,6 +1,7 @@
 //! Judge: random forms, words along their walks and beside them, damaged forms.
 use crate::forms::{damaged, flipped, random_form, KINDS};
-use crate::oracle::{bad_labels, Form};
+use crate::model::bad_labels;
+use crate::model::form::Form;
 use crate::support::{random, Random, Tally};
 use crate::LEAST;
 use kavurehy::{raw, Refusal};

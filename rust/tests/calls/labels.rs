@@ -1,6 +1,6 @@
 //! Collapse, Spread and the costs of confidences.
-use crate::oracle;
-use crate::support::{random, Lent, Random, Tally};
+use crate::model;
+use crate::support::{number, random, Lent, Random, Tally};
 use crate::LEAST;
 use kavurehy::{raw, Refusal};
 
@@ -32,17 +32,31 @@ fn alphabet(r: &mut Random) -> usize {
     }
 }
 
-/// Room around the need: short, exact or more.
-fn room(r: &mut Random, need: usize) -> usize {
-    match r.below(8) {
-        0 => need.saturating_sub(r.from(1, 5)),
-        1 | 2 => need,
-        _ => need + r.from(0, 20),
-    }
-}
+/// Holds both functions of a call that fills one list, and the memory, to what is expected; the number.
+fn hold(
+    given: (usize, &[u8]),
+    expected: &Result<Vec<u8>, u32>,
+    memory: usize,
+    call: impl Fn(&mut [u8], &mut [u32; 1]) -> u32,
+    safe: impl Fn(&mut [u8]) -> Result<usize, Refusal>,
+) -> u32 {
+    let (row, written) = match expected {
+        Ok(list) => (0, &list[..]),
+        Err(row) => (*row, &[][..]),
+    };
+    let mut lent = Lent::new(memory);
+    let mut counts = [u32::MAX];
+    let answered = call(lent.memory(), &mut counts);
+    let length = [written.len() as u32];
+    assert_eq!((answered, counts), (row, length), "{given:?}");
+    lent.wrote(written);
 
-fn as_number<T>(answer: &Result<T, Refusal>) -> u32 {
-    answer.as_ref().err().map_or(0, |row| row.number())
+    let mut lent = Lent::new(memory);
+    let answer = safe(lent.memory());
+    assert_eq!(number(&answer), row, "{given:?}");
+    assert_eq!(answer.unwrap_or(0), written.len());
+    lent.wrote(written);
+    row
 }
 
 #[test]
@@ -52,39 +66,19 @@ fn collapse() {
     for _ in 0..CASES {
         let k = alphabet(&mut r);
         let path = labels(&mut r, k, 0);
-        let mut word = Lent::new(room(&mut r, path.len()));
-        let expected = match word.memory().len() {
-            n if n < path.len() => Err(14),
-            _ if oracle::bad_labels(k, 0, &path) => Err(17),
-            _ => Ok(oracle::collapse(&path)),
+        let memory = r.room(path.len());
+        let expected = match memory < path.len() {
+            true => Err(14),
+            false if model::bad_labels(k, 0, &path) => Err(17),
+            false => Ok(model::collapse(&path)),
         };
-        let mut counts = [u32::MAX];
-        let memory = word.memory();
-        let number = unsafe {
-            raw::kavurehy_collapse(
-                k,
-                path.as_ptr(),
-                path.len(),
-                memory.as_mut_ptr(),
-                memory.len(),
-                &mut counts,
-            )
+        let call = |word: &mut [u8], counts: &mut [u32; 1]| unsafe {
+            let word_memory = word.len();
+            let word = word.as_mut_ptr();
+            raw::kavurehy_collapse(k, path.as_ptr(), path.len(), word, word_memory, counts)
         };
-        tally.add(number);
-        let written = expected.clone().unwrap_or_default();
-        assert_eq!(
-            number,
-            expected.clone().err().unwrap_or(0),
-            "K {k} {path:?}"
-        );
-        assert_eq!(counts, [written.len() as u32]);
-        word.wrote(&written);
-
-        let mut again = Lent::new(word.memory().len());
-        let answer = kavurehy::collapse(k, &path, again.memory());
-        assert_eq!(as_number(&answer), number);
-        assert_eq!(answer.unwrap_or(0), written.len());
-        again.wrote(&written);
+        let safe = |word: &mut [u8]| kavurehy::collapse(k, &path, word);
+        tally.add(hold((k, &path), &expected, memory, call, safe));
     }
     tally.demand("collapse", LEAST, &[0, 14, 17]);
 }
@@ -97,41 +91,21 @@ fn spread() {
         let k = alphabet(&mut r);
         let word = labels(&mut r, k, 1);
         let need = word.len() + word.windows(2).filter(|pair| pair[0] == pair[1]).count();
-        let mut path = Lent::new(room(&mut r, need));
-        let expected = match path.memory().len() {
-            n if n < need => Err(14),
-            _ if oracle::bad_labels(k, 1, &word) => Err(17),
-            _ => Ok(oracle::spread(&word)),
+        let memory = r.room(need);
+        let expected = match memory < need {
+            true => Err(14),
+            false if model::bad_labels(k, 1, &word) => Err(17),
+            false => Ok(model::spread(&word)),
         };
-        let mut counts = [u32::MAX];
-        let memory = path.memory();
-        let number = unsafe {
-            raw::kavurehy_spread(
-                k,
-                word.as_ptr(),
-                word.len(),
-                memory.as_mut_ptr(),
-                memory.len(),
-                &mut counts,
-            )
+        let call = |path: &mut [u8], counts: &mut [u32; 1]| unsafe {
+            let path_memory = path.len();
+            let path = path.as_mut_ptr();
+            raw::kavurehy_spread(k, word.as_ptr(), word.len(), path, path_memory, counts)
         };
-        tally.add(number);
-        let written = expected.clone().unwrap_or_default();
-        assert_eq!(
-            number,
-            expected.clone().err().unwrap_or(0),
-            "K {k} {word:?}"
-        );
-        assert_eq!(counts, [written.len() as u32]);
-        path.wrote(&written);
-
-        let mut again = Lent::new(path.memory().len());
-        let answer = kavurehy::spread(k, &word, again.memory());
-        assert_eq!(as_number(&answer), number);
-        assert_eq!(answer.unwrap_or(0), written.len());
-        again.wrote(&written);
-        if number == 0 {
-            assert_eq!(oracle::collapse(&written), word);
+        let safe = |path: &mut [u8]| kavurehy::spread(k, &word, path);
+        tally.add(hold((k, &word), &expected, memory, call, safe));
+        if let Ok(path) = expected {
+            assert_eq!(model::collapse(&path), word);
         }
     }
     tally.demand("spread", LEAST, &[0, 14, 17]);
@@ -142,20 +116,20 @@ fn costs() {
     let every: Vec<u8> = (0..=255).collect();
     let mut all = Lent::new(256);
     assert_eq!(kavurehy::costs(&every, all.memory()), Ok(()));
-    all.wrote(&every.iter().map(|&c| oracle::cost(c)).collect::<Vec<u32>>());
+    all.wrote(&every.iter().map(|&c| model::cost(c)).collect::<Vec<u32>>());
     for (confidence, cost) in [(255, 0), (182, 3), (181, 4), (128, 8), (1, 64), (0, 72)] {
         assert_eq!(all.memory()[confidence], cost);
     }
 
     let mut r = random("costs");
     let mut tally = Tally::default();
-    for _ in 0..CASES / 10 {
+    for _ in 0..CASES / 5 {
         let length = *r.pick(&[0, 1, 10, 100, 255, 256, 1000]);
         let confidences: Vec<u8> = (0..length).map(|_| r.next() as u8).collect();
-        let mut memory = Lent::new(room(&mut r, length));
+        let mut memory = Lent::new(r.room(length));
         let short = memory.memory().len() < length;
         let answer = kavurehy::costs(&confidences, memory.memory());
-        tally.add(as_number(&answer));
+        tally.add(number(&answer));
         if short {
             assert_eq!(answer, Err(Refusal::OutputMemory));
             memory.wrote(&[]);
@@ -164,7 +138,7 @@ fn costs() {
             memory.wrote(
                 &confidences
                     .iter()
-                    .map(|&c| oracle::cost(c))
+                    .map(|&c| model::cost(c))
                     .collect::<Vec<u32>>(),
             );
         }

@@ -1,5 +1,6 @@
-//! Document 01's lines for Decode, on forms written by hand, and its limits.
-use kavurehy::{collapse, decode, judge, spread, work_words, Matrix, Reading, Refusal};
+//! Document 01's lines for Read and Decode, the forms written by hand, and the limits.
+use kavurehy::{collapse, decode, judge, read, spread, work_words};
+use kavurehy::{Matrix, Reading, Refusal, TextReading};
 
 /// Over the alphabet `ab`.
 const AB: &[u32] = &[0x10020002, 0x20000101, 0x20000202, 0x30000102];
@@ -13,43 +14,62 @@ const ANY: &[u32] = &[
 /// `ab*`, as document 01 gives it.
 const A_B_STAR: &[u32] = &[0x10020002, 0x20000301, 0x20000202, 0x30000102, 0x30000202];
 
-/// Path, word and price of a line, with memory for four columns.
-fn read<const N: usize>(
+/// What Read says of a line with memory for four columns: path, word and price, or the number of the refusal. Decode must say
+/// the same of the form.
+fn line<const N: usize>(
+    text: &str,
     form: &[u32],
     columns: [[u32; 3]; N],
-) -> Result<(Vec<u8>, Vec<u8>, u32), u32> {
+) -> Result<(Vec<u8>, String, u32), u32> {
     let costs = columns.concat();
     let matrix = Matrix {
         costs: &costs,
         width: 3,
         columns: N,
     };
-    let (mut path, mut word, mut work) = ([9; 4], [9; 4], [9; 25]);
-    let Reading { price, length } =
-        decode(form, matrix, &mut path, &mut word, &mut work).map_err(Refusal::number)?;
-    Ok((path[..N].to_vec(), word[..length].to_vec(), price))
+    let (mut path, mut labels, mut work) = ([9; 4], [9; 4], [9; 25]);
+    let decoded = decode(form, matrix, &mut path, &mut labels, &mut work);
+
+    let (mut words, mut again, mut word) = ([9; 7], [9; 4], [9; 4]);
+    let text = text.as_bytes();
+    let answer = read(
+        b"ab", text, matrix, &mut words, &mut again, &mut word, &mut work,
+    );
+    assert_eq!(words[..form.len()], *form);
+    assert_eq!(path, again);
+    assert_eq!(decoded.err(), answer.err());
+    let price = answer.map_err(Refusal::number)?.price;
+    let Reading { length, .. } = decoded.unwrap();
+    let form = form.len();
+    assert_eq!(decoded, Ok(Reading { price, length }));
+    assert_eq!(
+        answer,
+        Ok(TextReading {
+            price,
+            length,
+            form
+        })
+    );
+    let spelt: Vec<u8> = labels[..length].iter().map(|x| x + b'a' - 1).collect();
+    assert_eq!(word[..length], spelt);
+    Ok((path[..N].to_vec(), String::from_utf8(spelt).unwrap(), price))
 }
 
 #[test]
 fn lines_of_the_document() {
-    assert_eq!(
-        read(AB, [[5, 1, 9], [5, 9, 2]]),
-        Ok((vec![1, 2], vec![1, 2], 3))
-    );
-    assert_eq!(read(AA, [[5, 1, 9]; 3]), Ok((vec![1, 0, 1], vec![1, 1], 7)));
-    assert_eq!(read(AA, [[5, 1, 9]; 2]), Err(16));
-    assert_eq!(read(A_STAR, []), Ok((vec![], vec![], 0)));
-    assert_eq!(read(A, []), Err(16));
-    assert_eq!(read(A_OR_B, [[0, 4, 4]]), Ok((vec![1], vec![1], 4)));
-    assert_eq!(read(A, [[0, 0, 0]; 2]), Ok((vec![0, 1], vec![1], 0)));
-    assert_eq!(
-        read(AA, [[1, 0, 9]; 4]),
-        Ok((vec![1, 0, 1, 1], vec![1, 1], 1))
-    );
-    assert_eq!(
-        read(ANY, [[3, 1, 1]; 2]),
-        Ok((vec![1, 1], vec![1, 1][..1].to_vec(), 2))
-    );
+    let says = |path: &[u8], word: &str, price: u32| Ok((path.to_vec(), word.to_string(), price));
+    let ab = [[5, 1, 9], [5, 9, 2]];
+    assert_eq!(line("ab", AB, ab), says(&[1, 2], "ab", 3));
+    assert_eq!(line("aa", AA, [[5, 1, 9]; 3]), says(&[1, 0, 1], "aa", 7));
+    assert_eq!(line("aa", AA, [[5, 1, 9]; 2]), Err(16));
+    assert_eq!(line("a*", A_STAR, []), says(&[], "", 0));
+    assert_eq!(line("a", A, []), Err(16));
+    assert_eq!(line("a|b", A_OR_B, [[0, 4, 4]]), says(&[1], "a", 4));
+    assert_eq!(line("a", A, [[0, 0, 0]; 2]), says(&[0, 1], "a", 0));
+    let four = [[1, 0, 9]; 4];
+    assert_eq!(line("a{2}", AA, four), says(&[1, 0, 1, 1], "aa", 1));
+    assert_eq!(line("(a|b)*", ANY, [[3, 1, 1]; 2]), says(&[1, 1], "a", 2));
+    assert_eq!(line("ab*", A_B_STAR, ab), says(&[1, 2], "ab", 3));
     assert_eq!(judge(A_B_STAR, &[1, 2, 2]), Ok(true));
     assert_eq!(judge(A_B_STAR, &[2]), Ok(false));
 }
@@ -87,7 +107,13 @@ fn limits() {
             columns: 3,
         };
         let (mut path, mut word, mut work) = ([9; 3], [9; 3], vec![9; words]);
-        decode(AA, matrix, &mut path, &mut word, &mut work)
+        let answer = decode(AA, matrix, &mut path, &mut word, &mut work);
+        let mut form = [9; 4];
+        let from_text = read(
+            b"ab", b"aa", matrix, &mut form, &mut path, &mut word, &mut work,
+        );
+        assert_eq!(from_text.map(|r| r.price), answer.map(|r| r.price));
+        answer
     };
     assert_eq!(work_words(3, 2), 20);
     assert_eq!(

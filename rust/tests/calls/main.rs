@@ -1,13 +1,20 @@
-//! The exported calls against document 01, on random input from a printed seed (`KAVUREHY_SEED` sets another). `oracle` says what
+//! The exported calls against document 01, on random input from a printed seed (`KAVUREHY_SEED` sets another). `model` says what
 //! the document says, by other means than the Rattle code; every list that is lent stands between guards.
 
+mod compile;
 mod decode;
 mod forms;
 mod judge;
 mod labels;
 mod lines;
-mod oracle;
+mod matrix;
+mod model;
+mod read;
+mod read_call;
+mod readings;
 mod support;
+mod texts;
+mod writer;
 
 /// How often each call answers each of its numbers, at least, on the random input of its test.
 const LEAST: usize = 500;

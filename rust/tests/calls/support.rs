@@ -1,4 +1,5 @@
 //! Random numbers from a printed seed, lent memory between guards, and a tally of the numbers that calls answered.
+use kavurehy::Refusal;
 use std::io::Write;
 
 /// The seed: `KAVUREHY_SEED`, or always the same. It is printed past the test harness, which keeps the output of tests that
@@ -42,6 +43,16 @@ impl Random {
             0 => low,
             1 => high,
             _ => self.from(low, high),
+        }
+    }
+
+    /// Memory for a need: at times short, else exact or more.
+    pub fn room(&mut self, need: usize) -> usize {
+        match self.below(20) {
+            0 => need.saturating_sub(self.from(1, 5)),
+            1 => self.below(need + 1),
+            2..=9 => need,
+            _ => need + self.from(1, 20),
         }
     }
 
@@ -110,6 +121,11 @@ impl<T: Element> Lent<T> {
             }
         }
     }
+}
+
+/// The number that a safe function's answer stands for: that of the refusal, or 0.
+pub fn number<T>(answer: &Result<T, Refusal>) -> u32 {
+    answer.as_ref().err().map_or(0, |row| row.number())
 }
 
 /// How often each number was answered.

@@ -1,0 +1,120 @@
+//! Compile: random texts against the model, and what the forms accept.
+use crate::model::derivatives::Machine;
+use crate::model::expression::{parse, Tree};
+use crate::model::opening::{compile, compile_within};
+use crate::model::words::is_word;
+use crate::support::{number, random, Lent, Random, Tally};
+use crate::texts::{alphabet, bad_alphabet, text};
+use crate::writer::expression;
+use crate::LEAST;
+use kavurehy::{raw, FORM_WORDS};
+
+const CASES: usize = 200_000;
+
+/// Compiles, and holds the answer and the form memory to the document; the number of the refusal, or 0.
+pub fn hold(alphabet: &[u8], text: &[u8], memory: usize) -> u32 {
+    let expected = compile_within(alphabet, text, memory).map(|(_, form)| form.words());
+    let row = *expected.as_ref().err().unwrap_or(&0);
+    let written = expected.unwrap_or_default();
+    let said = format!("{} {}", alphabet.escape_ascii(), text.escape_ascii());
+    let mut form = Lent::new(memory);
+    let mut counts = [u32::MAX];
+    let answered = unsafe {
+        raw::kavurehy_compile(
+            alphabet.as_ptr(),
+            alphabet.len(),
+            text.as_ptr(),
+            text.len(),
+            form.memory().as_mut_ptr(),
+            memory,
+            &mut counts,
+        )
+    };
+    assert_eq!((answered, counts), (row, [written.len() as u32]), "{said}");
+    form.wrote(&written);
+
+    let mut form = Lent::new(memory);
+    let answer = kavurehy::compile(alphabet, text, form.memory());
+    assert_eq!(number(&answer), row, "{said}");
+    assert_eq!(answer.unwrap_or(0), written.len(), "{said}");
+    form.wrote(&written);
+    row
+}
+
+#[test]
+fn random_texts() {
+    let mut r = random("random_texts");
+    let mut tally = Tally::default();
+    for _ in 0..CASES {
+        let most = *r.pick(&[2, 4, 10, 95]);
+        let mut alphabet = alphabet(&mut r, most);
+        let size = r.from(1, 8);
+        let text = text(&mut r, &alphabet, size);
+        if r.chance(2) {
+            alphabet = bad_alphabet(&mut r);
+        }
+        let need = compile(&alphabet, &text).map_or(5, |c| c.1.words().len());
+        let memory = r.room(need);
+        tally.add(hold(&alphabet, &text, memory));
+    }
+    tally.demand("compile", LEAST, &[0, 1, 2, 3, 4, 5, 6, 7, 8, 9, 10]);
+}
+
+/// The model reads the tree that an expression was written from, and the form accepts that tree's words and no others.
+#[test]
+fn words_of_texts() {
+    let mut r = random("words_of_texts");
+    let (mut yes, mut no) = (0, 0);
+    for _ in 0..CASES / 10 {
+        let alphabet = alphabet(&mut r, 5);
+        let (text, tree) = expression(&mut r, &alphabet, 5);
+        if text.len() <= 255 {
+            assert_eq!(parse(&alphabet, &text), Ok(tree.clone()));
+        }
+        let machine = Machine::new(&tree, alphabet.len() as u8, 100);
+        let mut form = vec![0; FORM_WORDS];
+        let Ok(length) = kavurehy::compile(&alphabet, &text, &mut form) else {
+            continue;
+        };
+        for _ in 0..20 {
+            let word = word(&mut r, &tree, alphabet.len());
+            let accepted = is_word(&tree, &word);
+            assert_eq!(kavurehy::judge(&form[..length], &word), Ok(accepted));
+            if let Some(machine) = &machine {
+                assert_eq!(machine.is_word(&word), accepted);
+            }
+            yes += usize::from(accepted);
+            no += usize::from(!accepted);
+        }
+    }
+    assert!(yes >= CASES / 10 && no >= CASES / 10, "{yes} {no}");
+}
+
+/// A word of at most 60 labels: one of the expression's if it is not longer, at times with one label changed.
+fn word(r: &mut Random, tree: &Tree, k: usize) -> Vec<u8> {
+    let mut word = Vec::new();
+    spell(r, tree, &mut word);
+    word.truncate(60);
+    if !word.is_empty() && r.chance(50) {
+        let n = r.below(word.len());
+        word[n] = r.from(1, k) as u8;
+    }
+    word
+}
+
+fn spell(r: &mut Random, tree: &Tree, word: &mut Vec<u8>) {
+    match tree {
+        Tree::Set(labels) => word.push(*r.pick(labels)),
+        Tree::Join(parts) => parts.iter().for_each(|part| spell(r, part, word)),
+        Tree::Either(branches) => {
+            let branch = r.pick(branches);
+            spell(r, branch, word);
+        }
+        Tree::Repeat(part, least, most) => {
+            let times = least + r.below(4);
+            for _ in 0..most.map_or(times, |m| m.min(times)) {
+                spell(r, part, word);
+            }
+        }
+    }
+}

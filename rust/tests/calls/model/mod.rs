@@ -1,0 +1,48 @@
+//! What document 01 says, said again in plain Rust as directly as its sentences go. Nothing here is taken from the Rattle code;
+//! where there is a choice of method, another one is taken.
+
+pub mod bracket;
+pub mod derivatives;
+pub mod expression;
+pub mod form;
+pub mod opening;
+pub mod ranked;
+pub mod search;
+pub mod words;
+
+/// First merge each run of equal neighbours into one, then delete blanks.
+pub fn collapse(path: &[u8]) -> Vec<u8> {
+    let mut labels = path.to_vec();
+    labels.dedup();
+    labels.retain(|&x| x != 0);
+    labels
+}
+
+/// One blank between each two equal neighbours and nowhere else.
+pub fn spread(word: &[u8]) -> Vec<u8> {
+    let mut path = Vec::new();
+    for (n, &x) in word.iter().enumerate() {
+        if n > 0 && word[n - 1] == x {
+            path.push(0);
+        }
+        path.push(x);
+    }
+    path
+}
+
+/// The largest whole n with 2ⁿ × c⁸ ≤ 2⁶⁴; 72 for 0.
+pub fn cost(confidence: u8) -> u32 {
+    if confidence == 0 {
+        return 72;
+    }
+    let power = u128::from(confidence).pow(8);
+    let most = (0..64).take_while(|n| (power << (n + 1)) <= 1 << 64);
+    most.count() as u32
+}
+
+/// Row 17 for a list of labels from `low` to K.
+pub fn bad_labels(k: usize, low: u8, list: &[u8]) -> bool {
+    !(1..=95).contains(&k)
+        || list.len() > 255
+        || list.iter().any(|&x| x < low || usize::from(x) > k)
+}

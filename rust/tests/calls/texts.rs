@@ -1,0 +1,106 @@
+//! Random alphabets and texts of every kind: expressions, damaged ones, and the limits of depth, letters and length.
+use crate::support::Random;
+use crate::writer::{expression, set};
+
+/// Bytes that mean something in texts, and a few that do not.
+const SIGNS: &[u8] = b"()[]{}|*+?.\\^$-,:=0129ab ";
+
+/// 1 to `most` distinct bytes in any order; often signs.
+pub fn alphabet(r: &mut Random, most: usize) -> Vec<u8> {
+    let k = r.edge(1, most);
+    let mut bytes: Vec<u8> = match r.chance(40) && k <= SIGNS.len() {
+        true => SIGNS.to_vec(),
+        false => (32..=126).collect(),
+    };
+    for n in 0..k {
+        let m = r.from(n, bytes.len() - 1);
+        bytes.swap(n, m);
+    }
+    bytes.truncate(k);
+    bytes
+}
+
+/// An alphabet that is none: row 1.
+pub fn bad_alphabet(r: &mut Random) -> Vec<u8> {
+    let mut bytes = alphabet(r, 95);
+    let n = r.below(bytes.len());
+    match r.below(4) {
+        0 => bytes.clear(),
+        1 => bytes.push(bytes[n]),
+        2 => bytes[n] = *r.pick(&[0, 9, 10, 31, 127, 128, 255]),
+        _ => bytes = (32..=r.from(127, 200) as u8).collect(),
+    }
+    bytes
+}
+
+/// A text of any kind: mostly an expression, at times damaged, and the limits of depth, letters and length.
+pub fn text(r: &mut Random, alphabet: &[u8], size: usize) -> Vec<u8> {
+    match r.below(100) {
+        0..=59 => expression(r, alphabet, size).0,
+        60..=79 => {
+            let mut text = expression(r, alphabet, size).0;
+            for _ in 0..r.from(1, 3) {
+                damage(r, &mut text);
+            }
+            text
+        }
+        80..=88 => (0..r.from(0, 12)).map(|_| *r.pick(SIGNS)).collect(),
+        89..=92 => deep(r, alphabet),
+        93..=96 => many_letters(r, alphabet),
+        _ => long(r, alphabet),
+    }
+}
+
+/// Spoils one thing of a text; it may still be an expression.
+pub fn damage(r: &mut Random, text: &mut Vec<u8>) {
+    let (n, m) = (r.below(text.len() + 1), r.below(text.len() + 1));
+    let sign = *r.pick(SIGNS);
+    match r.below(8) {
+        0 if n < text.len() => drop(text.remove(n)),
+        1 | 2 => text.insert(n, sign),
+        3 if n < text.len() => text[n] = sign,
+        4 if n.max(m) < text.len() => text.swap(n, m),
+        5 => text.truncate(n),
+        6 => text.extend_from_within(n.min(m)..n.max(m)),
+        _ if r.chance(30) => text.insert(n, r.next() as u8),
+        _ => {}
+    }
+}
+
+/// Groups around 16 deep.
+fn deep(r: &mut Random, alphabet: &[u8]) -> Vec<u8> {
+    let (open, close) = (r.from(15, 18), r.from(15, 18));
+    let inside = expression(r, alphabet, 1).0;
+    let behind = expression(r, alphabet, 2).0;
+    [vec![b'('; open], inside, vec![b')'; close], behind].concat()
+}
+
+/// Around 127 letters, by one count or by two.
+pub fn many_letters(r: &mut Random, alphabet: &[u8]) -> Vec<u8> {
+    let (set, labels) = set(r, alphabet);
+    let most = 127 / labels;
+    let count = (most + r.below(3)).max(1);
+    let inner = r.from(1, 4);
+    let outer = most.div_ceil(inner) + r.below(2);
+    let repeated = match r.below(4) {
+        0 => format!("{set}{{{count}}}"),
+        1 => format!("{set}{{{count},}}"),
+        2 => format!("{set}{{{},{count}}}", r.from(0, count)),
+        _ => format!("({set}{{{inner}}}){{{outer}}}"),
+    };
+    repeated.into_bytes()
+}
+
+/// A bracket around 255 bytes long; at times a text without any byte.
+fn long(r: &mut Random, alphabet: &[u8]) -> Vec<u8> {
+    let length = match r.below(4) {
+        0 => return Vec::new(),
+        1 => 1000,
+        _ => r.from(250, 258),
+    };
+    let mut text = vec![b'['];
+    text.push(*r.pick(alphabet));
+    text.resize(length - 1, b'a');
+    text.push(b']');
+    text
+}
