@@ -4,20 +4,21 @@ use mathlib.Core.Path.{_≡_, refl}
 use mathlib.Core.Bool.{true, false, _&&_, _||_}
 use mathlib.Core.List.{List, [], _∷_, flatMap}
 use lib.Dec.{eqb}
+use Rattle.lists.specs.Ranges.{in-range}
 use Rattle.lists.specs.Each.{all}
 use Rattle.lists.specs.Among.{any, keep}
 use Rattle.lists.specs.Ascending.{numbers}
 use Rattle.automaton.specs.Automaton.{Automaton}
 use Rattle.automaton.specs.Accepted.{spells, accepts}
-use Rattle.automaton.specs.Form.{within, ordered, validForm, followOf, endsOf, view, encode}
+use Rattle.automaton.specs.Form.{ordered, validForm, followOf, endsOf, view, encode}
 
 -- letter 1 is the a, letter 2 the b
 ab* : Automaton
 ab* = record {
   letters = 2;
   label = λ i. i;
-  follow = λ i j. eqb i 0 && eqb j 1 || (within 1 i 2 && eqb j 2);
-  ends = λ i. within 1 i 2;
+  follow = λ i j. eqb i 0 && eqb j 1 || (in-range 1 2 i && eqb j 2);
+  ends = λ i. in-range 1 2 i;
 }
 
 abbrev form : List ℕ

@@ -1,18 +1,18 @@
 -- The compiled form, a list of 32-bit words (document 01, "Opening and the compiled form"): its words by their fields, which lists are
 -- valid forms, the automaton that a form stands for, and the form of an automaton. Assumes nothing.
 use Prim.Native.Nat.{ℕ, zero, suc, _+_, _*_, _/_, _%_, _^_}
-use mathlib.Core.Bool.{Bool, true, false, _&&_, _||_}
+use mathlib.Core.Bool.{Bool, true, false, cond, _&&_, _||_}
 use mathlib.Core.List.{List, [], _∷_, _++_, map, flatMap}
 use lib.Dec.{leb, ltb, eqb}
 use lib.ListN.{length, getD, take, drop}
+use Rattle.lists.specs.Ranges.{in-range}
 use Rattle.lists.specs.Each.{all}
 use Rattle.lists.specs.Among.{any, keep}
 use Rattle.lists.specs.Ascending.{numbers}
 use Rattle.automaton.specs.Automaton.{Automaton}
 
 abbrev pub bit : Bool → ℕ
-bit true = 1
-bit false = 0
+bit b = cond b 1 0
 
 -- The three kinds of word, each the sum of its fields; what no field names is 0. The kind stands in bits 28 to 31.
 -- head: L in bits 0 to 7, bit 8 set if the empty word is accepted, K in bits 16 to 23
@@ -66,19 +66,16 @@ abbrev pub arcWords : List ℕ → List ℕ
 arcWords f = drop (suc (lettersOf f)) f
 
 -- Which lists are forms: each word is the word of its own fields, and the fields are in range.
-abbrev pub within : ℕ → ℕ → ℕ → Bool
-within low n high = leb low n && leb n high
-
 abbrev pub isHead : ℕ → Bool
-isHead w = eqb w (headWord (byte0 w) (bit8 w) (byte2 w)) && within 1 (byte0 w) 127 && within 1 (byte2 w) 95
+isHead w = eqb w (headWord (byte0 w) (bit8 w) (byte2 w)) && in-range 1 127 (byte0 w) && in-range 1 95 (byte2 w)
 
 -- a letter over an alphabet of k
 abbrev pub isLetter : ℕ → ℕ → Bool
-isLetter k w = eqb w (letterWord (byte0 w) (bit8 w) (bit9 w)) && within 1 (byte0 w) k
+isLetter k w = eqb w (letterWord (byte0 w) (bit8 w) (bit9 w)) && in-range 1 k (byte0 w)
 
 -- an arc between two of l letters
 abbrev pub isArc : ℕ → ℕ → Bool
-isArc l w = eqb w (arcWord (source w) (target w)) && within 1 (source w) l && within 1 (target w) l
+isArc l w = eqb w (arcWord (source w) (target w)) && in-range 1 l (source w) && in-range 1 l (target w)
 
 -- by source, then target
 abbrev pub before : ℕ → ℕ → Bool
@@ -104,7 +101,7 @@ leads i j w = eqb (source w) i && eqb (target w) j
 
 -- behind 0 the letters that may be first, behind a letter the targets of its arcs
 unfoldable pub followOf : List ℕ → ℕ → ℕ → Bool
-followOf f zero j = within 1 j (lettersOf f) && bit8 (getD f j 0)
+followOf f zero j = in-range 1 (lettersOf f) j && bit8 (getD f j 0)
 followOf f (suc i) j = any (leads (suc i) j) (arcWords f)
 
 -- behind 0 if the empty word is accepted, behind a letter that may be last

@@ -8,13 +8,14 @@ use lib.Dec.{leb, ltb, eqb}
 use lib.ListN.{length, getD, drop, length-drop}
 use lib.Seq.{getD-drop, getD-take, length-take-le}
 use borrow.Author.Tests.{leb-true, ltb-true, eqb-true, le-leb, lt-ltb, eq-eqb}
+use Rattle.lists.specs.Ranges.{in-range, range-inside, range-true}
 use Rattle.lists.specs.Order.{and-left, and-right, and-both, and-three, and-all-three}
 use Rattle.lists.specs.Each.{all, Each, all-each, each-all, each-at, each-map}
 use Rattle.lists.specs.Among.{Among, any-among, among-any, among-at, among-index}
 use Rattle.lists.specs.Ascending.{Ascending, ascending-at}
 use Rattle.automaton.specs.Automaton.{Proper}
-use Rattle.automaton.specs.Form.{bit8, bit9, source, target, within, isHead, isLetter, isArc}
-use Rattle.automaton.specs.Words.{Head, Letter, Arc, within-true, true-within, head-true, true-head, letter-true, true-letter, arc-true, true-arc, before-less}
+use Rattle.automaton.specs.Form.{bit8, bit9, source, target, isHead, isLetter, isArc}
+use Rattle.automaton.specs.Words.{Head, Letter, Arc, head-true, true-head, letter-true, true-letter, arc-true, true-arc, before-less}
 use Rattle.automaton.specs.Form.{before, ordered, validForm, lettersOf, alphabetOf, letterWords, arcWords, followOf, endsOf, leads, view}
 
 pub letter-at : (f : List ℕ) (i : ℕ) → 1 ≤ i → i ≤ lettersOf f → getD (letterWords f) (i - 1) 0 ≡ getD f i 0
@@ -155,7 +156,7 @@ arc-follow f i j l a = among-follow f (getD f (a .index) 0) i j l (a .from) (a .
 -- a letter's bits
 pub may-be-first : (f : List ℕ) (j : ℕ) → 1 ≤ j → j ≤ lettersOf f → followOf f 0 j ≡ bit8 (getD f j 0)
 unfolding followOf
-may-be-first f j l h = ap (λ t. t && bit8 (getD f j 0)) (true-within 1 j (lettersOf f) l h)
+may-be-first f j l h = ap (λ t. t && bit8 (getD f j 0)) (range-inside 1 (lettersOf f) j l h)
 
 pub may-be-last : (f : List ℕ) (i : ℕ) → 1 ≤ i → i ≤ lettersOf f → endsOf f i ≡ bit9 (getD f i 0)
 unfolding endsOf
@@ -169,7 +170,7 @@ accepts-empty f = refl
 -- what is followed, and where a word ends, is a letter or 0
 pub first-letter : (f : List ℕ) (j : ℕ) → followOf f 0 j ≡ true → (1 ≤ j) × (j ≤ lettersOf f)
 unfolding followOf
-first-letter f j h = within-true 1 j (lettersOf f) (and-left (within 1 j (lettersOf f)) (bit8 (getD f j 0)) h)
+first-letter f j h = range-true 1 (lettersOf f) j (and-left (in-range 1 (lettersOf f) j) (bit8 (getD f j 0)) h)
 
 pub ends-letter : (f : List ℕ) (i : ℕ) → endsOf f i ≡ true → i ≤ lettersOf f
 unfolding endsOf

@@ -7,8 +7,9 @@ use mathlib.Core.Logic.{_⊎_, inl, inr}
 use native.Mathlib.Omega.{arith}
 use lib.Dec.{leb, ltb, eqb}
 use borrow.Author.Tests.{leb-true, eqb-true, le-leb, lt-ltb, eq-eqb, le-ltb, ne-eqb}
+use Rattle.lists.specs.Ranges.{in-range, range-inside, range-true}
 use Rattle.lists.specs.Order.{and-left, and-right, and-both, and-three, and-all-three, lt-or-le, eq-or-ne}
-use Rattle.automaton.specs.Form.{bit, headWord, letterWord, arcWord, byte0, byte2, bit8, bit9, source, target, within, isHead, isLetter, isArc}
+use Rattle.automaton.specs.Form.{bit, headWord, letterWord, arcWord, byte0, byte2, bit8, bit9, source, target, isHead, isLetter, isArc}
 use Rattle.automaton.specs.Form.{before}
 
 pub record Head (w : ℕ) : Type 0 where
@@ -30,17 +31,11 @@ pub record Arc (l w : ℕ) : Type 0 where
   pub target-low : 1 ≤ target w
   pub target-high : target w ≤ l
 
-pub within-true : (a n b : ℕ) → within a n b ≡ true → (a ≤ n) × (n ≤ b)
-within-true a n b e = (leb-true a n (and-left (leb a n) (leb n b) e), leb-true n b (and-right (leb a n) (leb n b) e))
-
-pub true-within : (a n b : ℕ) → a ≤ n → n ≤ b → within a n b ≡ true
-true-within a n b l h = and-both (leb a n) (leb n b) (le-leb a n l) (le-leb n b h)
-
 pub head-true : (w : ℕ) → isHead w ≡ true → Head w
 head-true w e =
-    let p = and-three (eqb w (headWord (byte0 w) (bit8 w) (byte2 w))) (within 1 (byte0 w) 127) (within 1 (byte2 w) 95) e in
-    let l = within-true 1 (byte0 w) 127 (p .1) in
-    let k = within-true 1 (byte2 w) 95 (p .2) in
+    let p = and-three (eqb w (headWord (byte0 w) (bit8 w) (byte2 w))) (in-range 1 127 (byte0 w)) (in-range 1 95 (byte2 w)) e in
+    let l = range-true 1 127 (byte0 w) (p .1) in
+    let k = range-true 1 95 (byte2 w) (p .2) in
     record {
       same = eqb-true w (headWord (byte0 w) (bit8 w) (byte2 w)) (p .0);
       letters-low = l .0;
@@ -51,28 +46,28 @@ head-true w e =
 
 pub true-head : (w : ℕ) → Head w → isHead w ≡ true
 true-head w h =
-    and-all-three (eqb w (headWord (byte0 w) (bit8 w) (byte2 w))) (within 1 (byte0 w) 127) (within 1 (byte2 w) 95)
+    and-all-three (eqb w (headWord (byte0 w) (bit8 w) (byte2 w))) (in-range 1 127 (byte0 w)) (in-range 1 95 (byte2 w))
     (eq-eqb w (headWord (byte0 w) (bit8 w) (byte2 w)) (h .same))
-    (true-within 1 (byte0 w) 127 (h .letters-low) (h .letters-high))
-    (true-within 1 (byte2 w) 95 (h .alphabet-low) (h .alphabet-high))
+    (range-inside 1 127 (byte0 w) (h .letters-low) (h .letters-high))
+    (range-inside 1 95 (byte2 w) (h .alphabet-low) (h .alphabet-high))
 
 pub letter-true : (k w : ℕ) → isLetter k w ≡ true → Letter k w
 letter-true k w e =
     let same = eqb w (letterWord (byte0 w) (bit8 w) (bit9 w)) in
-    let l = within-true 1 (byte0 w) k (and-right same (within 1 (byte0 w) k) e) in
-    record { same = eqb-true w (letterWord (byte0 w) (bit8 w) (bit9 w)) (and-left same (within 1 (byte0 w) k) e); low = l .0; high = l .1 }
+    let l = range-true 1 k (byte0 w) (and-right same (in-range 1 k (byte0 w)) e) in
+    record { same = eqb-true w (letterWord (byte0 w) (bit8 w) (bit9 w)) (and-left same (in-range 1 k (byte0 w)) e); low = l .0; high = l .1 }
 
 pub true-letter : (k w : ℕ) → Letter k w → isLetter k w ≡ true
 true-letter k w h =
-    and-both (eqb w (letterWord (byte0 w) (bit8 w) (bit9 w))) (within 1 (byte0 w) k)
+    and-both (eqb w (letterWord (byte0 w) (bit8 w) (bit9 w))) (in-range 1 k (byte0 w))
     (eq-eqb w (letterWord (byte0 w) (bit8 w) (bit9 w)) (h .same))
-    (true-within 1 (byte0 w) k (h .low) (h .high))
+    (range-inside 1 k (byte0 w) (h .low) (h .high))
 
 pub arc-true : (l w : ℕ) → isArc l w ≡ true → Arc l w
 arc-true l w e =
-    let p = and-three (eqb w (arcWord (source w) (target w))) (within 1 (source w) l) (within 1 (target w) l) e in
-    let s = within-true 1 (source w) l (p .1) in
-    let t = within-true 1 (target w) l (p .2) in
+    let p = and-three (eqb w (arcWord (source w) (target w))) (in-range 1 l (source w)) (in-range 1 l (target w)) e in
+    let s = range-true 1 l (source w) (p .1) in
+    let t = range-true 1 l (target w) (p .2) in
     record {
       same = eqb-true w (arcWord (source w) (target w)) (p .0);
       source-low = s .0;
@@ -83,10 +78,10 @@ arc-true l w e =
 
 pub true-arc : (l w : ℕ) → Arc l w → isArc l w ≡ true
 true-arc l w h =
-    and-all-three (eqb w (arcWord (source w) (target w))) (within 1 (source w) l) (within 1 (target w) l)
+    and-all-three (eqb w (arcWord (source w) (target w))) (in-range 1 l (source w)) (in-range 1 l (target w))
     (eq-eqb w (arcWord (source w) (target w)) (h .same))
-    (true-within 1 (source w) l (h .source-low) (h .source-high))
-    (true-within 1 (target w) l (h .target-low) (h .target-high))
+    (range-inside 1 l (source w) (h .source-low) (h .source-high))
+    (range-inside 1 l (target w) (h .target-low) (h .target-high))
 
 -- arcs compare as numbers
 pub before-less : (l w v : ℕ) → Arc l w → Arc l v → before w v ≡ ltb w v

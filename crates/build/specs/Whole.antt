@@ -8,7 +8,7 @@ use lib.ListN.{length, getD, replicate}
 use Rattle.lists.specs.Written.{Stored, stored-at}
 use Rattle.relation.specs.Sets.{member, arc}
 use Rattle.expression.specs.Tree.{only, Tree, set}
-use Rattle.expression.specs.Letters.{lettersOf}
+use Rattle.expression.specs.Letters.{letterCount}
 use Rattle.expression.specs.Read.{m-alternation, read, whole, expressionOf}
 use Rattle.positions.specs.Opened.{Opened, opened, labels}
 use Rattle.positions.specs.Numbered.{numbered, positionAutomaton, automatonOf}
@@ -31,7 +31,7 @@ treeOfText A text = treeOf (expressionOf A text)
 pub record Buildable (A text marks : List ℕ) (follow : List (List Bool)) : Type 0 where
   pub alphabet : length A ≤ 255
   pub reads : is-found (expressionOf A text) ≡ true
-  pub few : lettersOf A (treeOfText A text) ≤ 127
+  pub few : letterCount A (treeOfText A text) ≤ 127
   pub labelled : 127 ≤ length marks
   pub rows : 127 ≤ length follow
   pub clear : (i j : ℕ) → arc follow i j ≡ false
@@ -39,7 +39,7 @@ pub record Buildable (A text marks : List ℕ) (follow : List (List Bool)) : Typ
 -- the text was built: as many letters as its tree has, their labels in the first places of the lent list and nothing else there, and the
 -- arrays tell the automaton of the tree
 pub record BuildsWhole (A text old new : List ℕ) (follow : List (List Bool)) (x : Built) : Type 0 where
-  pub counts : x .letters ≡ lettersOf A (treeOfText A text)
+  pub counts : x .letters ≡ letterCount A (treeOfText A text)
   pub stored : Stored (labels (opened A (treeOfText A text))) 0 old new (x .letters)
   pub tells : Tells (automatonOf A (treeOfText A text)) (x .nullable) new (x .first) (x .last) follow
 
@@ -97,10 +97,10 @@ module _ (A text : List ℕ) where
         let e = then-is whole (set (only [])) x text-found in
         ap treeOf e ∙ whole-tree (treeOf x) (restOf x) (ap is-found (sym e) ∙ o .reads)
 
-    all-letters : length (labels (openedAt A text m-alternation 16 0)) ≡ lettersOf A (treeOfText A text)
+    all-letters : length (labels (openedAt A text m-alternation 16 0)) ≡ letterCount A (treeOfText A text)
     all-letters =
         opened-letters A (treeAt A text m-alternation 16 0) (reading A text m-alternation 16 0 text-found .sense)
-        ∙ ap (lettersOf A) (sym same-tree)
+        ∙ ap (letterCount A) (sym same-tree)
 
     pub text-room : Room A (openedAt A text m-alternation 16 0) 0 marks f
     text-room =

@@ -10,11 +10,11 @@ use Rattle.lists.specs.Each.{all}
 use Rattle.lists.specs.Among.{any, keep}
 use Rattle.lists.specs.Ascending.{numbers}
 use Rattle.refusal.specs.Number.{numberOf}
-use Rattle.refusal.specs.Verdict.{Verdict, passed, refused, unless, then}
+use Rattle.refusal.specs.Verdict.{Verdict, passed, refused, unless, if-passed}
 use Rattle.automaton.specs.Form.{encode}
 use Rattle.expression.specs.Bytes.{bytes}
-use Rattle.expression.specs.Letters.{labelsOf, lettersOf}
-use Rattle.expression.specs.Text.{then as behind, first-of, split, enclosed, provided}
+use Rattle.expression.specs.Letters.{labelsOf, letterCount}
+use Rattle.expression.specs.Text.{then, first-of, split, enclosed, provided}
 use Rattle.expression.specs.Sets.{closed, reserved, items, members, inside, bracket, escaped, a-set, labelled-set}
 use Rattle.expression.specs.Repetition.{number, from-on, from-to, comma, counts, sign, repetition}
 use Rattle.expression.specs.Read.{grouped, step, go, read, whole, expressionOf}
@@ -47,10 +47,10 @@ rows =
     ∷ []
 
 computed : failing rows ≡ []
-unfolding failing meets said rows compile-call distinct then unless all any keep numbers flatMap encode labelsOf lettersOf behind first-of split enclosed provided closed reserved items members inside bracket escaped a-set labelled-set number from-on from-to comma counts sign repetition grouped step go read whole expressionOf anyOf copies nested repeated opened labels numbered positionAutomaton
+unfolding failing meets said rows compile-call distinct if-passed unless all any keep numbers flatMap encode labelsOf letterCount then first-of split enclosed provided closed reserved items members inside bracket escaped a-set labelled-set number from-on from-to comma counts sign repetition grouped step go read whole expressionOf anyOf copies nested repeated opened labels numbered positionAutomaton
 computed = refl
 
 -- P: `ab*` in hexadecimal
 five-words : compile-call (bytes "ab") (bytes "ab*") 5 ≡ passed (0x10020002 ∷ 0x20000301 ∷ 0x20000202 ∷ 0x30000102 ∷ 0x30000202 ∷ [])
-unfolding compile-call distinct then unless all any keep numbers flatMap encode labelsOf lettersOf behind first-of split enclosed provided closed reserved items members inside bracket escaped a-set labelled-set number from-on from-to comma counts sign repetition grouped step go read whole expressionOf anyOf copies nested repeated opened labels numbered positionAutomaton
+unfolding compile-call distinct if-passed unless all any keep numbers flatMap encode labelsOf letterCount then first-of split enclosed provided closed reserved items members inside bracket escaped a-set labelled-set number from-on from-to comma counts sign repetition grouped step go read whole expressionOf anyOf copies nested repeated opened labels numbered positionAutomaton
 five-words = refl

@@ -9,18 +9,18 @@ use native.Mathlib.Omega.{arith}
 use lib.ListN.{length}
 use lib.Dec.{leb, ltb}
 use borrow.Author.Tests.{leb-true, ltb-false, le-ltb, not-false}
+use Rattle.lists.specs.Ranges.{in-range}
 use Rattle.lists.specs.Order.{and-left, and-right}
 use Rattle.lists.specs.Each.{all}
 use Rattle.refusal.specs.declared.Refusal.{Refusal}
 use Rattle.refusal.specs.declared.Refusal.the-variants.{Alphabet, TextLength, TextByte, Letters, FormMemory}
-use Rattle.refusal.specs.Verdict.{Verdict, passed, refused, Check, check, unless, unless-neither, then, first-of, first-all}
+use Rattle.refusal.specs.Verdict.{Verdict, passed, refused, Check, check, unless, unless-neither, if-passed, first-refusal, first-all}
 use Rattle.refusal.specs.declared.Checked.the-variants.{Passed}
 use Rattle.automaton.specs.Automaton.{Accepts}
-use Rattle.automaton.specs.Form.{validForm, view, lettersOf as formLetters, alphabetOf}
-use Rattle.labels.specs.Calls.{between}
+use Rattle.automaton.specs.Form.{validForm, view, lettersOf, alphabetOf}
 use Rattle.expression.specs.Tree.{Tree}
 use Rattle.expression.specs.Text.{Reads, found, fault}
-use Rattle.expression.specs.Letters.{lettersOf}
+use Rattle.expression.specs.Letters.{letterCount}
 use Rattle.expression.specs.Read.{expressionOf}
 use Rattle.expression.specs.Grammar.{TextOf, WordsOf}
 use Rattle.expression.specs.Exact.{exact, words-of-text, expression-whole}
@@ -34,7 +34,7 @@ pub record Means (A s f : List ℕ) : Type 0 where
   pub alphabet : alphabetOf f ≡ length A
   pub tree : Tree
   pub text : TextOf A 16 tree s
-  pub letters : formLetters f ≡ lettersOf A tree
+  pub letters : lettersOf f ≡ letterCount A tree
   pub words : (w : List ℕ) → Accepts (view f) w ↔ WordsOf A s w
 
 -- what passed a list of checks, passed each
@@ -51,10 +51,10 @@ module _ (A s : List ℕ) (room : ℕ) (f : List ℕ) where
   tree : (low : 1 ≤ length A) (high : length A ≤ 95) (y : Reads Tree) → expressionOf A s ≡ y → read-form A room y ≡ passed f → Means A s f
   tree low high (fault n rest) e h = let z : _≡_ {A = ℕ} 0 1 = cc in absurd (omega arith)
   tree low high (found t rest) e h =
-      let a = unless-passed (ltb 127 (lettersOf A t)) Letters (check (ltb room (length (formOf A t))) FormMemory ∷ []) (formOf A t) f h in
+      let a = unless-passed (ltb 127 (letterCount A t)) Letters (check (ltb room (length (formOf A t))) FormMemory ∷ []) (formOf A t) f h in
       let b = unless-passed (ltb room (length (formOf A t))) FormMemory [] (formOf A t) f (a .1) in
       let same = unless-same (formOf A t) f (b .1) in
-      let few : lettersOf A t ≤ 127 = ltb-false 127 (lettersOf A t) (a .0) in
+      let few : letterCount A t ≤ 127 = ltb-false 127 (letterCount A t) (a .0) in
       let whole : expressionOf A s ≡ found t [] = e ∙ ap (found t) (expression-whole A s t rest e) in
       let o = sensible A t 16 s (exact A s t .0 whole) in
       subst (Means A s) same
@@ -69,25 +69,25 @@ module _ (A s : List ℕ) (room : ℕ) (f : List ℕ) where
 
   -- the theorem a user reads
   pub compiled-means : compile-call A s room ≡ passed f → Means A s f
-  unfolding compile-call then
+  unfolding compile-call if-passed
   compiled-means e = by (unless (text-checks A s) s) refl e
     where
-      by : (v : Verdict (List ℕ)) → unless (text-checks A s) s ≡ v → then v (λ s. read-form A room (expressionOf A s)) ≡ passed f → Means A s f
+      by : (v : Verdict (List ℕ)) → unless (text-checks A s) s ≡ v → if-passed v (λ s. read-form A room (expressionOf A s)) ≡ passed f → Means A s f
       by (refused n) h g = let z : _≡_ {A = ℕ} 0 1 = cc in absurd (omega arith)
       by (passed s′) h g =
-          let a = unless-passed (not (is-alphabet A)) Alphabet (check (not (between 1 255 (length s))) TextLength ∷ (check (not (all (between 32 126) s)) TextByte ∷ [])) s s′ h in
-          let b = unless-passed (not (between 1 255 (length s))) TextLength (check (not (all (between 32 126) s)) TextByte ∷ []) s s′ (a .1) in
-          let c = unless-passed (not (all (between 32 126) s)) TextByte [] s s′ (b .1) in
-          let size = and-left (between 1 95 (length A)) (all (between 32 126) A && distinct A) (not-false (is-alphabet A) (a .0)) in
+          let a = unless-passed (not (is-alphabet A)) Alphabet (check (not (in-range 1 255 (length s))) TextLength ∷ (check (not (all (in-range 32 126) s)) TextByte ∷ [])) s s′ h in
+          let b = unless-passed (not (in-range 1 255 (length s))) TextLength (check (not (all (in-range 32 126) s)) TextByte ∷ []) s s′ (a .1) in
+          let c = unless-passed (not (all (in-range 32 126) s)) TextByte [] s s′ (b .1) in
+          let size = and-left (in-range 1 95 (length A)) (all (in-range 32 126) A && distinct A) (not-false (is-alphabet A) (a .0)) in
           tree (leb-true 1 (length A) (and-left (leb 1 (length A)) (leb (length A) 95) size)) (leb-true (length A) 95 (and-right (leb 1 (length A)) (leb (length A) 95) size))
           (expressionOf A s) refl (rw (sym (unless-same s s′ (c .1))) at g)
 
   -- The other way: what no row turns away compiles.
   pub compiles :
-      (t : Tree) → first-of (text-checks A s) ≡ Passed → TextOf A 16 t s → lettersOf A t ≤ 127 → length (formOf A t) ≤ room
+      (t : Tree) → first-refusal (text-checks A s) ≡ Passed → TextOf A 16 t s → letterCount A t ≤ 127 → length (formOf A t) ≤ room
       → compile-call A s room ≡ passed (formOf A t)
-  unfolding compile-call then
+  unfolding compile-call if-passed
   compiles t e x h l =
-      ap (λ v. then v (λ s. read-form A room (expressionOf A s))) (first-all s (text-checks A s) e)
+      ap (λ v. if-passed v (λ s. read-form A room (expressionOf A s))) (first-all s (text-checks A s) e)
       ∙ ap (read-form A room) (exact A s t .1 x)
-      ∙ unless-neither (formOf A t) (ltb 127 (lettersOf A t)) (ltb room (length (formOf A t))) Letters FormMemory (le-ltb 127 (lettersOf A t) h) (le-ltb room (length (formOf A t)) l)
+      ∙ unless-neither (formOf A t) (ltb 127 (letterCount A t)) (ltb room (length (formOf A t))) Letters FormMemory (le-ltb 127 (letterCount A t) h) (le-ltb room (length (formOf A t)) l)

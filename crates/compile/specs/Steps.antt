@@ -9,11 +9,11 @@ use lib.Dec.{ltb}
 use borrow.Author.Tests.{lt-ltb, le-ltb}
 use Rattle.refusal.specs.declared.Refusal.{Refusal}
 use Rattle.refusal.specs.declared.Refusal.the-variants as row
-use Rattle.refusal.specs.Verdict.{Verdict, refused, passed, check, unless, unless-holds, unless-fails, then, first-of, first-refused, first-all}
+use Rattle.refusal.specs.Verdict.{Verdict, refused, passed, check, unless, unless-holds, unless-fails, if-passed, first-refusal, first-refused, first-all}
 use Rattle.refusal.specs.declared.Checked.the-variants as checks
 use Rattle.expression.specs.Tree.{Tree}
 use Rattle.expression.specs.Text.{Reads, found, fault}
-use Rattle.expression.specs.Letters.{lettersOf}
+use Rattle.expression.specs.Letters.{letterCount}
 use Rattle.expression.specs.Sense.{few, sensible}
 use Rattle.expression.specs.Exact.{exact, expression-whole}
 use Rattle.expression.specs.Read.{expressionOf}
@@ -34,7 +34,7 @@ use Rattle.compile.specs.Call.{text-checks, formed, read-form, compile-c
 -- a text that reads, with few letters
 pub record Compilable (A s : List ℕ) : Type 0 where
   pub reads : is-found (expressionOf A s) ≡ true
-  pub within : lettersOf A (treeOfText A s) ≤ 127
+  pub within : letterCount A (treeOfText A s) ≤ 127
 
 module _ (A s : List ℕ) (room : ℕ) where
   -- the leftmost fault
@@ -54,8 +54,8 @@ module _ (A s : List ℕ) (room : ℕ) where
       by : (y : Reads Tree) → Letters n ≡ checkedOf A y → read-form A room y ≡ refused row.Letters
       by (fault m r) e = let z : _≡_ {A = ℕ} 0 1 = cc in absurd (omega arith)
       by (found t r) e =
-          let q : n ≡ few (lettersOf A t) = cc in
-          unless-holds (formOf A t) (ltb 127 (lettersOf A t)) row.Letters (check (ltb room (length (formOf A t))) row.FormMemory ∷ []) (lt-ltb 127 (lettersOf A t) (omega arith))
+          let q : n ≡ few (letterCount A t) = cc in
+          unless-holds (formOf A t) (ltb 127 (letterCount A t)) row.Letters (check (ltb room (length (formOf A t))) row.FormMemory ∷ []) (lt-ltb 127 (letterCount A t) (omega arith))
 
   -- few enough
   pub text-compilable : (n : ℕ) → Letters n ≡ checked A s → n ≤ 127 → Compilable A s
@@ -65,8 +65,8 @@ module _ (A s : List ℕ) (room : ℕ) where
       by : (y : Reads Tree) → expressionOf A s ≡ y → Letters n ≡ checkedOf A y → Compilable A s
       by (fault m r) g e = let z : _≡_ {A = ℕ} 0 1 = cc in absurd (omega arith)
       by (found t r) g e =
-          let q : n ≡ few (lettersOf A t) = cc in
-          let same : lettersOf A (treeOfText A s) ≡ lettersOf A t = ap (λ y. lettersOf A (treeOf y)) g in
+          let q : n ≡ few (letterCount A t) = cc in
+          let same : letterCount A (treeOfText A s) ≡ letterCount A t = ap (λ y. letterCount A (treeOf y)) g in
           record { reads = ap is-found g; within = omega arith }
 
   -- and then the form
@@ -74,19 +74,19 @@ module _ (A s : List ℕ) (room : ℕ) where
   unfolding form-call
   text-form c = by (expressionOf A s) (c .reads) (c .within)
     where
-      by : (y : Reads Tree) → is-found y ≡ true → lettersOf A (treeOf y) ≤ 127 → read-form A room y ≡ form-call (length A) (automatonOf A (treeOf y)) room
+      by : (y : Reads Tree) → is-found y ≡ true → letterCount A (treeOf y) ≤ 127 → read-form A room y ≡ form-call (length A) (automatonOf A (treeOf y)) room
       by (fault m r) e h = let z : _≡_ {A = ℕ} 0 1 = cc in absurd (omega arith)
       by (found t r) e h =
-          unless-fails (formOf A t) (ltb 127 (lettersOf A t)) row.Letters (check (ltb room (length (formOf A t))) row.FormMemory ∷ []) (le-ltb 127 (lettersOf A t) h)
+          unless-fails (formOf A t) (ltb 127 (letterCount A t)) row.Letters (check (ltb room (length (formOf A t))) row.FormMemory ∷ []) (le-ltb 127 (letterCount A t) h)
 
   -- rows 1 to 3
-  pub call-refused : (n : Refusal) → checks.Refused n ≡ first-of (text-checks A s) → compile-call A s room ≡ refused n
-  unfolding compile-call then
-  call-refused n e = ap (λ v. then v (λ s. read-form A room (expressionOf A s))) (first-refused s n (text-checks A s) (sym e))
+  pub call-refused : (n : Refusal) → checks.Refused n ≡ first-refusal (text-checks A s) → compile-call A s room ≡ refused n
+  unfolding compile-call if-passed
+  call-refused n e = ap (λ v. if-passed v (λ s. read-form A room (expressionOf A s))) (first-refused s n (text-checks A s) (sym e))
 
-  pub call-passed : checks.Passed ≡ first-of (text-checks A s) → compile-call A s room ≡ read-form A room (expressionOf A s)
-  unfolding compile-call then
-  call-passed e = ap (λ v. then v (λ s. read-form A room (expressionOf A s))) (first-all s (text-checks A s) (sym e))
+  pub call-passed : checks.Passed ≡ first-refusal (text-checks A s) → compile-call A s room ≡ read-form A room (expressionOf A s)
+  unfolding compile-call if-passed
+  call-passed e = ap (λ v. if-passed v (λ s. read-form A room (expressionOf A s))) (first-all s (text-checks A s) (sym e))
 
 -- Built over cleared arrays.
 pub buildable : (A s : List ℕ) → length A ≤ 95 → Compilable A s → Buildable A s (replicate 127 0) (replicate 127 (replicate 127 false))
@@ -109,7 +109,7 @@ module _ (A s : List ℕ) (c : Compilable A s) where
       by (fault n r) e g = let z : _≡_ {A = ℕ} 0 1 = cc in absurd (omega arith)
       by (found t r) e g = (r, g ∙ ap (λ x. found x r) (sym (ap treeOf g)))
 
-  letters : automatonOf A (treeOfText A s) .letters ≡ lettersOf A (treeOfText A s)
+  letters : automatonOf A (treeOfText A s) .letters ≡ letterCount A (treeOfText A s)
   letters =
       let t = treeOfText A s in
       let whole : expressionOf A s ≡ found t [] = tree .1 ∙ ap (found t) (expression-whole A s t (tree .0) (tree .1)) in

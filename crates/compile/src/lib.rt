@@ -1,5 +1,5 @@
 // Compile: from an alphabet and the text of an expression to its form (document 01, "Expression text", "Opening and the compiled form").
-use labels::all_between;
+use labels::all_in_range;
 use refusal::Checked;
 use refusal::Counted;
 use refusal::Refusal;
@@ -8,7 +8,7 @@ ghost use Prim.Native.Nat.{ℕ, _+_, _≤_};
 ghost use lib.ListN.{length, drop};
 ghost use lib.Dec.{eqb};
 ghost use Rattle.lists.specs.Among.{any};
-ghost use Rattle.refusal.specs.Verdict.{first-of};
+ghost use Rattle.refusal.specs.Verdict.{first-refusal};
 ghost use Rattle.refusal.specs.Report.{reported, Fills};
 ghost use Rattle.expression.specs.Read.{expressionOf};
 ghost use Rattle.positions.specs.Numbered.{automatonOf};
@@ -56,7 +56,7 @@ fn is_alphabet(list: &[u8]) -> bool
     if 95 < n {
         return false;
     }
-    if !all_between(32, 126, list) {
+    if !all_in_range(32, 126, list) {
         return false;
     }
     are_distinct(list)
@@ -64,7 +64,7 @@ fn is_alphabet(list: &[u8]) -> bool
 
 // Rows 1, 2 and 3.
 pub fn check_text(alphabet: &[u8], text: &[u8]) -> Checked
-    ensures { λ r. ⌜ r ≡ first-of (text-checks (now (alphabet .entry)) (now (text .entry))) ⌝ }
+    ensures { λ r. ⌜ r ≡ first-refusal (text-checks (now (alphabet .entry)) (now (text .entry))) ⌝ }
 {
     if !is_alphabet(alphabet) {
         return Checked::Refused(Refusal::Alphabet);
@@ -76,7 +76,7 @@ pub fn check_text(alphabet: &[u8], text: &[u8]) -> Checked
     if 255 < n {
         return Checked::Refused(Refusal::TextLength);
     }
-    if !all_between(32, 126, text) {
+    if !all_in_range(32, 126, text) {
         return Checked::Refused(Refusal::TextByte);
     }
     Checked::Passed

@@ -14,7 +14,7 @@ use Rattle.refusal.specs.declared.Refusal.{Refusal}
 use Rattle.refusal.specs.declared.Refusal.the-variants.{BadForm, Matrix as MatrixRow, Cost, OutputMemory, Work}
 use Rattle.refusal.specs.declared.Checked.{Checked}
 use Rattle.refusal.specs.declared.Checked.the-variants.{Passed, Refused}
-use Rattle.refusal.specs.Verdict.{Check, check, first-of, first-holds, first-fails, first-passed}
+use Rattle.refusal.specs.Verdict.{Check, check, first-refusal, first-holds, first-fails, first-passed}
 use Rattle.reading.specs.Matrix.{Matrix, CostsPass, Usable}
 use Rattle.automaton.specs.Form.{validForm, lettersOf, alphabetOf}
 use Rattle.decode.specs.Checks.{Rooms, needed, matrix-fault, passes, matrix-checks, decode-checks}
@@ -61,27 +61,27 @@ module _ (k l : ℕ) (M : Matrix) (rooms : Rooms) where
   memory : List Check
   memory = check (ltb (rooms .path) (M .count) || ltb (rooms .word) (M .count)) OutputMemory ∷ (check (ltb (rooms .work) (needed (M .count) l)) Work ∷ [])
 
-  pub refused-matrix : matrix-fault k M ≡ true → first-of (matrix-checks k l M rooms) ≡ Refused MatrixRow
+  pub refused-matrix : matrix-fault k M ≡ true → first-refusal (matrix-checks k l M rooms) ≡ Refused MatrixRow
   unfolding memory
   refused-matrix e = first-holds (matrix-fault k M) MatrixRow (check (not (all passes (M .costs))) Cost ∷ memory) e
 
   module _ (sized : matrix-fault k M ≡ false) where
-    past-matrix : first-of (matrix-checks k l M rooms) ≡ first-of (check (not (all passes (M .costs))) Cost ∷ memory)
+    past-matrix : first-refusal (matrix-checks k l M rooms) ≡ first-refusal (check (not (all passes (M .costs))) Cost ∷ memory)
     unfolding memory
     past-matrix = first-fails (matrix-fault k M) MatrixRow (check (not (all passes (M .costs))) Cost ∷ memory) sized
 
-    pub refused-cost : all passes (M .costs) ≡ false → first-of (matrix-checks k l M rooms) ≡ Refused Cost
+    pub refused-cost : all passes (M .costs) ≡ false → first-refusal (matrix-checks k l M rooms) ≡ Refused Cost
     refused-cost e = past-matrix ∙ first-holds (not (all passes (M .costs))) Cost memory (ap not e)
 
     module _ (pass : all passes (M .costs) ≡ true) where
-      past-costs : first-of (matrix-checks k l M rooms) ≡ first-of memory
+      past-costs : first-refusal (matrix-checks k l M rooms) ≡ first-refusal memory
       past-costs = past-matrix ∙ first-fails (not (all passes (M .costs))) Cost memory (ap not pass)
 
-      pub refused-path : rooms .path < M .count → first-of (matrix-checks k l M rooms) ≡ Refused OutputMemory
+      pub refused-path : rooms .path < M .count → first-refusal (matrix-checks k l M rooms) ≡ Refused OutputMemory
       unfolding memory
       refused-path h = past-costs ∙ first-holds (ltb (rooms .path) (M .count) || ltb (rooms .word) (M .count)) OutputMemory (check (ltb (rooms .work) (needed (M .count) l)) Work ∷ []) (rw (lt-ltb (rooms .path) (M .count) h))
 
-      pub refused-word : M .count ≤ rooms .path → rooms .word < M .count → first-of (matrix-checks k l M rooms) ≡ Refused OutputMemory
+      pub refused-word : M .count ≤ rooms .path → rooms .word < M .count → first-refusal (matrix-checks k l M rooms) ≡ Refused OutputMemory
       unfolding memory
       refused-word g h =
           past-costs
@@ -89,22 +89,22 @@ module _ (k l : ℕ) (M : Matrix) (rooms : Rooms) where
           (rw (le-ltb (rooms .path) (M .count) g, lt-ltb (rooms .word) (M .count) h))
 
       module _ (path : M .count ≤ rooms .path) (word : M .count ≤ rooms .word) where
-        past-memory : first-of (matrix-checks k l M rooms) ≡ first-of (check (ltb (rooms .work) (needed (M .count) l)) Work ∷ [])
+        past-memory : first-refusal (matrix-checks k l M rooms) ≡ first-refusal (check (ltb (rooms .work) (needed (M .count) l)) Work ∷ [])
         unfolding memory
         past-memory =
             past-costs
             ∙ first-fails (ltb (rooms .path) (M .count) || ltb (rooms .word) (M .count)) OutputMemory (check (ltb (rooms .work) (needed (M .count) l)) Work ∷ [])
             (rw (le-ltb (rooms .path) (M .count) path, le-ltb (rooms .word) (M .count) word))
 
-        pub refused-work : rooms .work < needed (M .count) l → first-of (matrix-checks k l M rooms) ≡ Refused Work
+        pub refused-work : rooms .work < needed (M .count) l → first-refusal (matrix-checks k l M rooms) ≡ Refused Work
         refused-work h = past-memory ∙ first-holds (ltb (rooms .work) (needed (M .count) l)) Work [] (lt-ltb (rooms .work) (needed (M .count) l) h)
 
-        pub all-passed : needed (M .count) l ≤ rooms .work → first-of (matrix-checks k l M rooms) ≡ Passed
-        unfolding first-of
+        pub all-passed : needed (M .count) l ≤ rooms .work → first-refusal (matrix-checks k l M rooms) ≡ Passed
+        unfolding first-refusal
         all-passed h = past-memory ∙ first-fails (ltb (rooms .work) (needed (M .count) l)) Work [] (le-ltb (rooms .work) (needed (M .count) l) h)
 
   -- past the checks
-  pub fits : first-of (matrix-checks k l M rooms) ≡ Passed → Fits k l M rooms
+  pub fits : first-refusal (matrix-checks k l M rooms) ≡ Passed → Fits k l M rooms
   unfolding memory
   fits e =
       let a = first-passed (matrix-fault k M) MatrixRow (check (not (all passes (M .costs))) Cost ∷ memory) e in

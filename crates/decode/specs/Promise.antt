@@ -9,7 +9,7 @@ use Rattle.refusal.specs.declared.Refusal.{Refusal}
 use Rattle.refusal.specs.declared.Refusal.the-variants.{NoReading}
 use Rattle.refusal.specs.declared.Checked.{Checked}
 use Rattle.refusal.specs.declared.Checked.the-variants.{Passed, Refused}
-use Rattle.refusal.specs.Verdict.{first-of}
+use Rattle.refusal.specs.Verdict.{first-refusal}
 use Rattle.refusal.specs.Report.{Report, turned-away}
 use Rattle.ctc.specs.Collapse.{collapse}
 use Rattle.automaton.specs.Automaton.{Accepts}
@@ -86,4 +86,4 @@ DecodeAnswers f M = Answers (Accepts (view f)) labels 0 M (needed (M .count) (le
 -- Decode's promise
 abbrev pub Decodes : (form : List ℕ) (M : Matrix) (before after : Lent) (answer : Report) → Type 0
 Decodes f M before after answer =
-    Checks (first-of (decode-checks f M (rooms before))) (DecodeAnswers f M) before after answer
+    Checks (first-refusal (decode-checks f M (rooms before))) (DecodeAnswers f M) before after answer

@@ -10,7 +10,7 @@ ghost use mathlib.Core.Bool.{true, false};
 ghost use Prim.Native.Nat.{ℕ, _+_, _*_, _<_, _≤_};
 ghost use lib.ListN.{length};
 ghost use Rattle.lists.specs.Each.{all};
-ghost use Rattle.refusal.specs.Verdict.{first-of};
+ghost use Rattle.refusal.specs.Verdict.{first-refusal};
 ghost use Rattle.automaton.specs.Form.{alphabetOf, lettersOf};
 ghost use Rattle.automaton.specs.Valid.{Valid};
 ghost use Rattle.reading.specs.Matrix.{matrix};
@@ -72,7 +72,7 @@ pub fn check_matrix(
     work: usize,
 ) -> Checked
     requires { ⌜ (k ≤ 95) × (l ≤ 127) ⌝ }
-    ensures { λ r. ⌜ r ≡ first-of (matrix-checks k l (matrix (now (costs .entry)) width count) (record { path = path; word = word; work = work })) ⌝ }
+    ensures { λ r. ⌜ r ≡ first-refusal (matrix-checks k l (matrix (now (costs .entry)) width count) (record { path = path; word = word; work = work })) ⌝ }
 {
     if has_fault(k, costs, width, count) {
         return Checked::Refused(Refusal::Matrix);

@@ -6,12 +6,13 @@ use mathlib.Core.Bool.{Bool, true, false, _&&_}
 use mathlib.Core.List.{List, [], _∷_, flatMap}
 use lib.ListN.{length, getD}
 use lib.Dec.{leb, ltb}
+use Rattle.lists.specs.Ranges.{in-range}
 use Rattle.lists.specs.Among.{keep}
 use Rattle.lists.specs.Ascending.{numbers}
 use Rattle.refusal.specs.declared.Refusal.the-variants.{FormMemory}
 use Rattle.refusal.specs.Verdict.{Verdict, check, unless, passed, refused}
 use Rattle.automaton.specs.Automaton.{Automaton}
-use Rattle.automaton.specs.Form.{within, encode}
+use Rattle.automaton.specs.Form.{encode}
 
 -- the letter is in the set: its entry stands at the index below its number
 abbrev pub has : List Bool → ℕ → Bool
@@ -23,7 +24,7 @@ unfoldable pub arrayed : ℕ → Bool → List ℕ → List Bool → List Bool �
 arrayed l empty labels first last follow = record {
   letters = l;
   label = λ j. getD labels (j - 1) 0;
-  follow = λ i j. leb i l && within 1 j l && has (getD (first ∷ follow) i []) j;
+  follow = λ i j. leb i l && in-range 1 l j && has (getD (first ∷ follow) i []) j;
   ends = λ i. leb i l && getD (empty ∷ last) i false;
 }
 

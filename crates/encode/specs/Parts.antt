@@ -7,10 +7,11 @@ use native.Mathlib.Omega.{arith}
 use lib.ListN.{getD}
 use lib.Dec.{leb}
 use borrow.Author.Tests.{le-leb}
+use Rattle.lists.specs.Ranges.{in-range}
 use Rattle.lists.specs.Among.{keep, keep-same, map-same, flat-same}
 use Rattle.lists.specs.Ascending.{numbers, numbers-among}
 use Rattle.automaton.specs.Automaton.{Automaton}
-use Rattle.automaton.specs.Form.{headWord, letterWord, arcWord, within, letterOf, arcsFrom, encode}
+use Rattle.automaton.specs.Form.{headWord, letterWord, arcWord, letterOf, arcsFrom, encode}
 use Rattle.encode.specs.Arrays.{has, arrayed}
 
 -- the word of letter j
@@ -71,7 +72,7 @@ module _ (empty : Bool) (labels : List ℕ) (first last : List Bool) (follow : L
 
   -- they tell the automaton that they stand for
   module _ (l : ℕ) where
-    inside : (i j : ℕ) (b : Bool) → i ≤ l → 1 ≤ j → j ≤ l → (leb i l && within 1 j l && b) ≡ b
+    inside : (i j : ℕ) (b : Bool) → i ≤ l → 1 ≤ j → j ≤ l → (leb i l && in-range 1 l j && b) ≡ b
     inside i j b g low high = rw (le-leb i l g, le-leb 1 j low, le-leb j l high)
 
     arrayed-tells : Tells (arrayed l empty labels first last follow) empty labels first last follow
@@ -91,7 +92,7 @@ module _ (empty : Bool) (labels : List ℕ) (first last : List Bool) (follow : L
 
         arc :
             (i j : ℕ) → 1 ≤ i → i ≤ l → 1 ≤ j → j ≤ l
-            → (leb i l && within 1 j l && has (getD (first ∷ follow) i []) j) ≡ has (getD follow (i - 1) []) j
+            → (leb i l && in-range 1 l j && has (getD (first ∷ follow) i []) j) ≡ has (getD follow (i - 1) []) j
         arc zero j s g low high = absurd (omega arith)
         arc (suc i) j s g low high = inside (suc i) j (has (getD follow i []) j) g low high ∙ ap (λ n. has (getD follow n []) j) (omega arith)
 

@@ -6,68 +6,17 @@ use mathlib.Core.List.{List, [], _∷_, _++_, map, flatMap}
 use native.Mathlib.Omega.{arith}
 use lib.ListN.{length, getD, set, length-append, length-map}
 use Rattle.lists.specs.Among.{keep, keeping}
-use Rattle.lists.specs.Ascending.{numbers, numbers-here, numbers-past}
+use Rattle.lists.specs.Ascending.{numbers}
+use Rattle.lists.specs.Remaining.{from, from-first, keep-here, keep-past, flat-here, flat-past, length-keeping, map-keeping}
 use Rattle.lists.specs.Written.{Stored}
 use Rattle.automaton.specs.Form.{bit, arcWord}
 use Rattle.encode.specs.Arrays.{has}
 use Rattle.encode.specs.Parts.{letterBy, lettersBy, rowBy, rowAt, arcsBy}
 
--- the letters from j on
-abbrev pub from : ℕ → ℕ → List ℕ
-from l j = numbers j (l + 1 - j)
-
-module _ (l : ℕ) where
-  pub from-first : from l 1 ≡ numbers 1 l
-  from-first = let e : l + 1 - 1 ≡ l = omega arith in ap (numbers 1) e
-
-  here : (j : ℕ) → j ≤ l → from l j ≡ j ∷ from l (j + 1)
-  here j h = numbers-here j (l + 1) (omega arith)
-
-  past : (j : ℕ) → l < j → from l j ≡ []
-  past j h = numbers-past j (l + 1) (omega arith)
-
-  -- the letters
-  module _ (f : ℕ → ℕ) where
-    pub map-here : (j : ℕ) → j ≤ l → map f (from l j) ≡ f j ∷ map f (from l (j + 1))
-    map-here j h = ap (map f) (here j h)
-
-    pub map-past : (j : ℕ) → l < j → map f (from l j) ≡ []
-    map-past j h = ap (map f) (past j h)
-
-  -- the arcs of a row
-  module _ (p : ℕ → Bool) where
-    keep-here : (j : ℕ) → j ≤ l → keep p (from l j) ≡ keeping (p j) j (keep p (from l (j + 1)))
-    unfolding keep
-    keep-here j h = ap (keep p) (here j h)
-
-    keep-past : (j : ℕ) → l < j → keep p (from l j) ≡ []
-    unfolding keep
-    keep-past j h = ap (keep p) (past j h)
-
-  -- the rows
-  module _ (f : ℕ → List ℕ) where
-    pub flat-here : (i : ℕ) → i ≤ l → flatMap f (from l i) ≡ f i ++ flatMap f (from l (i + 1))
-    unfolding flatMap
-    flat-here i h = ap (flatMap f) (here i h)
-
-    pub flat-past : (i : ℕ) → l < i → flatMap f (from l i) ≡ []
-    unfolding flatMap
-    flat-past i h = ap (flatMap f) (past i h)
-
 -- the words of the letters
 pub letters-first : (l : ℕ) (labels : List ℕ) (first last : List Bool) → lettersBy l labels first last ≡ map (letterBy labels first last) (from l 1)
 unfolding lettersBy
 letters-first l labels first last = ap (map (letterBy labels first last)) (sym (from-first l))
-
--- An arc counts one or nothing, and is written or not.
-
-length-keeping : (b : Bool) (x : ℕ) (xs : List ℕ) → length (keeping b x xs) ≡ bit b + length xs
-length-keeping true x xs = omega arith
-length-keeping false x xs = omega arith
-
-map-keeping : (f : ℕ → ℕ) (b : Bool) (x : ℕ) (xs : List ℕ) → map f (keeping b x xs) ≡ keeping b (f x) [] ++ map f xs
-map-keeping f true x xs = refl
-map-keeping f false x xs = refl
 
 module _ (l : ℕ) (row : List Bool) where
   pub count-here : (j : ℕ) → j ≤ l → length (keep (has row) (from l j)) ≡ bit (has row j) + length (keep (has row) (from l (j + 1)))

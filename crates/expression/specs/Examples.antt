@@ -13,7 +13,7 @@ use Rattle.refusal.specs.declared.Refusal.the-variants as row
 use Rattle.refusal.specs.Number.{numberOf}
 use Rattle.expression.specs.Bytes.{bytes}
 use Rattle.expression.specs.Tree.{range, Count, between, onward, except, Tree, set, group, times, join, either}
-use Rattle.expression.specs.Letters.{labelsOf, lettersOf}
+use Rattle.expression.specs.Letters.{labelsOf, letterCount}
 use Rattle.expression.specs.Text.{Reads, found, fault, then, first-of, split, enclosed, provided}
 use Rattle.expression.specs.Sets.{closed, reserved, items, members, inside, bracket, alone, escaped, a-set, labelled-set}
 use Rattle.expression.specs.Repetition.{number, from-on, from-to, comma, counts, sign, repetition}
@@ -29,7 +29,7 @@ unfolding expressionOf
 meets A (letters-of t k) = of (expressionOf A (bytes t))
   where
     of : Reads Tree → Bool
-    of (found r s) = eqb k (lettersOf A r)
+    of (found r s) = eqb k (letterCount A r)
     of (fault n s) = false
 meets A (refused-as t n k) = of (expressionOf A (bytes t))
   where
@@ -101,7 +101,7 @@ many zero s = []
 many (suc n) s = s ++ many n s
 
 size : List ℕ → Reads Tree → ℕ
-size A (found t r) = lettersOf A t
+size A (found t r) = letterCount A t
 size A (fault n r) = 0
 
 signs : List ℕ
@@ -127,5 +127,5 @@ tried :
     (join (times (set (alone 97)) (between 2 2)) (join (times (set (alone 97)) (onward 0)) (times (set (alone 97)) (between 1 2))))))) [])
     × (expressionOf (bytes "abc-") (bytes ".([^a-b-]*)")
     ≡ found (join (set (except [])) (group (times (set (except (range 97 98 ∷ range 45 45 ∷ []))) (onward 0)))) [])
-unfolding failing meets rows bracket-rows label-rows many size signs sign-texts labelsOf lettersOf then first-of split enclosed provided closed reserved items members inside bracket escaped a-set labelled-set number from-on from-to comma counts sign repetition grouped step go read whole expressionOf
+unfolding failing meets rows bracket-rows label-rows many size signs sign-texts labelsOf letterCount then first-of split enclosed provided closed reserved items members inside bracket escaped a-set labelled-set number from-on from-to comma counts sign repetition grouped step go read whole expressionOf
 tried = (refl, refl, refl, refl, refl, refl, refl, refl)

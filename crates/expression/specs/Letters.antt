@@ -15,9 +15,9 @@ copiesOf (between n m) = m
 copiesOf (onward zero) = 1
 copiesOf (onward (suc n)) = suc n
 
-unfoldable pub lettersOf : List ℕ → Tree → ℕ
-lettersOf A (set c) = labelsOf A c
-lettersOf A (group r) = lettersOf A r
-lettersOf A (times r c) = copiesOf c * lettersOf A r
-lettersOf A (join r s) = lettersOf A r + lettersOf A s
-lettersOf A (either r s) = lettersOf A r + lettersOf A s
+unfoldable pub letterCount : List ℕ → Tree → ℕ
+letterCount A (set c) = labelsOf A c
+letterCount A (group r) = letterCount A r
+letterCount A (times r c) = copiesOf c * letterCount A r
+letterCount A (join r s) = letterCount A r + letterCount A s
+letterCount A (either r s) = letterCount A r + letterCount A s

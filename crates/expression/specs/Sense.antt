@@ -8,7 +8,7 @@ use native.Mathlib.Omega.{arith}
 use native.Mathlib.Nat.{mul-le-mul-right, mul-le-mul-left}
 use Rattle.lists.specs.Order.{lt-or-le}
 use Rattle.expression.specs.Tree.{Count, between, onward, Tree, set, group, times, join, either}
-use Rattle.expression.specs.Letters.{labelsOf, copiesOf, lettersOf}
+use Rattle.expression.specs.Letters.{labelsOf, copiesOf, letterCount}
 use Rattle.expression.specs.Sets.{labelled-set}
 use Rattle.expression.specs.Repetition.{repetition}
 use Rattle.expression.specs.Grammar.{TextOf}
@@ -42,12 +42,12 @@ module _ (A : List ℕ) where
   sensible (either r t) d s h = (sensible r d (h .0) (h .3), sensible t d (h .1) (h .5))
 
   -- and has a letter
-  pub letters-some : (t : Tree) → Sensible A t → 1 ≤ lettersOf A t
-  unfolding lettersOf
+  pub letters-some : (t : Tree) → Sensible A t → 1 ≤ letterCount A t
+  unfolding letterCount
   letters-some (set c) h = h
   letters-some (group r) h = letters-some r h
   letters-some (times r c) h =
-      let l = letters-some r (h .0) in let k = copies-some c (h .1) in omega (arith, mul-le-mul-right (lettersOf A r) k)
+      let l = letters-some r (h .0) in let k = copies-some c (h .1) in omega (arith, mul-le-mul-right (letterCount A r) k)
   letters-some (join r s) h = let l = letters-some r (h .0) in omega arith
   letters-some (either r s) h = let l = letters-some r (h .0) in omega arith
 

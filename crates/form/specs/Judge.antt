@@ -9,12 +9,13 @@ use native.Mathlib.Omega.{arith}
 use lib.ListN.{length}
 use lib.Dec.{leb}
 use borrow.Author.Tests.{le-leb}
+use Rattle.lists.specs.Ranges.{in-range}
 use Rattle.lists.specs.Order.{and-both}
 use Rattle.lists.specs.Each.{Each, each-all}
 use Rattle.refusal.specs.declared.Refusal.the-variants.{BadForm, Label}
 use Rattle.refusal.specs.Number.{numberOf}
 use Rattle.refusal.specs.Verdict.{Verdict, passed, refused, check, unless, unless-holds, unless-second, unless-neither}
-use Rattle.labels.specs.Calls.{between, label-fault}
+use Rattle.labels.specs.Calls.{label-fault}
 use Rattle.labels.specs.Faults.{fault-labels}
 use Rattle.automaton.specs.Automaton.{Accepts}
 use Rattle.automaton.specs.Form.{validForm, alphabetOf, view}
@@ -62,7 +63,7 @@ module _ (form word : List ℕ) where
     decided : (accepts (view form) word ≡ true) ↔ Accepts (view form) word
     decided = accepts-decides (view form) (alphabetOf form) (view-proper form valid) word
 
-    size : between 1 95 (alphabetOf form) ≡ true
+    size : in-range 1 95 (alphabetOf form) ≡ true
     size =
         let h = valid-at form valid .head in
         and-both (leb 1 (alphabetOf form)) (leb (alphabetOf form) 95) (le-leb 1 (alphabetOf form) (h .alphabet-low)) (le-leb (alphabetOf form) 95 (h .alphabet-high))
@@ -71,7 +72,7 @@ module _ (form word : List ℕ) where
     word-passes =
         judged-word valid
         (fault-labels (alphabetOf form) 1 word size short
-        ∙ ap not (each-all (between 1 (alphabetOf form)) (λ x. (1 ≤ x) × (x ≤ alphabetOf form))
+        ∙ ap not (each-all (in-range 1 (alphabetOf form)) (λ x. (1 ≤ x) × (x ≤ alphabetOf form))
         (λ x h. and-both (leb 1 x) (leb x (alphabetOf form)) (le-leb 1 x (h .0)) (le-leb x (alphabetOf form) (h .1))) word labels))
 
     pub judged-exact : (judged form word ≡ passed true) ↔ Accepts (view form) word

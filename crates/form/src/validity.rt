@@ -3,10 +3,11 @@ use crate::letters;
 ghost use mathlib.Core.Path.{_≡_};
 ghost use mathlib.Core.Bool.{_&&_};
 ghost use Rattle.lists.specs.Each.{all};
-ghost use Rattle.automaton.specs.Form.{within as withinOf, isHead, isLetter, isArc, ordered, validForm};
+ghost use Rattle.lists.specs.Ranges.{in-range};
+ghost use Rattle.automaton.specs.Form.{isHead, isLetter, isArc, ordered, validForm};
 
-fn within(low: u32, n: u32, high: u32) -> bool
-    ensures { λ r. ⌜ r ≡ withinOf low n high ⌝ }
+fn in_range(low: u32, high: u32, n: u32) -> bool
+    ensures { λ r. ⌜ r ≡ in-range low high n ⌝ }
 {
     if n < low {
         return false;
@@ -22,10 +23,10 @@ fn is_head(w: u32) -> bool
     if w != 268435456 + k * 65536 + w / 256 % 2 * 256 + l {
         return false;
     }
-    if !within(1, l, 127) {
+    if !in_range(1, 127, l) {
         return false;
     }
-    within(1, k, 95)
+    in_range(1, 95, k)
 }
 
 // A letter over an alphabet of k?
@@ -36,7 +37,7 @@ fn is_letter(k: u32, w: u32) -> bool
     if w != 536870912 + w / 512 % 2 * 512 + w / 256 % 2 * 256 + x {
         return false;
     }
-    within(1, x, k)
+    in_range(1, k, x)
 }
 
 // An arc between two of l letters?
@@ -48,10 +49,10 @@ fn is_arc(l: u32, w: u32) -> bool
     if w != 805306368 + i * 256 + j {
         return false;
     }
-    if !within(1, i, l) {
+    if !in_range(1, l, i) {
         return false;
     }
-    within(1, j, l)
+    in_range(1, l, j)
 }
 
 fn are_letters(k: u32, words: &[u32]) -> bool

@@ -9,6 +9,7 @@ use native.Mathlib.Omega.{arith}
 use lib.ListN.{length, length-append, length-map}
 use lib.Dec.{ltb}
 use borrow.Author.Tests.{ltb-false}
+use Rattle.lists.specs.Ranges.{in-range}
 use Rattle.lists.specs.Order.{or-neither}
 use Rattle.lists.specs.Each.{all}
 use Rattle.lists.specs.Among.{keep, keep-shorter, flat-length}
@@ -17,11 +18,11 @@ use Rattle.refusal.specs.declared.Refusal.{Refusal}
 use Rattle.refusal.specs.declared.Refusal.the-variants.{BadForm, OutputMemory, Label}
 use Rattle.refusal.specs.declared.Checked.{Checked}
 use Rattle.refusal.specs.declared.Checked.the-variants.{Passed, Refused}
-use Rattle.refusal.specs.Verdict.{Verdict, passed, refused, check, unless, first-of, first-passed}
+use Rattle.refusal.specs.Verdict.{Verdict, passed, refused, check, unless, first-refusal, first-passed}
 use Rattle.refusal.specs.Report.{Report, report, Fills}
 use Rattle.ctc.specs.Collapse.{collapse, collapse-shorter}
 use Rattle.ctc.specs.Spread.{spread, spread-length}
-use Rattle.labels.specs.Calls.{between, label-fault, collapse-call, spread-call}
+use Rattle.labels.specs.Calls.{label-fault, collapse-call, spread-call}
 use Rattle.labels.specs.Turns.{few-pairs-in}
 use Rattle.automaton.specs.Automaton.{Accepts}
 use Rattle.automaton.specs.Form.{validForm, view, lettersOf, alphabetOf, arcWord, letterOf, arcsFrom, encode}
@@ -48,8 +49,8 @@ module _ (few : ℕ) (w : List ℕ) where
 
 short : (k low : ℕ) (list : List ℕ) → label-fault k low list ≡ false → length list ≤ 255
 short k low list e =
-    let a = or-neither (not (between 1 95 k)) (ltb 255 (length list) || not (all (between low k) list)) e in
-    let b = or-neither (ltb 255 (length list)) (not (all (between low k) list)) (a .1) in
+    let a = or-neither (not (in-range 1 95 k)) (ltb 255 (length list) || not (all (in-range low k) list)) e in
+    let b = or-neither (ltb 255 (length list)) (not (all (in-range low k) list)) (a .1) in
     ltb-false 255 (length list) (b .0)
 
 collapse-few : (k : ℕ) (path : List ℕ) (room : ℕ) → report (collapse-call k path room) .filled ≤ 255
@@ -112,7 +113,7 @@ pub decode-fits : (f : List ℕ) (M : Matrix) (before after : Lent) (answer : Re
 decode-fits f M before after answer h =
     let checks = matrix-checks (alphabetOf f) (lettersOf f) M (rooms before) in
     let few =
-    answers-few (Accepts (view f)) labels 0 M (needed (M .count) (lettersOf f)) before after answer (first-of (decode-checks f M (rooms before)))
+    answers-few (Accepts (view f)) labels 0 M (needed (M .count) (lettersOf f)) before after answer (first-refusal (decode-checks f M (rooms before)))
     (λ e. fits (alphabetOf f) (lettersOf f) M (rooms before) (first-passed (not (validForm f)) BadForm checks e .1) .few) h in
     omega arith
 
@@ -126,5 +127,5 @@ module _ {A s : List ℕ} {M : Matrix} {form form′ : List ℕ} {before after :
           let short = form-few f (compiled-means A s (length form) f e .valid) in
           let few =
           answers-few (WordsOf A s) (characters A) (length f) M (needed (M .count) (lettersOf f)) before after answer
-          (first-of (matrix-checks (length A) (lettersOf f) M (rooms before))) (λ e. fits (length A) (lettersOf f) M (rooms before) e .few) r in
+          (first-refusal (matrix-checks (length A) (lettersOf f) M (rooms before))) (λ e. fits (length A) (lettersOf f) M (rooms before) e .few) r in
           (omega arith, omega arith)

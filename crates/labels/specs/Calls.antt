@@ -6,18 +6,16 @@ use mathlib.Core.Bool.{Bool, true, false, not, _&&_, _||_}
 use mathlib.Core.List.{List, [], _∷_, _++_}
 use lib.ListN.{length}
 use lib.Dec.{leb, ltb, eqb}
+use Rattle.lists.specs.Ranges.{in-range}
 use Rattle.lists.specs.Each.{all}
 use Rattle.refusal.specs.declared.Refusal.the-variants.{OutputMemory, Label}
 use Rattle.refusal.specs.Verdict.{Verdict, check, unless}
 use Rattle.ctc.specs.Collapse.{omitting, collapse, after}
 use Rattle.ctc.specs.Spread.{parted, spread, spread-after}
 
-abbrev pub between : ℕ → ℕ → ℕ → Bool
-between low high x = leb low x && leb x high
-
 -- K is not 1 to 95, the list is over 255, or a label is not from `low` to K: a path's labels begin at 0, a word's at 1
 abbrev pub label-fault : ℕ → ℕ → List ℕ → Bool
-label-fault k low list = not (between 1 95 k) || (ltb 255 (length list) || not (all (between low k) list))
+label-fault k low list = not (in-range 1 95 k) || (ltb 255 (length list) || not (all (in-range low k) list))
 
 -- what Collapse fills, with this much room for the word
 unfoldable pub collapse-call : ℕ → List ℕ → ℕ → Verdict (List ℕ)

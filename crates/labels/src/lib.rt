@@ -6,12 +6,13 @@ ghost use Prim.Native.Nat.{ℕ, _+_, _<_, _≤_};
 ghost use mathlib.Core.Bool.{cond};
 ghost use lib.Dec.{eqb};
 ghost use lib.ListN.{length};
+ghost use Rattle.lists.specs.Ranges.{in-range};
 ghost use Rattle.lists.specs.Each.{all, Each};
 ghost use Rattle.lists.specs.Written.{Wrote, Stored};
 ghost use Rattle.refusal.specs.Report.{reported, Fills};
 ghost use Rattle.ctc.specs.Collapse.{collapse as collapseOf};
 ghost use Rattle.ctc.specs.Spread.{spread as spreadOf, pairs};
-ghost use Rattle.labels.specs.Calls.{between, label-fault, collapse-call, spread-call, added, spaced};
+ghost use Rattle.labels.specs.Calls.{label-fault, collapse-call, spread-call, added, spaced};
 
 // A label as a number.
 pub fn wide(x: u8) -> usize
@@ -21,8 +22,8 @@ pub fn wide(x: u8) -> usize
 }
 
 // Is x a label from `low` to `high`?
-fn is_between(low: usize, high: usize, x: usize) -> bool
-    ensures { λ r. ⌜ r ≡ between low high x ⌝ }
+fn in_range(low: usize, high: usize, x: usize) -> bool
+    ensures { λ r. ⌜ r ≡ in-range low high x ⌝ }
 {
     if x < low {
         return false;
@@ -31,12 +32,12 @@ fn is_between(low: usize, high: usize, x: usize) -> bool
 }
 
 // Is each label of the list from `low` to `high`?
-pub fn all_between(low: usize, high: usize, list: &[u8]) -> bool
-    ensures { λ r. ⌜ r ≡ all (between low high) (now (list .entry)) ⌝ }
+pub fn all_in_range(low: usize, high: usize, list: &[u8]) -> bool
+    ensures { λ r. ⌜ r ≡ all (in-range low high) (now (list .entry)) ⌝ }
 {
     let mut i: usize = 0;
     while i < list.len() {
-        if !is_between(low, high, wide(list[i])) {
+        if !in_range(low, high, wide(list[i])) {
             return false;
         }
         i += 1;
@@ -48,13 +49,13 @@ pub fn all_between(low: usize, high: usize, list: &[u8]) -> bool
 pub fn has_fault(k: usize, low: usize, list: &[u8]) -> bool
     ensures { λ r. ⌜ r ≡ label-fault k low (now (list .entry)) ⌝ }
 {
-    if !is_between(1, 95, k) {
+    if !in_range(1, 95, k) {
         return true;
     }
     if 255 < list.len() {
         return true;
     }
-    !all_between(low, k, list)
+    !all_in_range(low, k, list)
 }
 
 // Label x behind label a goes to place n of the word, or is left out; the next place.

@@ -10,7 +10,7 @@ use Rattle.refusal.specs.declared.Refusal.the-variants as row
 use Rattle.refusal.specs.declared.Checked.{Checked}
 use Rattle.refusal.specs.declared.Checked.the-variants.{Passed, Refused}
 use Rattle.refusal.specs.Number.{numberOf}
-use Rattle.refusal.specs.Verdict.{Verdict, passed, refused, first-of}
+use Rattle.refusal.specs.Verdict.{Verdict, passed, refused, first-refusal}
 use Rattle.ctc.specs.Collapse.{collapse}
 use Rattle.automaton.specs.Form.{lettersOf}
 use Rattle.reading.specs.Matrix.{Matrix, price}
@@ -48,7 +48,7 @@ PrintsChecked Passed A s M output = PrintsOutcome A s M output
 -- rows 1 to 10
 abbrev pub PrintsCompiled : Verdict (List ℕ) → (A s : List ℕ) (M : Matrix) (output : List ℕ) → Type 0
 PrintsCompiled (refused n) A s M output = output ≡ refusal-line (numberOf n)
-PrintsCompiled (passed f) A s M output = PrintsChecked (first-of (matrix-checks (length A) (lettersOf f) M lent-rooms)) A s M output
+PrintsCompiled (passed f) A s M output = PrintsChecked (first-refusal (matrix-checks (length A) (lettersOf f) M lent-rooms)) A s M output
 
 -- for an alphabet, a text and a matrix
 abbrev pub PrintsReading : (A s : List ℕ) (M : Matrix) (output : List ℕ) → Type 0
@@ -75,7 +75,7 @@ module _ (A s : List ℕ) (M : Matrix) (a b : List ℕ) where
 
   compiled-same : (v : Verdict (List ℕ)) → PrintsCompiled v A s M a → PrintsCompiled v A s M b → a ≡ b
   compiled-same (refused n) h g = h ∙ sym g
-  compiled-same (passed f) h g = checked-same (first-of (matrix-checks (length A) (lettersOf f) M lent-rooms)) h g
+  compiled-same (passed f) h g = checked-same (first-refusal (matrix-checks (length A) (lettersOf f) M lent-rooms)) h g
 
 sheet-same : (o : Option Sheet) (a b : List ℕ) → PrintsSheet o a → PrintsSheet o b → a ≡ b
 sheet-same none a b h g = h ∙ sym g

@@ -5,12 +5,12 @@ use mathlib.Core.List.{[], _∷_, flatMap, flatten}
 use Rattle.lists.specs.Each.{all}
 use Rattle.lists.specs.Among.{any, keep}
 use Rattle.lists.specs.Ascending.{numbers}
-use Rattle.refusal.specs.Verdict.{unless, then, first-of as first-check}
+use Rattle.refusal.specs.Verdict.{unless, if-passed, first-refusal}
 use Rattle.ctc.specs.Collapse.{merge, without-blanks, collapse}
 use Rattle.automaton.specs.Form.{encode}
 use Rattle.expression.specs.Bytes.{bytes}
-use Rattle.expression.specs.Letters.{labelsOf, lettersOf}
-use Rattle.expression.specs.Text.{then as behind, first-of, split, enclosed, provided}
+use Rattle.expression.specs.Letters.{labelsOf, letterCount}
+use Rattle.expression.specs.Text.{then, first-of, split, enclosed, provided}
 use Rattle.expression.specs.Sets.{closed as closes, reserved, items, members, inside, bracket, escaped, a-set, labelled-set}
 use Rattle.expression.specs.Repetition.{number, from-on, from-to, comma, counts, sign, repetition}
 use Rattle.expression.specs.Read.{grouped, step, go, read, whole, expressionOf}
@@ -24,7 +24,7 @@ use Rattle.layout.specs.Answer.{Prints}
 
 -- "Input in full" and "Output in full"
 pub document-prints : Prints (bytes "ab\naa\n5 1 9\n5 1 9\n5 1 9\n") (bytes "7\naa\n1 0 1\n")
-unfolding cases onto pieces both every closed costOf columnOf flatten laid sheetFrom sheetOf provided digits decimal following spaced flatMap collapse merge without-blanks first-check compile-call distinct then unless all any keep numbers encode labelsOf lettersOf behind first-of split enclosed closes reserved items members inside bracket escaped a-set labelled-set number from-on from-to comma counts sign repetition grouped step go read whole expressionOf anyOf copies nested repeated opened labels numbered positionAutomaton
+unfolding cases onto pieces both every closed costOf columnOf flatten laid sheetFrom sheetOf provided digits decimal following spaced flatMap collapse merge without-blanks first-refusal compile-call distinct if-passed unless all any keep numbers encode labelsOf letterCount then first-of split enclosed closes reserved items members inside bracket escaped a-set labelled-set number from-on from-to comma counts sign repetition grouped step go read whole expressionOf anyOf copies nested repeated opened labels numbered positionAutomaton
 document-prints = record { outcome = some (1 ∷ 0 ∷ 1 ∷ []); is = cases-stated .1 .0 .0; lines = refl }
 
 -- no column: three lines, two of them empty; two columns are too few for `aa`; 18 before 1; 8; 12 before 13
@@ -34,7 +34,7 @@ pub others-print :
     × Prints (bytes "aa\n") (bytes "refused 18\n")
     × Prints (bytes "ab\nc\n") (bytes "refused 8\n")
     × Prints (bytes "ab\na\n1000001 2\n") (bytes "refused 12\n")
-unfolding cases onto pieces both every closed costOf columnOf flatten laid sheetFrom sheetOf provided digits decimal following spaced flatMap collapse merge without-blanks first-check compile-call distinct then unless all any keep numbers encode labelsOf lettersOf behind first-of split enclosed closes reserved items members inside bracket escaped a-set labelled-set number from-on from-to comma counts sign repetition grouped step go read whole expressionOf anyOf copies nested repeated opened labels numbered positionAutomaton
+unfolding cases onto pieces both every closed costOf columnOf flatten laid sheetFrom sheetOf provided digits decimal following spaced flatMap collapse merge without-blanks first-refusal compile-call distinct if-passed unless all any keep numbers encode labelsOf letterCount then first-of split enclosed closes reserved items members inside bracket escaped a-set labelled-set number from-on from-to comma counts sign repetition grouped step go read whole expressionOf anyOf copies nested repeated opened labels numbered positionAutomaton
 others-print = (
   record { outcome = some []; is = cases-stated .1 .1 .1 .0 .0; lines = refl },
   record { outcome = none; is = cases-stated .1 .1 .0 .0; lines = refl },

@@ -11,7 +11,7 @@ use Rattle.refusal.specs.declared.Refusal.the-variants.{NoReading}
 use Rattle.refusal.specs.declared.Checked.{Checked}
 use Rattle.refusal.specs.declared.Checked.the-variants.{Passed, Refused}
 use Rattle.refusal.specs.Number.{numberOf}
-use Rattle.refusal.specs.Verdict.{Verdict, passed, refused, first-of}
+use Rattle.refusal.specs.Verdict.{Verdict, passed, refused, first-refusal}
 use Rattle.refusal.specs.Report.{Report, turned-away}
 use Rattle.ctc.specs.Collapse.{collapse}
 use Rattle.automaton.specs.Form.{lettersOf}
@@ -73,9 +73,9 @@ module _ (A s : List ℕ) (M : Matrix) (before after : Lent) (answer : Report) w
   said-compiled e (refused n) h = away n (h .0) refl
   said-compiled e (passed f) h =
       let need = needed (M .count) (lettersOf f) in
-      said-checked (first-of (matrix-checks (length A) (lettersOf f) M lent-rooms)) (length f) need
+      said-checked (first-refusal (matrix-checks (length A) (lettersOf f) M lent-rooms)) (length f) need
       (subst
-      (λ r. Checks (first-of (matrix-checks (length A) (lettersOf f) M r)) (Answers (WordsOf A s) (characters A) (length f) M need) before after answer) e h)
+      (λ r. Checks (first-refusal (matrix-checks (length A) (lettersOf f) M r)) (Answers (WordsOf A s) (characters A) (length f) M need) before after answer) e h)
 
   pub said : (form form′ : List ℕ) → Sized form before → Reads A s M form form′ before after answer → Said (PrintsReading A s M) A M before after answer
   said form form′ sized h =

@@ -1,9 +1,11 @@
 pub mod Order
+pub mod Ranges
 pub mod Each
 pub mod Least
 pub mod Written
 pub mod Among
 pub mod Ascending
+pub mod Remaining
 pub mod Outside
 pub mod Marks
 pub mod Upto

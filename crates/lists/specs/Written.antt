@@ -1,12 +1,12 @@
 -- Lent memory of which a beginning was written: what every promise says of a lent list, and the loop that writes it from the front.
 -- Assumes nothing.
-use Prim.Native.Nat.{ℕ, suc, _+_, _<_, _≤_}
+use Prim.Native.Nat.{ℕ, suc, _+_, _-_, _<_, _≤_}
 use mathlib.Core.Path.{_≡_, refl, sym, ap, _∙_, subst}
 use mathlib.Core.List.{List, [], _∷_, _++_, append-assoc, append-nil}
 use native.Mathlib.Numerals.{add-one}
 use native.Mathlib.Omega.{arith}
 use lib.ListN.{length, getD, take, drop, set, length-append, length-drop, take-append-drop, List·getD-append}
-use lib.Seq.{drop-cons, take-suc, set-at, sets, sets-eq, length-sets, length-take-le, take-length, take-at, drop-at, getD-append-add}
+use lib.Seq.{drop-cons, take-suc, set-at, sets, sets-eq, length-sets, length-take-le, take-length, take-at, drop-at, getD-append-add, getD-drop}
 
 module _ {A : Type 0} where
   -- the list in front, and behind it the memory as it was
@@ -30,6 +30,28 @@ module _ {A : Type 0} where
       ∙ set-at w (getD m n a) (drop (suc n) m) a n e
       ∙ sym (append-assoc w (a ∷ []) (drop (suc n) m))
       ∙ ap (λ k. (w ++ (a ∷ [])) ++ drop k m) size
+
+  -- behind what is written the memory is as it was
+  pub written-behind : (d : A) (w m : List A) (k : ℕ) → length w ≤ k → getD (written w m) k d ≡ getD m k d
+  unfolding written
+  written-behind d w m k h =
+      let e : length w + (k - length w) ≡ k = omega arith in
+      ap (λ n. getD (w ++ drop (length w) m) n d) (sym e) ∙ getD-append-add w (drop (length w) m) (k - length w) d
+      ∙ getD-drop (length w) m (k - length w) d ∙ ap (λ n. getD m n d) e
+
+  -- written once more, as long
+  pub written-over : (c w m : List A) → length c ≡ length w → written c (written w m) ≡ written c m
+  unfolding written
+  written-over c w m e = ap (λ l. c ++ l) (drop-at w (drop (length w) m) (length c) (sym e) ∙ ap (λ n. drop n m) (sym e))
+
+  pub take-written : (w m : List A) (n : ℕ) → n ≡ length w → take n (written w m) ≡ w
+  unfolding written
+  take-written w m n e = take-at w (drop (length w) m) n (sym e)
+
+  -- what is written fits
+  pub written-fits : (w m : List A) → length w ≤ length (written w m)
+  unfolding written
+  written-fits w m = omega (arith, length-append w (drop (length w) m))
 
   -- what a function did that wrote the list w into the front of lent memory and answered its length
   pub record Wrote (w before after : List A) (answer : ℕ) : Type 0 where

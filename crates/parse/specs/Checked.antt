@@ -9,7 +9,7 @@ use Rattle.refusal.specs.declared.Refusal.{Refusal}
 use Rattle.refusal.specs.declared.Refusal.the-variants as row
 use Rattle.expression.specs.Tree.{Tree}
 use Rattle.expression.specs.Text.{Reads, found, fault, then}
-use Rattle.expression.specs.Letters.{lettersOf}
+use Rattle.expression.specs.Letters.{letterCount}
 use Rattle.expression.specs.Sense.{few}
 use Rattle.expression.specs.Read.{read, m-alternation, whole, expressionOf}
 use Rattle.tokens.specs.declared.Part.the-variants as part
@@ -19,7 +19,7 @@ use Rattle.parse.specs.declared.Checked.{Checked}
 use Rattle.parse.specs.declared.Checked.the-variants.{Letters, Refused}
 
 abbrev pub checkedOf : List ℕ → Reads Tree → Checked
-checkedOf A (found t r) = Letters (few (lettersOf A t))
+checkedOf A (found t r) = Letters (few (letterCount A t))
 checkedOf A (fault n r) = Refused n
 
 -- the text over the alphabet A

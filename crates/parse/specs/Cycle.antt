@@ -12,7 +12,7 @@ use Rattle.refusal.specs.declared.Refusal.{Refusal}
 use Rattle.refusal.specs.declared.Refusal.the-variants as row
 use Rattle.expression.specs.Tree.{Count, between, onward, Tree, group, times, join, either}
 use Rattle.expression.specs.Text.{Reads, found, fault, then, next, rest}
-use Rattle.expression.specs.Letters.{copiesOf, lettersOf}
+use Rattle.expression.specs.Letters.{copiesOf, letterCount}
 use Rattle.expression.specs.Sense.{few, few-add}
 use Rattle.expression.specs.Repetition.{repeats, repetition}
 use Rattle.expression.specs.Read.{Mode, m-alternation, m-branch, m-piece, m-group, ends, grouped, step, read}
@@ -27,30 +27,30 @@ use Rattle.parse.specs.Parts.{add, repeated, closed, partAt, Found, part
 module _ (A text : List ℕ) where
   -- what is made of a tree that was read, where its letters are known
   part-under :
-      (f : Tree → Tree) (g : ℕ → ℕ) → ((t : Tree) → few (lettersOf A (f t)) ≡ g (few (lettersOf A t))) → (p : Part → Part) →
+      (f : Tree → Tree) (g : ℕ → ℕ) → ((t : Tree) → few (letterCount A (f t)) ≡ g (few (letterCount A t))) → (p : Part → Part) →
       ((e n : ℕ) → p (part.Read e n) ≡ part.Read e (g n)) → ((x : Refusal) → p (part.Refused x) ≡ part.Refused x) → (x : Reads Tree) →
       p (partOf A text x) ≡ partOf A text (then x (λ t s. found (f t) s))
   unfolding then
-  part-under f g h p a b (found t r) = a (place text r) (few (lettersOf A t)) ∙ ap (part.Read (place text r)) (sym (h t))
+  part-under f g h p a b (found t r) = a (place text r) (few (letterCount A t)) ∙ ap (part.Read (place text r)) (sym (h t))
   part-under f g h p a b (fault x r) = b x
 
-  add-either : (t : Tree) (x : Reads Tree) → add (few (lettersOf A t)) (partOf A text x) ≡ partOf A text (then x (λ u s. found (either t u) s))
-  unfolding lettersOf
+  add-either : (t : Tree) (x : Reads Tree) → add (few (letterCount A t)) (partOf A text x) ≡ partOf A text (then x (λ u s. found (either t u) s))
+  unfolding letterCount
   add-either t x =
-      part-under (either t) (λ m. few (few (lettersOf A t) + m)) (λ u. sym (few-add (lettersOf A t) (lettersOf A u))) (add (few (lettersOf A t)))
+      part-under (either t) (λ m. few (few (letterCount A t) + m)) (λ u. sym (few-add (letterCount A t) (letterCount A u))) (add (few (letterCount A t)))
       (λ e n. refl) (λ x. refl) x
 
-  add-join : (t : Tree) (x : Reads Tree) → add (few (lettersOf A t)) (partOf A text x) ≡ partOf A text (then x (λ u s. found (join t u) s))
-  unfolding lettersOf
+  add-join : (t : Tree) (x : Reads Tree) → add (few (letterCount A t)) (partOf A text x) ≡ partOf A text (then x (λ u s. found (join t u) s))
+  unfolding letterCount
   add-join t x =
-      part-under (join t) (λ m. few (few (lettersOf A t) + m)) (λ u. sym (few-add (lettersOf A t) (lettersOf A u))) (add (few (lettersOf A t)))
+      part-under (join t) (λ m. few (few (letterCount A t) + m)) (λ u. sym (few-add (letterCount A t) (letterCount A u))) (add (few (letterCount A t)))
       (λ e n. refl) (λ x. refl) x
 
   times-repeated :
-      (t : Tree) (x : Reads Count) → repeated (few (lettersOf A t)) (repeatsOf text x) ≡ partOf A text (then x (λ c s. found (times t c) s))
-  unfolding then lettersOf
-  times-repeated t (found (between n m) r) = ap (part.Read (place text r)) (few-times m (lettersOf A t))
-  times-repeated t (found (onward n) r) = ap (part.Read (place text r)) (few-times (copiesOf (onward n)) (lettersOf A t))
+      (t : Tree) (x : Reads Count) → repeated (few (letterCount A t)) (repeatsOf text x) ≡ partOf A text (then x (λ c s. found (times t c) s))
+  unfolding then letterCount
+  times-repeated t (found (between n m) r) = ap (part.Read (place text r)) (few-times m (letterCount A t))
+  times-repeated t (found (onward n) r) = ap (part.Read (place text r)) (few-times (copiesOf (onward n)) (letterCount A t))
   times-repeated t (fault x r) = refl
 
   -- The steps, with the test at hand.
@@ -107,13 +107,13 @@ module _ (A text : List ℕ) where
   closed-content :
       (d at : ℕ) (x : Reads Tree) → read A m-alternation d (drop at text) ≡ x →
       closed text (partOf A text x) ≡ partOf A text (then x (λ t s. closing (next ")" s) t s))
-  unfolding then lettersOf
+  unfolding then letterCount
   closed-content d at (fault x r) k = refl
   closed-content d at (found t r) k = by (eqb (getD text (place text r) 0) (code ")")) refl ∙ ap (λ b. partOf A text (closing b t r)) (sym test)
     where
       rests : drop (place text r) text ≡ r
       rests =
-          let f = part-found A text m-alternation d at (place text r) (few (lettersOf A t)) (sym (ap (partOf A text) k)) in
+          let f = part-found A text m-alternation d at (place text r) (few (letterCount A t)) (sym (ap (partOf A text) k)) in
           let e : found t r ≡ found (f .tree) (drop (place text r) text) = sym k ∙ f .reads in
           cc
 
@@ -122,11 +122,11 @@ module _ (A text : List ℕ) where
 
       by :
           (b : Bool) → eqb (getD text (place text r) 0) (code ")") ≡ b →
-          cond b (part.Read (place text r + 1) (few (lettersOf A t))) (part.Refused row.MisplacedSign) ≡ partOf A text (closing b t r)
+          cond b (part.Read (place text r + 1) (few (letterCount A t))) (part.Refused row.MisplacedSign) ≡ partOf A text (closing b t r)
       by true e =
           let l = byte-is text (place text r) 40 (eqb-true (getD text (place text r) 0) (code ")") e) in
           let q : rest r ≡ drop (place text r + 1) text = ap rest (sym rests) ∙ rest-at text (place text r) in
-          ap (λ i. part.Read i (few (lettersOf A t))) (sym (ap (place text) q ∙ place-drop text (place text r + 1) (omega arith)))
+          ap (λ i. part.Read i (few (letterCount A t))) (sym (ap (place text) q ∙ place-drop text (place text r + 1) (omega arith)))
       by false e = refl
 
   pub group-closed :

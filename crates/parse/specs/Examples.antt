@@ -4,7 +4,7 @@ use mathlib.Core.List.{List, [], _∷_, map}
 use Prim.Native.String.{String}
 use Rattle.refusal.specs.declared.Refusal.the-variants.{MisplacedSign, Depth, Count, Bracket, Foreign}
 use Rattle.expression.specs.Bytes.{bytes}
-use Rattle.expression.specs.Letters.{labelsOf, lettersOf}
+use Rattle.expression.specs.Letters.{labelsOf, letterCount}
 use Rattle.expression.specs.Text.{then, first-of, split, enclosed, provided}
 use Rattle.expression.specs.Sets.{closed, reserved, items, members, inside, bracket, escaped, a-set, labelled-set}
 use Rattle.expression.specs.Repetition.{number, from-on, from-to, comma, counts, sign, repetition}
@@ -25,5 +25,5 @@ tried :
     × (answers ("((((((((((((((((a))))))))))))))))" ∷ "(((((((((((((((((a)))))))))))))))))" ∷ []) ≡ Letters 1 ∷ Refused Depth ∷ [])
     × (answers ("a{0}" ∷ "a{1,256}" ∷ "[b-a]" ∷ "[c]" ∷ "c" ∷ [])
     ≡ Refused Count ∷ Refused Count ∷ Refused Bracket ∷ Refused Foreign ∷ Refused Foreign ∷ [])
-unfolding answers map checked expressionOf whole read go step grouped repetition sign counts comma from-to from-on number labelled-set a-set escaped bracket inside members items reserved closed provided enclosed split first-of then lettersOf labelsOf
+unfolding answers map checked expressionOf whole read go step grouped repetition sign counts comma from-to from-on number labelled-set a-set escaped bracket inside members items reserved closed provided enclosed split first-of then letterCount labelsOf
 tried = (refl, refl, refl, refl)

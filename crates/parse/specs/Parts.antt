@@ -13,7 +13,7 @@ use Rattle.refusal.specs.declared.Refusal.the-variants as row
 use Rattle.expression.specs.Bytes.{bytes}
 use Rattle.expression.specs.Tree.{onward, Tree}
 use Rattle.expression.specs.Text.{Reads, found, fault, one-of}
-use Rattle.expression.specs.Letters.{copiesOf, lettersOf}
+use Rattle.expression.specs.Letters.{copiesOf, letterCount}
 use Rattle.expression.specs.Sense.{few}
 use Rattle.expression.specs.Read.{Mode, ends, read}
 use Rattle.expression.specs.Says.{of-found}
@@ -66,7 +66,7 @@ module _ (A text : List ℕ) where
   pub record Found (m : Mode) (d at e n : ℕ) : Type 0 where
     pub tree : Tree
     pub reads : read A m d (drop at text) ≡ found tree (drop e text)
-    pub letters : n ≡ few (lettersOf A tree)
+    pub letters : n ≡ few (letterCount A tree)
     pub ahead : at < e
     pub within : e ≤ length text
 

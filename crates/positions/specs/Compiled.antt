@@ -8,10 +8,10 @@ use mathlib.Core.List.{List}
 use native.Mathlib.Omega.{arith}
 use lib.ListN.{length}
 use Rattle.automaton.specs.Automaton.{Accepts}
-use Rattle.automaton.specs.Form.{encode, validForm, view, alphabetOf, lettersOf as formLetters}
+use Rattle.automaton.specs.Form.{encode, validForm, view, alphabetOf, lettersOf}
 use Rattle.automaton.specs.Encode.{encode-valid, encode-accepts, letters-same, alphabet-same}
 use Rattle.expression.specs.Tree.{Tree, Words}
-use Rattle.expression.specs.Letters.{lettersOf}
+use Rattle.expression.specs.Letters.{letterCount}
 use Rattle.expression.specs.Sense.{Sensible, letters-some}
 use Rattle.positions.specs.Letters.{opened-letters}
 use Rattle.positions.specs.Numbered.{positionAutomaton, automatonOf}
@@ -20,12 +20,12 @@ use Rattle.positions.specs.Exact.{accepts-words, automaton-proper}
 abbrev pub formOf : List ℕ → Tree → List ℕ
 formOf A t = encode (length A) (automatonOf A t)
 
-pub automaton-letters : (A : List ℕ) (t : Tree) → Sensible A t → automatonOf A t .letters ≡ lettersOf A t
+pub automaton-letters : (A : List ℕ) (t : Tree) → Sensible A t → automatonOf A t .letters ≡ letterCount A t
 unfolding positionAutomaton
 automaton-letters A t o = opened-letters A t o
 
 -- an alphabet of 1 to 95 characters, and at most 127 letters
-module _ (A : List ℕ) (t : Tree) (o : Sensible A t) (low : 1 ≤ length A) (high : length A ≤ 95) (few : lettersOf A t ≤ 127) where
+module _ (A : List ℕ) (t : Tree) (o : Sensible A t) (low : 1 ≤ length A) (high : length A ≤ 95) (few : letterCount A t ≤ 127) where
   pub form-valid : validForm (formOf A t) ≡ true
   form-valid =
       encode-valid (length A) (automatonOf A t) (automaton-proper A t)
@@ -36,7 +36,7 @@ module _ (A : List ℕ) (t : Tree) (o : Sensible A t) (low : 1 ≤ length A) (hi
       alphabet-same (length A) (automatonOf A t) (automaton-proper A t)
       (omega (arith, automaton-letters A t o, letters-some A t o)) (omega (arith, automaton-letters A t o)) low high
 
-  pub form-letters : formLetters (formOf A t) ≡ lettersOf A t
+  pub form-letters : lettersOf (formOf A t) ≡ letterCount A t
   form-letters =
       letters-same (length A) (automatonOf A t) (automaton-proper A t)
       (omega (arith, automaton-letters A t o, letters-some A t o)) (omega (arith, automaton-letters A t o)) low high

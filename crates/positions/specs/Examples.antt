@@ -11,7 +11,7 @@ use Rattle.expression.specs.Tree.{range, only, except, between, onward, Tree, s
 use Rattle.positions.specs.Opened.{anyOf, copies, nested, repeated, opened, labels}
 use Rattle.automaton.specs.Form.{encode}
 use Rattle.positions.specs.Compiled.{formOf}
-use Rattle.expression.specs.Letters.{labelsOf, lettersOf}
+use Rattle.expression.specs.Letters.{labelsOf, letterCount}
 use Rattle.positions.specs.Numbered.{numbered, positionAutomaton, automatonOf}
 
 -- the labels of the letters, whether the empty word is accepted, which letters may be first, which last, and where the arcs of each lead
@@ -72,13 +72,13 @@ record Examples : Type 0 where
   nested-optionals :
       over ab (times (group (either a b)) (between 1 3))
       ≡ letters (1 ∷ 2 ∷ 1 ∷ 2 ∷ 1 ∷ 2 ∷ []) false (1 ∷ 2 ∷ []) (1 ∷ 2 ∷ 3 ∷ 4 ∷ 5 ∷ 6 ∷ []) ((3 ∷ 4 ∷ []) ∷ (3 ∷ 4 ∷ []) ∷ (5 ∷ 6 ∷ []) ∷ (5 ∷ 6 ∷ []) ∷ [] ∷ [] ∷ [])
-  counted : lettersOf ab (times (group (either a b)) (between 1 3)) ≡ 6
+  counted : letterCount ab (times (group (either a b)) (between 1 3)) ≡ 6
   -- `[^b]`, and `a` where two labels have that character
   set-labels : over abc (set (except (range (code "b") (code "b") ∷ []))) ≡ letters (1 ∷ 3 ∷ []) false (1 ∷ 2 ∷ []) (1 ∷ 2 ∷ []) ([] ∷ [] ∷ [])
   same-character : over (code "a" ∷ code "b" ∷ code "a" ∷ []) a ≡ letters (1 ∷ 3 ∷ []) false (1 ∷ 2 ∷ []) (1 ∷ 2 ∷ []) ([] ∷ [] ∷ [])
 
 examples : Examples
-unfolding opened keep numbers anyOf repeated copies nested labels numbered positionAutomaton lettersOf labelsOf encode flatMap
+unfolding opened keep numbers anyOf repeated copies nested labels numbered positionAutomaton letterCount labelsOf encode flatMap
 examples = record {
   compiled = refl;
   star-behind = refl;

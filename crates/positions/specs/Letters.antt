@@ -9,7 +9,7 @@ use lib.ListN.{length, getD, length-append}
 use Rattle.lists.specs.Among.{keep, keep-same, keeping-length}
 use Rattle.lists.specs.Ascending.{numbers, numbers-among}
 use Rattle.expression.specs.Tree.{Set, Count, between, onward, Tree, set, group, times, join, either, member}
-use Rattle.expression.specs.Letters.{labelsOf, copiesOf, lettersOf}
+use Rattle.expression.specs.Letters.{labelsOf, copiesOf, letterCount}
 use Rattle.expression.specs.OwnCounts.{InRange}
 use Rattle.expression.specs.Sense.{Sensible}
 use Rattle.positions.specs.Opened.{Opened, plus, labelsIn, anyOf, copies, nested, repeated, opened, labels, letters}
@@ -51,8 +51,8 @@ repeated-letters r (between n m) o =
 repeated-letters r (onward zero) o = omega arith
 repeated-letters r (onward (suc n)) o = let h = copies-letters r (plus r) n in omega arith
 
-pub opened-letters : (A : List ℕ) (t : Tree) → Sensible A t → letters (opened A t) ≡ lettersOf A t
-unfolding opened labels lettersOf
+pub opened-letters : (A : List ℕ) (t : Tree) → Sensible A t → letters (opened A t) ≡ letterCount A t
+unfolding opened labels letterCount
 opened-letters A (set c) o = ap length (any-of-labels (labelsIn A c)) ∙ labels-counted 1 A c
 opened-letters A (group r) o = opened-letters A r o
 opened-letters A (times r c) o = repeated-letters (opened A r) c (o .1) ∙ ap (λ k. copiesOf c * k) (opened-letters A r (o .0))

@@ -14,7 +14,7 @@ use Rattle.lists.specs.Order.{and-left, and-right}
 use Rattle.lists.specs.Each.{all, Each, all-each}
 use Rattle.lists.specs.Among.{any, keep}
 use Rattle.lists.specs.Ascending.{numbers}
-use Rattle.refusal.specs.Verdict.{Verdict, passed, refused, unless, then}
+use Rattle.refusal.specs.Verdict.{Verdict, passed, refused, unless, if-passed}
 use Rattle.ctc.specs.Collapse.{merge, without-blanks, collapse}
 use Rattle.automaton.specs.Automaton.{Accepts}
 use Rattle.automaton.specs.Form.{encode, view, alphabetOf, followOf, endsOf}
@@ -25,8 +25,8 @@ use Rattle.reading.specs.Reading.{Outcome, outcome-same}
 use Rattle.reading.specs.Choice.{not-after, preferred, better}
 use Rattle.reading.specs.Exhaustive.{over, exhaustive, usable, decided, decided-outcome}
 use Rattle.expression.specs.Bytes.{bytes}
-use Rattle.expression.specs.Letters.{labelsOf, lettersOf}
-use Rattle.expression.specs.Text.{then as behind, first-of, split, enclosed, provided}
+use Rattle.expression.specs.Letters.{labelsOf, letterCount}
+use Rattle.expression.specs.Text.{then, first-of, split, enclosed, provided}
 use Rattle.expression.specs.Sets.{closed, reserved, items, members, inside, bracket, escaped, a-set, labelled-set}
 use Rattle.expression.specs.Repetition.{number, from-on, from-to, comma, counts, sign, repetition}
 use Rattle.expression.specs.Read.{grouped, step, go, read, whole, expressionOf}
@@ -116,5 +116,5 @@ cases =
 
 -- every case is as it states
 pub cases-stated : Each Stated cases
-unfolding cases holds tried same same-list decided exhaustive over better preferred not-after usable collapse merge without-blanks spells followOf endsOf compile-call distinct then unless all any keep numbers flatMap encode labelsOf lettersOf behind first-of split enclosed provided closed reserved items members inside bracket escaped a-set labelled-set number from-on from-to comma counts sign repetition grouped step go read whole expressionOf anyOf copies nested repeated opened labels numbered positionAutomaton
+unfolding cases holds tried same same-list decided exhaustive over better preferred not-after usable collapse merge without-blanks spells followOf endsOf compile-call distinct if-passed unless all any keep numbers flatMap encode labelsOf letterCount then first-of split enclosed provided closed reserved items members inside bracket escaped a-set labelled-set number from-on from-to comma counts sign repetition grouped step go read whole expressionOf anyOf copies nested repeated opened labels numbered positionAutomaton
 cases-stated = all-each holds Stated holds-stated cases refl

@@ -11,7 +11,7 @@ use Rattle.lists.specs.Written.{written, written-none}
 use Rattle.refusal.specs.declared.Refusal.{Refusal}
 use Rattle.refusal.specs.declared.Refusal.the-variants.{NoReading}
 use Rattle.refusal.specs.declared.Checked.the-variants.{Passed, Refused}
-use Rattle.refusal.specs.Verdict.{passed, refused, first-of}
+use Rattle.refusal.specs.Verdict.{passed, refused, first-refusal}
 use Rattle.refusal.specs.Report.{Report, turned-away, filling}
 use Rattle.ctc.specs.Collapse.{collapse}
 use Rattle.ctc.specs.Spread.{spread, Shortest, spread-is-shortest}
@@ -54,7 +54,7 @@ module _ (A s : List ℕ) (M : Matrix) (form form′ : List ℕ) (before after :
 
   module _ (f : List ℕ) (compiles : compile-call A s (length form) ≡ passed f) where
     pub demand-1-matrix :
-        (n : Refusal) → first-of (matrix-checks (length A) (lettersOf f) M (rooms before)) ≡ Refused n
+        (n : Refusal) → first-refusal (matrix-checks (length A) (lettersOf f) M (rooms before)) ≡ Refused n
         → (answer ≡ turned-away n) × (after ≡ before) × (form′ ≡ written f form)
     demand-1-matrix n e =
         let h = rw e at (rw compiles at (reads .reads)) in
@@ -62,7 +62,7 @@ module _ (A s : List ℕ) (M : Matrix) (form form′ : List ℕ) (before after :
 
     -- past the checks: the form in its memory, and the work words that are not needed as they were
     pub demand-1-memory :
-        first-of (matrix-checks (length A) (lettersOf f) M (rooms before)) ≡ Passed
+        first-refusal (matrix-checks (length A) (lettersOf f) M (rooms before)) ≡ Passed
         → (form′ ≡ written f form) × (drop (needed (M .count) (lettersOf f)) (after .work) ≡ drop (needed (M .count) (lettersOf f)) (before .work))
         × (length (after .work) ≡ length (before .work))
     demand-1-memory e =
@@ -75,7 +75,7 @@ module _ (A s : List ℕ) (M : Matrix) (form form′ : List ℕ) (before after :
 
     -- Demand 3: the best reading, or none exactly where there is no rival.
     pub demand-3 :
-        first-of (matrix-checks (length A) (lettersOf f) M (rooms before)) ≡ Passed
+        first-refusal (matrix-checks (length A) (lettersOf f) M (rooms before)) ≡ Passed
         → Best-reading A s f M before after answer ⊎ No-reading A s M before after answer
     demand-3 e =
         let h : Answers (WordsOf A s) (characters A) (length f) M (needed (M .count) (lettersOf f)) before after answer = rw e at (rw compiles at (reads .reads)) in

@@ -1,5 +1,4 @@
 pub mod Promise
-pub mod Memory
 pub mod Spelling
 pub mod Steps
 pub mod Cases

@@ -5,7 +5,7 @@ use mathlib.Core.List.{List, map}
 use lib.ListN.{length, getD}
 use Rattle.lists.specs.Written.{written}
 use Rattle.refusal.specs.declared.Checked.{Checked}
-use Rattle.refusal.specs.Verdict.{Verdict, passed, refused, first-of}
+use Rattle.refusal.specs.Verdict.{Verdict, passed, refused, first-refusal}
 use Rattle.refusal.specs.Report.{Report, turned-away, filling}
 use Rattle.automaton.specs.Automaton.{Accepts}
 use Rattle.automaton.specs.Form.{view, lettersOf}
@@ -30,7 +30,7 @@ reported (answer.Refused n) = turned-away n
 -- checks with memory enough' means: no refusal but 16 applies.
 abbrev pub ReadsForm : (A s f : List ℕ) (M : Matrix) (before after : Lent) (answer : Report) → Type 0
 ReadsForm A s f M before after answer =
-    Checks (first-of (matrix-checks (length A) (lettersOf f) M (rooms before)))
+    Checks (first-refusal (matrix-checks (length A) (lettersOf f) M (rooms before)))
     (Answers (WordsOf A s) (characters A) (length f) M (needed (M .count) (lettersOf f))) before after answer
 
 -- the same by the words that the form accepts
@@ -39,7 +39,7 @@ ReadsAccepted A f M = Answers (Accepts (view f)) (characters A) (length f) M (ne
 
 abbrev pub ChecksForm : (A f : List ℕ) (M : Matrix) (before after : Lent) (answer : Report) → Type 0
 ChecksForm A f M before after answer =
-    Checks (first-of (matrix-checks (length A) (lettersOf f) M (rooms before))) (ReadsAccepted A f M) before after answer
+    Checks (first-refusal (matrix-checks (length A) (lettersOf f) M (rooms before))) (ReadsAccepted A f M) before after answer
 
 -- By what Compile makes of the alphabet and the text: its refusal with all memory as it was, or the reading.
 abbrev pub ReadsBy : Verdict (List ℕ) → (A s : List ℕ) (M : Matrix) (before after : Lent) (answer : Report) → Type 0

@@ -6,8 +6,7 @@ use native.Mathlib.Omega.{arith}
 use lib.ListN.{length, getD, take, drop, set, length-map, length-take}
 use lib.Seq.{getD-take, length-take-le}
 use Rattle.lists.specs.Each.{Each, each-at, drop-here, drop-all}
-use Rattle.reader.specs.Memory.{written-behind}
-use Rattle.lists.specs.Written.{written, Filling, filling-none, filling-more, filling-all, filling-length}
+use Rattle.lists.specs.Written.{written, Filling, filling-none, filling-more, filling-all, filling-length, written-behind}
 use Rattle.reader.specs.Promise.{characters}
 
 -- the first n elements are labels of the alphabet

@@ -6,14 +6,14 @@ use mathlib.Core.List.{List, [], _∷_, map}
 use native.Mathlib.Omega.{arith}
 use lib.ListN.{length, getD, take, length-map}
 use Rattle.lists.specs.Each.{Each, each-map}
-use Rattle.lists.specs.Written.{written, length-written}
+use Rattle.lists.specs.Written.{written, length-written, written-over, take-written, written-fits}
 use Rattle.refusal.specs.declared.Refusal.{Refusal}
 use Rattle.refusal.specs.declared.Refusal.the-variants.{Alphabet, TextLength, TextByte, MisplacedSign, Depth, Count, Bracket, Foreign, Letters}
 use Rattle.refusal.specs.declared.Refusal.the-variants.{FormMemory, BadForm, Matrix as MatrixRow, Cost, OutputMemory, Work, NoReading, Label, Sheet}
 use Rattle.refusal.specs.Number.{numberOf}
 use Rattle.refusal.specs.declared.Checked.{Checked}
 use Rattle.refusal.specs.declared.Checked.the-variants.{Passed, Refused}
-use Rattle.refusal.specs.Verdict.{Verdict, passed, refused, first-of}
+use Rattle.refusal.specs.Verdict.{Verdict, passed, refused, first-refusal}
 use Rattle.refusal.specs.Report.{Report, turned-away, counted, report, filling, Fills}
 use Rattle.ctc.specs.Collapse.{collapse, collapse-each, collapse-letters, collapse-shorter}
 use Rattle.automaton.specs.Automaton.{Accepts}
@@ -27,7 +27,6 @@ use Rattle.decode.specs.Checks.{needed, matrix-checks}
 use Rattle.decode.specs.Passing.{Fits}
 use Rattle.decode.specs.Promise.{Lent, rooms, read, outcome-report, path-of, word-of, labels, Answers, DecodeAnswers, Checks}
 use Rattle.reader.specs.Promise.{characters, ReadsAccepted, ChecksForm, Reads}
-use Rattle.reader.specs.Memory.{written-over, take-written, written-fits}
 use Rattle.reader.specs.Spelling.{Labels, Spelt}
 
 -- no row has the number 0
@@ -200,5 +199,5 @@ module _ (A s form after : List ℕ) where
           memory = c .memory ∙ sym (ap (λ v. written (filling v) form) (c .call));
           reads =
               rw (c .call)
-              (checked-words A s (c .words) M (first-of (matrix-checks (length A) (lettersOf (c .words)) M (rooms lent))) lent lent′ answer compiled-text h);
+              (checked-words A s (c .words) M (first-refusal (matrix-checks (length A) (lettersOf (c .words)) M (rooms lent))) lent lent′ answer compiled-text h);
         }

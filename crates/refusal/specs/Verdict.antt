@@ -24,9 +24,9 @@ unless (check true n ∷ cs) a = refused n
 unless (check false n ∷ cs) a = unless cs a
 
 -- going on with what passed
-unfoldable pub then : {A B : Type 0} → Verdict A → (A → Verdict B) → Verdict B
-then (passed a) f = f a
-then (refused n) f = refused n
+unfoldable pub if-passed : {A B : Type 0} → Verdict A → (A → Verdict B) → Verdict B
+if-passed (passed a) f = f a
+if-passed (refused n) f = refused n
 
 module _ {A : Type 0} (a : A) where
   pub unless-none : unless [] a ≡ passed a
@@ -49,35 +49,35 @@ module _ {A : Type 0} (a : A) where
   unless-neither s t m n e f = unless-fails s m (check t n ∷ []) e ∙ unless-fails t n [] f ∙ unless-none
 
 -- the checks alone: which of them turns the input away, if any
-unfoldable pub first-of : List Check → Checked
-first-of [] = Passed
-first-of (check true n ∷ cs) = Refused n
-first-of (check false n ∷ cs) = first-of cs
+unfoldable pub first-refusal : List Check → Checked
+first-refusal [] = Passed
+first-refusal (check true n ∷ cs) = Refused n
+first-refusal (check false n ∷ cs) = first-refusal cs
 
-pub first-holds : (t : Bool) (n : Refusal) (cs : List Check) → t ≡ true → first-of (check t n ∷ cs) ≡ Refused n
-unfolding first-of
+pub first-holds : (t : Bool) (n : Refusal) (cs : List Check) → t ≡ true → first-refusal (check t n ∷ cs) ≡ Refused n
+unfolding first-refusal
 first-holds t n cs e = rw e
 
-pub first-fails : (t : Bool) (n : Refusal) (cs : List Check) → t ≡ false → first-of (check t n ∷ cs) ≡ first-of cs
-unfolding first-of
-first-fails t n cs e = rw (e, first-of)
+pub first-fails : (t : Bool) (n : Refusal) (cs : List Check) → t ≡ false → first-refusal (check t n ∷ cs) ≡ first-refusal cs
+unfolding first-refusal
+first-fails t n cs e = rw (e, first-refusal)
 
 -- where all pass, each does
-pub first-passed : (t : Bool) (n : Refusal) (cs : List Check) → first-of (check t n ∷ cs) ≡ Passed → (t ≡ false) × (first-of cs ≡ Passed)
-unfolding first-of
+pub first-passed : (t : Bool) (n : Refusal) (cs : List Check) → first-refusal (check t n ∷ cs) ≡ Passed → (t ≡ false) × (first-refusal cs ≡ Passed)
+unfolding first-refusal
 first-passed true n cs e = let z : _≡_ {A = ℕ} 0 1 = cc in absurd (omega arith)
 first-passed false n cs e = (refl, e)
 
 -- the checks alone decide what the input gets
 module _ {A : Type 0} (a : A) where
-  pub first-refused : (n : Refusal) (cs : List Check) → first-of cs ≡ Refused n → unless cs a ≡ refused n
-  unfolding first-of unless
+  pub first-refused : (n : Refusal) (cs : List Check) → first-refusal cs ≡ Refused n → unless cs a ≡ refused n
+  unfolding first-refusal unless
   first-refused n [] e = let z : _≡_ {A = ℕ} 0 1 = cc in absurd (omega arith)
   first-refused n (check true m ∷ cs) e = let q : m ≡ n = cc in ap refused q
   first-refused n (check false m ∷ cs) e = first-refused n cs e
 
-  pub first-all : (cs : List Check) → first-of cs ≡ Passed → unless cs a ≡ passed a
-  unfolding first-of unless
+  pub first-all : (cs : List Check) → first-refusal cs ≡ Passed → unless cs a ≡ passed a
+  unfolding first-refusal unless
   first-all [] e = refl
   first-all (check true m ∷ cs) e = let z : _≡_ {A = ℕ} 0 1 = cc in absurd (omega arith)
   first-all (check false m ∷ cs) e = first-all cs e

@@ -7,7 +7,7 @@ use Prim.Native.Nat.{ℕ}
 use lib.ListN.{drop}
 use Rattle.expression.specs.Tree.{Range, Set, only, Count, between, onward, Tree, set}
 use Rattle.expression.specs.Text.{Reads, found, fault, then}
-use Rattle.expression.specs.Letters.{lettersOf}
+use Rattle.expression.specs.Letters.{letterCount}
 use Rattle.expression.specs.Sense.{few}
 use Rattle.expression.specs.Sets.{a-set, labelled-set}
 use Rattle.tokens.specs.declared.End.{End}
@@ -25,7 +25,7 @@ endOf text (fault n r) = end.Refused n
 
 -- with how many letters, up to 128
 abbrev pub partOf : List ℕ → List ℕ → Reads Tree → Part
-partOf A text (found t r) = part.Read (place text r) (few (lettersOf A t))
+partOf A text (found t r) = part.Read (place text r) (few (letterCount A t))
 partOf A text (fault n r) = part.Refused n
 
 -- the set with which a text begins, if it has a label, as a tree

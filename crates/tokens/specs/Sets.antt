@@ -15,7 +15,7 @@ use Rattle.refusal.specs.declared.Refusal.{Refusal}
 use Rattle.refusal.specs.declared.Refusal.the-variants as row
 use Rattle.expression.specs.Tree.{Set, except, Tree, set, member}
 use Rattle.expression.specs.Text.{Reads, found, fault, then, first-of}
-use Rattle.expression.specs.Letters.{labelsOf, lettersOf}
+use Rattle.expression.specs.Letters.{labelsOf, letterCount}
 use Rattle.expression.specs.Sense.{few}
 use Rattle.expression.specs.Sets.{special, alone, escaped, bracket, a-set, labelled-set}
 use Rattle.tokens.specs.declared.End.the-variants as end
@@ -218,7 +218,7 @@ module _ (A text s : List ℕ) where
         by (fault m r) h k = let z : _≡_ {A = ℕ} 0 1 = cc in absurd (omega arith)
 
     pub part-labels : (n ≡ 0 → ⊥) → part.Read e (few n) ≡ partOf A text (set-tree A s)
-    unfolding labelled-set then lettersOf
+    unfolding labelled-set then letterCount
     part-labels z = by (a-set s) h k
       where
         by : (x : Reads Set) → end.At e ≡ endOf text x → n ≡ labelsOf A (setOf x) → part.Read e (few n) ≡ partOf A text (made x)

@@ -26,20 +26,20 @@ returns-3 c =
     let a = c .before .before .before .before .before .before .args in
     sym (refused-long (now (a .alphabet)) (now (a .text)) (sym (c .before .before .before .is-alphabet .ensures) ∙ not-false _ (c .before .before .if1 .left)) (c .if3 .taken))
 
-all-between-requires : tie.Need-all-between-requires
-all-between-requires c κs = search needs
+all-in-range-requires : tie.Need-all-in-range-requires
+all-in-range-requires c κs = search needs
 
 returns-4 : tie.Need-returns-4
 returns-4 c =
     let a = c .before .before .before .before .before .before .before .before .args in
     sym (refused-byte (now (a .alphabet)) (now (a .text)) (sym (c .before .before .before .before .before .is-alphabet .ensures) ∙ not-false _ (c .before .before .before .before .if1 .left)) (c .before .before .before .if2 .left) (c .before .before .if3 .left)
-    (sym (c .before .all-between .ensures) ∙ not-true _ (c .if4 .taken)))
+    (sym (c .before .all-in-range .ensures) ∙ not-true _ (c .if4 .taken)))
 
 returns-5 : tie.Need-returns-5
 returns-5 c =
     let a = c .before .before .before .before .before .before .before .before .args in
     sym (text-passed (now (a .alphabet)) (now (a .text)) (sym (c .before .before .before .before .before .is-alphabet .ensures) ∙ not-false _ (c .before .before .before .before .if1 .left)) (c .before .before .before .if2 .left) (c .before .before .if3 .left)
-    (sym (c .before .all-between .ensures) ∙ not-false _ (c .if4 .left)))
+    (sym (c .before .all-in-range .ensures) ∙ not-false _ (c .if4 .left)))
 
 pub check-text-spec : {M : Type 1} → statement M
-check-text-spec = tie.close (tie.spec is-alphabet-requires returns returns-2 returns-3 all-between-requires returns-4 returns-5)
+check-text-spec = tie.close (tie.spec is-alphabet-requires returns returns-2 returns-3 all-in-range-requires returns-4 returns-5)

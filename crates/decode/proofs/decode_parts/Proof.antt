@@ -6,7 +6,7 @@ use borrow.Author.Needs.{needs}
 use borrow.Author.Tests.{not-true, not-false}
 use denote.Ref.{now}
 use Rattle.refusal.specs.declared.Refusal.the-variants.{BadForm}
-use Rattle.refusal.specs.Verdict.{first-of, first-holds, first-fails}
+use Rattle.refusal.specs.Verdict.{first-refusal, first-holds, first-fails}
 use Rattle.automaton.specs.Form.{validForm, alphabetOf, lettersOf}
 use Rattle.automaton.specs.Valid.{Valid, valid-at}
 use Rattle.reading.specs.Matrix.{Matrix, matrix}
@@ -29,7 +29,7 @@ returns : tie.Need-returns
 returns c =
     let s = c .before .before .before .before .before .before .before in
     let f = now (s .args .form) in
-    checks-refused (first-of (decode-checks f (costs s) (rooms (lent s)))) (DecodeAnswers f (costs s)) BadForm (lent s)
+    checks-refused (first-refusal (decode-checks f (costs s) (rooms (lent s)))) (DecodeAnswers f (costs s)) BadForm (lent s)
     (first-holds (not (validForm f)) BadForm (matrix-checks (alphabetOf f) (lettersOf f) (costs s) (rooms (lent s)))
     (ap not (sym (c .before .valid .ensures) ∙ not-true _ (c .if1 .taken))))
 
@@ -58,12 +58,12 @@ start c = c .before .before .before .before .before .before .before .before .bef
 -- what the other checks say
 told :
     (c : tie.After-check-matrix)
-    → c .check-matrix .result ≡ first-of (matrix-checks (alphabetOf (now (start c .args .form))) (lettersOf (now (start c .args .form))) (costs (start c)) (rooms (lent (start c))))
+    → c .check-matrix .result ≡ first-refusal (matrix-checks (alphabetOf (now (start c .args .form))) (lettersOf (now (start c .args .form))) (costs (start c)) (rooms (lent (start c))))
 told c =
     c .check-matrix .ensures
-    ∙ ap₂ (λ k l. first-of (matrix-checks k l (costs (start c)) (rooms (lent (start c))))) (c .before .before .alphabet .ensures) (c .before .letters .ensures)
+    ∙ ap₂ (λ k l. first-refusal (matrix-checks k l (costs (start c)) (rooms (lent (start c))))) (c .before .before .alphabet .ensures) (c .before .letters .ensures)
 
-whole : (c : tie.After-check-matrix) → first-of (decode-checks (now (start c .args .form)) (costs (start c)) (rooms (lent (start c)))) ≡ c .check-matrix .result
+whole : (c : tie.After-check-matrix) → first-refusal (decode-checks (now (start c .args .form)) (costs (start c)) (rooms (lent (start c)))) ≡ c .check-matrix .result
 whole c =
     let f = now (start c .args .form) in
     first-fails (not (validForm f)) BadForm (matrix-checks (alphabetOf f) (lettersOf f) (costs (start c)) (rooms (lent (start c)))) (ap not (sound (c .before .before .before)))
@@ -87,7 +87,7 @@ returns-2 c =
     let s = c .before .before .before .before .before .before .before .before .before .before .before .before .before in
     let f = now (s .args .form) in
     let m = c .before .before .before in
-    checks-refused (first-of (decode-checks f (costs s) (rooms (lent s)))) (DecodeAnswers f (costs s)) (c .before .r .given .0 .0) (lent s)
+    checks-refused (first-refusal (decode-checks f (costs s) (rooms (lent s)))) (DecodeAnswers f (costs s)) (c .before .r .given .0 .0) (lent s)
     (whole m ∙ c .before .r .given .1)
 
 same-length : tie.Need-same-length
@@ -105,7 +105,7 @@ returns-3 c =
     let f = now (s .args .form) in
     let m = c .before .before .before .before .before .before .before .before .before .before .before .before in
     let read = c .before .before .before .before .before .before .decode-valid in
-    checks-passed (first-of (decode-checks f (costs s) (rooms (lent s)))) (DecodeAnswers f (costs s)) (lent s) _ _
+    checks-passed (first-refusal (decode-checks f (costs s) (rooms (lent s)))) (DecodeAnswers f (costs s)) (lent s) _ _
     (whole m ∙ c .before .before .before .before .before .before .before .before .before .before .enum-told .given .1) (read .ensures)
 
 pub decode-parts-spec : {M : Type 1} → statement M

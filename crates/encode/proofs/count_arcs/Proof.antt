@@ -6,7 +6,8 @@ use native.Mathlib.Omega.{arith}
 use lib.ListN.{length}
 use denote.Ref.{now}
 use Rattle.encode.specs.Parts.{rowAt, arcsBy}
-use Rattle.encode.specs.Turns.{from, arcs-first, count-row-here, count-row-past}
+use Rattle.lists.specs.Remaining.{from}
+use Rattle.encode.specs.Turns.{arcs-first, count-row-here, count-row-past}
 use Rattle.encode.proofs.count_arcs.Statement.{statement}
 use Rattle.encode.proofs.count_arcs.Tie as tie
 

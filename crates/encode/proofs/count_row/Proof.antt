@@ -8,7 +8,8 @@ use denote.Ref.{now}
 use Rattle.lists.specs.Among.{keep}
 use Rattle.lists.specs.Ascending.{numbers}
 use Rattle.encode.specs.Arrays.{has}
-use Rattle.encode.specs.Turns.{from, from-first, count-here, count-past}
+use Rattle.lists.specs.Remaining.{from, from-first}
+use Rattle.encode.specs.Turns.{count-here, count-past}
 use Rattle.encode.proofs.count_row.Statement.{statement}
 use Rattle.encode.proofs.count_row.Tie as tie
 

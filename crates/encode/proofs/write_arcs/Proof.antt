@@ -8,7 +8,8 @@ use lib.ListN.{take}
 use denote.Ref.{now}
 use Rattle.lists.specs.Written.{Filling, filling-from, filling-stored, filling-room, filling-length, filling-stored-all}
 use Rattle.encode.specs.Parts.{rowAt, arcsBy}
-use Rattle.encode.specs.Turns.{from, arcs-first, flat-here, flat-past}
+use Rattle.lists.specs.Remaining.{from, flat-here, flat-past}
+use Rattle.encode.specs.Turns.{arcs-first}
 use Rattle.encode.proofs.write_arcs.Statement.{statement}
 use Rattle.encode.proofs.write_arcs.Tie as tie
 

@@ -11,7 +11,8 @@ use Rattle.lists.specs.Written.{Filling, filling-from, filling-stored, filling-
 use Rattle.automaton.specs.Form.{arcWord}
 use Rattle.encode.specs.Arrays.{has}
 use Rattle.encode.specs.Parts.{rowBy}
-use Rattle.encode.specs.Turns.{from, row-first, row-here, row-past}
+use Rattle.lists.specs.Remaining.{from}
+use Rattle.encode.specs.Turns.{row-first, row-here, row-past}
 use Rattle.encode.proofs.write_row.Statement.{statement}
 use Rattle.encode.proofs.write_row.Tie as tie
 

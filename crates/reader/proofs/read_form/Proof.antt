@@ -2,7 +2,7 @@
 use mathlib.Core.Path.{_≡_, sym, ap, _∙_, subst}
 use lib.ListN.{length}
 use denote.Ref.{now}
-use Rattle.refusal.specs.Verdict.{first-of}
+use Rattle.refusal.specs.Verdict.{first-refusal}
 use Rattle.automaton.specs.Form.{lettersOf}
 use Rattle.reading.specs.Matrix.{Matrix, matrix}
 use Rattle.decode.specs.Checks.{matrix-checks}
@@ -25,10 +25,10 @@ start c = c .before .before .before .before .before .before .before .before
 -- what the checks say
 told :
     (c : tie.After-check-matrix)
-    → c .check-matrix .result ≡ first-of (matrix-checks (length (now (start c .args .alphabet))) (lettersOf (now (start c .args .form))) (costs (start c)) (rooms (lent (start c))))
+    → c .check-matrix .result ≡ first-refusal (matrix-checks (length (now (start c .args .alphabet))) (lettersOf (now (start c .args .form))) (costs (start c)) (rooms (lent (start c))))
 told c =
     c .check-matrix .ensures
-    ∙ ap (λ l. first-of (matrix-checks (length (now (start c .args .alphabet))) l (costs (start c)) (rooms (lent (start c))))) (c .before .letters .ensures)
+    ∙ ap (λ l. first-refusal (matrix-checks (length (now (start c .args .alphabet))) l (costs (start c)) (rooms (lent (start c))))) (c .before .letters .ensures)
 
 letters-requires : tie.Need-letters-requires
 letters-requires c κs = search needs
@@ -60,7 +60,7 @@ returns c =
     let m = c .before .before .before in
     let A = now (s .args .alphabet) in
     let f = now (s .args .form) in
-    checks-refused (first-of (matrix-checks (length A) (lettersOf f) (costs s) (rooms (lent s)))) (ReadsAccepted A f (costs s)) (c .before .r .given .0 .0) (lent s)
+    checks-refused (first-refusal (matrix-checks (length A) (lettersOf f) (costs s) (rooms (lent s)))) (ReadsAccepted A f (costs s)) (c .before .r .given .0 .0) (lent s)
     (sym (told m) ∙ c .before .r .given .1)
 
 same-length : tie.Need-same-length
@@ -78,7 +78,7 @@ returns-2 c =
     let m = c .before .before .before .before .before .before .before .before .before .before .before .before in
     let A = now (s .args .alphabet) in
     let f = now (s .args .form) in
-    checks-passed (first-of (matrix-checks (length A) (lettersOf f) (costs s) (rooms (lent s)))) (ReadsAccepted A f (costs s)) (lent s) _ _
+    checks-passed (first-refusal (matrix-checks (length A) (lettersOf f) (costs s) (rooms (lent s)))) (ReadsAccepted A f (costs s)) (lent s) _ _
     (sym (told m) ∙ c .before .before .before .before .before .before .before .before .before .before .enum-told .given .1) (c .before .before .before .before .before .before .read-valid .ensures)
 
 pub read-form-spec : {M : Type 1} → statement M

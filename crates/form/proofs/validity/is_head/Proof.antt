@@ -3,7 +3,8 @@ use mathlib.Core.Path.{_≡_, sym, ap, ap₂, _∙_}
 use mathlib.Core.Bool.{true, _&&_}
 use lib.Dec.{eqb}
 use borrow.Author.Tests.{eq-eqb, ne-eqb, not-true, not-false}
-use Rattle.automaton.specs.Form.{headWord, byte0, byte2, bit8, within}
+use Rattle.lists.specs.Ranges.{in-range}
+use Rattle.automaton.specs.Form.{headWord, byte0, byte2, bit8}
 use Rattle.form.specs.Checks.{head-sum}
 use borrow.Author.Needs.{needs}
 use Rattle.form.proofs.validity.is_head.Statement.{statement}
@@ -27,26 +28,26 @@ add-if1-3 c = search needs
 returns : tie.Need-returns
 returns c =
     let w = c .before .args .w in
-    sym (ap (λ t. t && within 1 (byte0 w) 127 && within 1 (byte2 w) 95) (ne-eqb w (headWord (byte0 w) (bit8 w) (byte2 w)) (λ e. c .if1 .taken (e ∙ head-sum w))))
+    sym (ap (λ t. t && in-range 1 127 (byte0 w) && in-range 1 95 (byte2 w)) (ne-eqb w (headWord (byte0 w) (bit8 w) (byte2 w)) (λ e. c .if1 .taken (e ∙ head-sum w))))
 
-within-requires : tie.Need-within-requires
-within-requires c κs = search needs
+in-range-requires : tie.Need-in-range-requires
+in-range-requires c κs = search needs
 
 returns-2 : tie.Need-returns-2
 returns-2 c =
     let w = c .before .before .before .args .w in
     let same : eqb w (headWord (byte0 w) (bit8 w) (byte2 w)) ≡ true = eq-eqb w (headWord (byte0 w) (bit8 w) (byte2 w)) (c .before .before .if1 .left ∙ sym (head-sum w)) in
-    sym (ap₂ (λ s t. s && t && within 1 (byte2 w) 95) same (sym (c .before .within .ensures) ∙ not-true _ (c .if2 .taken)))
+    sym (ap₂ (λ s t. s && t && in-range 1 95 (byte2 w)) same (sym (c .before .in-range .ensures) ∙ not-true _ (c .if2 .taken)))
 
-within-requires-2 : tie.Need-within-requires-2
-within-requires-2 c κs = search needs
+in-range-requires-2 : tie.Need-in-range-requires-2
+in-range-requires-2 c κs = search needs
 
 returns-3 : tie.Need-returns-3
 returns-3 c =
     let w = c .before .before .before .before .args .w in
     let same : eqb w (headWord (byte0 w) (bit8 w) (byte2 w)) ≡ true = eq-eqb w (headWord (byte0 w) (bit8 w) (byte2 w)) (c .before .before .before .if1 .left ∙ sym (head-sum w)) in
-    c .within2 .ensures
-    ∙ sym (ap₂ (λ s t. s && t && within 1 (byte2 w) 95) same (sym (c .before .before .within .ensures) ∙ not-false _ (c .before .if2 .left)))
+    c .in-range2 .ensures
+    ∙ sym (ap₂ (λ s t. s && t && in-range 1 95 (byte2 w)) same (sym (c .before .before .in-range .ensures) ∙ not-false _ (c .before .if2 .left)))
 
 pub is-head-spec : {M : Type 1} → statement M
 is-head-spec =
@@ -58,7 +59,7 @@ is-head-spec =
     add-if1-2
     add-if1-3
     returns
-    within-requires
+    in-range-requires
     returns-2
-    within-requires-2
+    in-range-requires-2
     returns-3)

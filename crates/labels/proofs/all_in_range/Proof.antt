@@ -1,4 +1,4 @@
--- `labels::all_between` meets its contract: what is left of the list decides. Assumes nothing.
+-- `labels::all_in_range` meets its contract: what is left of the list decides. Assumes nothing.
 use Prim.Native.Nat.{_≤_, _-_}
 use mathlib.Core.Path.{_≡_, refl, sym, _∙_}
 use native.Mathlib.Omega.{arith}
@@ -6,13 +6,13 @@ use lib.ListN.{length, drop}
 use denote.Ref.{now}
 use borrow.Author.Needs.{needs}
 use borrow.Author.Tests.{not-true, not-false}
+use Rattle.lists.specs.Ranges.{in-range}
 use Rattle.lists.specs.Each.{all, all-more, all-fails, all-end}
-use Rattle.labels.specs.Calls.{between}
-use Rattle.labels.proofs.all_between.Statement.{statement}
-use Rattle.labels.proofs.all_between.Tie as tie
+use Rattle.labels.proofs.all_in_range.Statement.{statement}
+use Rattle.labels.proofs.all_in_range.Tie as tie
 
 abbrev Inv-loop : tie.InvT-loop
-Inv-loop low high list i₀ i = (i ≤ length list) × (all (between low high) (drop i list) ≡ all (between low high) list)
+Inv-loop low high list i₀ i = (i ≤ length list) × (all (in-range low high) (drop i list) ≡ all (in-range low high) list)
 
 abbrev μ-loop : tie.MeasureT-loop
 μ-loop low high list i₀ i = length list - i
@@ -26,14 +26,14 @@ shared-slice-read-wide c = omega arith
 wide-requires : tie.Need-wide-requires Inv-loop μ-loop
 wide-requires c κs = search needs
 
-is-between-requires : tie.Need-is-between-requires Inv-loop μ-loop
-is-between-requires c κs = search needs
+in-range-requires : tie.Need-in-range-requires Inv-loop μ-loop
+in-range-requires c κs = search needs
 
 returns : tie.Need-returns Inv-loop μ-loop
 returns c =
     let a = c .before .before .before .before .before .before .before .args in
     let l = c .before .before .before .before .before .loop in
-    sym (all-fails (between (a .low) (a .high)) 0 (now (a .list)) (l .i) (omega arith) (rw (c .before .before .wide .ensures) at (sym (c .before .is-between .ensures) ∙ not-true _ (c .if1 .taken))) (l .inv .1))
+    sym (all-fails (in-range (a .low) (a .high)) 0 (now (a .list)) (l .i) (omega arith) (rw (c .before .before .wide .ensures) at (sym (c .before .in-range .ensures) ∙ not-true _ (c .if1 .taken))) (l .inv .1))
 
 add-i : tie.Need-add-i Inv-loop μ-loop
 add-i c = omega arith
@@ -45,15 +45,15 @@ loop-again : tie.Need-loop-again Inv-loop μ-loop
 loop-again c =
     let a = c .before .before .before .before .before .before .before .args in
     let l = c .before .before .before .before .before .loop in
-    (omega arith, all-more (between (a .low) (a .high)) 0 (now (a .list)) (l .i) (omega arith) (rw (c .before .before .wide .ensures) at (sym (c .before .is-between .ensures) ∙ not-false _ (c .if1 .left))) (l .inv .1))
+    (omega arith, all-more (in-range (a .low) (a .high)) 0 (now (a .list)) (l .i) (omega arith) (rw (c .before .before .wide .ensures) at (sym (c .before .in-range .ensures) ∙ not-false _ (c .if1 .left))) (l .inv .1))
 
 returns-2 : tie.Need-returns-2 Inv-loop μ-loop
 returns-2 c =
     let a = c .before .before .before .args in
     let l = c .before .loop in
-    sym (all-end (between (a .low) (a .high)) (now (a .list)) (l .i) (omega arith) (l .inv .1))
+    sym (all-end (in-range (a .low) (a .high)) (now (a .list)) (l .i) (omega arith) (l .inv .1))
 
-pub all-between-spec : {M : Type 1} → statement M
-all-between-spec =
+pub all-in-range-spec : {M : Type 1} → statement M
+all-in-range-spec =
     tie.close
-    (tie.spec Inv-loop μ-loop loop-holds shared-slice-read-wide wide-requires is-between-requires returns add-i loop-less loop-again returns-2)
+    (tie.spec Inv-loop μ-loop loop-holds shared-slice-read-wide wide-requires in-range-requires returns add-i loop-less loop-again returns-2)
