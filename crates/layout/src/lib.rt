@@ -46,12 +46,7 @@ pub fn answer(
     work: &mut [u32],
     out: &mut [u8],
 ) -> usize
-    requires { ⌜ 16384 ≤ length (now costs) ⌝ }
-    requires { ⌜ length (now form) ≡ 16384 ⌝ }
-    requires { ⌜ length (now path) ≡ 255 ⌝ }
-    requires { ⌜ length (now word) ≡ 255 ⌝ }
-    requires { ⌜ length (now work) ≡ 16384 ⌝ }
-    requires { ⌜ 1300 ≤ length (now out) ⌝ }
+    requires { ⌜ (16384 ≤ length (now costs)) × Sized (now form) (record { path = now path; word = now word; work = now work }) × (1300 ≤ length (now out)) ⌝ }
     ensures { λ r. ⌜ Answers (Prints (now (input .entry))) (now (out .entry)) (now (out .exit)) r ⌝ }
 {
     let Scanned::Sheet {
