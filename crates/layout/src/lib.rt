@@ -7,8 +7,7 @@ ghost use Prim.Native.Nat.{_≤_};
 ghost use lib.ListN.{length};
 ghost use Rattle.reading.specs.Matrix.{matrix};
 ghost use Rattle.layout.specs.Answer.{PrintsReading, Prints};
-ghost use Rattle.layout.specs.Promise.{Answers};
-ghost use Rattle.layout.specs.Steps.{Sized};
+ghost use Rattle.layout.specs.Promise.{Sized, Answers};
 
 // Reads an alphabet, a text and a matrix, and prints what Read answers; the number of bytes.
 fn answer_reading(
