@@ -1,6 +1,6 @@
 -- The digits at a place of a sheet, and the cost that they make with what stands behind them. Assumes nothing.
 use mathlib.Core.Path.{_≡_, refl, sym, ap, ap₂, _∙_}
-use mathlib.Core.Option.{Option, some, none}
+use mathlib.Core.Option.{some, none}
 use mathlib.Core.List.{List, [], _∷_, _++_, append-assoc, append-nil}
 use mathlib.Core.Bool.{Bool, true, false, not, _&&_, _||_, and-false}
 use mathlib.Core.Logic.{_⊎_, inl, inr, ⊎-elim}
@@ -11,8 +11,8 @@ use native.Mathlib.Nat.{pow-suc, pow-le-pow-right}
 use lib.ListN.{length, getD, drop, length-append}
 use lib.Seq.{getD-take, getD-drop}
 use lib.Dec.{eqb, leb, lit<}
-use borrow.Author.Tests.{leb-true, le-leb, lt-leb, eqb-true, eqb-false, eq-eqb, ne-eqb}
-use Rattle.lists.specs.Each.{Each, each-append, each-map, drop-here, drop-all}
+use borrow.Author.Tests.{leb-true, le-leb, lt-leb, eqb-true, eqb-false}
+use Rattle.lists.specs.Each.{each-append, drop-here, drop-all}
 use Rattle.lists.specs.Order.{and-left, and-right, and-both, or-either, or-neither, true-or-false, not-both, lt-or-le, eq-or-ne}
 use Rattle.expression.specs.Text.{provided}
 use Rattle.expression.specs.Repetition.{digits, value}
@@ -37,7 +37,8 @@ padded n b = leb 2 n && eqb b (code "0")
 
 digits-snoc : (p : List ℕ) (b : ℕ) → digits p ≡ true → digit b ≡ true → digits (p ++ (b ∷ [])) ≡ true
 digits-snoc [] b h d = rw d
-digits-snoc (a ∷ p) b h d = and-both (digit a) (digits (p ++ (b ∷ []))) (and-left (digit a) (digits p) h) (digits-snoc p b (and-right (digit a) (digits p) h) d)
+digits-snoc (a ∷ p) b h d =
+    and-both (digit a) (digits (p ++ (b ∷ []))) (and-left (digit a) (digits p) h) (digits-snoc p b (and-right (digit a) (digits p) h) d)
 
 digits-spoilt : (p : List ℕ) (b : ℕ) (t : List ℕ) → digit b ≡ false → digits (p ++ (b ∷ t)) ≡ false
 digits-spoilt [] b t d = rw d
@@ -120,7 +121,8 @@ module _ (input : List ℕ) (at : ℕ) where
         let s = h .small in
         omega arith
 
-    pub begun-more : i < length input → i < at + 7 → digit (getD input i 0) ≡ true → Begun input at (i + 1) (10 * v + (getD input i 0 - 48))
+    pub begun-more :
+        i < length input → i < at + 7 → digit (getD input i 0) ≡ true → Begun input at (i + 1) (10 * v + (getD input i 0 - 48))
     begun-more l k d =
         let f = h .from in
         let more = part-more input at i f l in
@@ -200,12 +202,15 @@ module _ (input : List ℕ) (at e v : ℕ) (h : Digits input at e v) where
         let s = or-neither (eqb b 32) (eqb b 10) q in
         let n = size in
         let k = length-append p (b ∷ []) in
-        let snoc : (c : ℕ) → c < 48 → (b ≡ c → ⊥) → Free c (p ++ (b ∷ [])) = λ c j g. each-append (λ a. a ≡ c → ⊥) p (b ∷ []) (free c j) (g, tt) in
         no-column (drop at input)
         (ap rows (behind ∙ sym (append-assoc p (b ∷ []) (drop (e + 1) input)))
-        ∙ rows-unread (p ++ (b ∷ [])) (drop (e + 1) input) (omega arith) (snoc 10 (omega arith) (eqb-false b 10 (s .1))) (snoc 32 (omega arith) (eqb-false b 32 (s .0)))
+        ∙ rows-unread (p ++ (b ∷ [])) (drop (e + 1) input) (omega arith) (snoc 10 (omega arith) (eqb-false b 10 (s .1)))
+        (snoc 32 (omega arith) (eqb-false b 32 (s .0)))
         (λ t. ap costOf (append-assoc p (b ∷ []) t) ∙ ⊎-elim (λ d. too-long t d) (λ d. cost-spoilt p b t d) (true-or-false (digit b))))
       where
+        snoc : (c : ℕ) → c < 48 → (b ≡ c → ⊥) → Free c (p ++ (b ∷ []))
+        snoc c j g = each-append (λ a. a ≡ c → ⊥) p (b ∷ []) (free c j) (g, tt)
+
         too-long : (t : List ℕ) → digit b ≡ true → costOf (p ++ (b ∷ t)) ≡ none
         too-long t d =
             let seven : at + 7 ≤ e = ⊎-elim (λ k. absurd (not-both (digit b) d (h .stops l k))) (λ k. k) (lt-or-le e (at + 7)) in

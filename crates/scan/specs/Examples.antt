@@ -2,14 +2,13 @@
 use mathlib.Core.Path.{_≡_, refl}
 use mathlib.Core.Option.{Option, some, none}
 use mathlib.Core.List.{List, [], _∷_, _++_, map, flatten}
-use mathlib.Core.Bool.{Bool, true, false, not}
+use mathlib.Core.Bool.{Bool, true, false}
 use Prim.Native.Nat.{ℕ, zero, suc}
-use Prim.Native.String.{String}
-use lib.ListN.{length, replicate}
+use lib.ListN.{replicate}
 use Rattle.lists.specs.Each.{all}
 use Rattle.expression.specs.Bytes.{bytes}
 use Rattle.expression.specs.Text.{provided}
-use Rattle.reading.specs.Matrix.{Matrix, matrix}
+use Rattle.reading.specs.Matrix.{matrix}
 use Rattle.scan.specs.Sheet.{
   onto,
   pieces,
@@ -61,7 +60,9 @@ unfolding sheetOf sheetFrom laid flatten columnOf costOf closed every both piece
 empty-lines = refl
 
 -- the costs that texts are
-costs : map costOf (map bytes ("0" ∷ ("7" ∷ ("10" ∷ ("1000000" ∷ ("9999999" ∷ [])))))) ≡ some 0 ∷ (some 7 ∷ (some 10 ∷ (some 1000000 ∷ (some 9999999 ∷ []))))
+costs :
+    map (λ s. costOf (bytes s)) ("0" ∷ ("7" ∷ ("10" ∷ ("1000000" ∷ ("9999999" ∷ [])))))
+    ≡ some 0 ∷ (some 7 ∷ (some 10 ∷ (some 1000000 ∷ (some 9999999 ∷ []))))
 unfolding costOf provided
 costs = refl
 

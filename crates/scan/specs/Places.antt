@@ -1,12 +1,11 @@
 -- The part of an input from one place up to another, and where a line ends. Assumes nothing.
-use mathlib.Core.Path.{_≡_, refl, sym, ap, _∙_}
+use mathlib.Core.Path.{_≡_, sym, ap, _∙_}
 use mathlib.Core.List.{List, [], _∷_, _++_}
 use Prim.Native.Nat.{ℕ, suc, _+_, _-_, _<_, _≤_}
 use native.Mathlib.Omega.{arith}
-use native.Mathlib.Numerals.{add-one}
 use lib.ListN.{length, getD, take, drop, take-append-drop, length-drop}
 use lib.Seq.{take-suc, drop-drop, getD-drop, length-take-le}
-use Rattle.lists.specs.Each.{Each, each-append}
+use Rattle.lists.specs.Each.{each-append}
 use Rattle.scan.specs.Rows.{Free}
 
 abbrev pub part : ℕ → ℕ → List ℕ → List ℕ
@@ -21,7 +20,9 @@ module _ (input : List ℕ) (at i : ℕ) (from : at ≤ i) where
 
   -- the rest behind the part
   pub part-rest : drop at input ≡ part at i input ++ drop i input
-  part-rest = sym (take-append-drop (i - at) (drop at input)) ∙ ap (λ r. part at i input ++ r) (drop-drop (i - at) at input ∙ ap (λ k. drop k input) back)
+  part-rest =
+      sym (take-append-drop (i - at) (drop at input))
+      ∙ ap (λ r. part at i input ++ r) (drop-drop (i - at) at input ∙ ap (λ k. drop k input) back)
 
   -- one byte more
   pub part-more : i < length input → part at (i + 1) input ≡ part at i input ++ (getD input i 0 ∷ [])

@@ -1,11 +1,11 @@
 -- The columns that the rest of a sheet holds, from any place on: what the rest's first line or first number makes of them.
 -- Assumes nothing.
-use mathlib.Core.Path.{_≡_, refl, sym, ap, ap₂, _∙_}
+use mathlib.Core.Path.{_≡_, refl, sym, ap, _∙_}
 use mathlib.Core.Option.{Option, some, none}
 use mathlib.Core.List.{List, [], _∷_, _++_, append-assoc, append-nil}
 use mathlib.Core.Bool.{Bool, true, false, cond}
 use mathlib.Core.Logic.{_⊎_, inl, inr, ⊎-elim}
-use Prim.Native.Nat.{ℕ, _+_, _<_, _≤_}
+use Prim.Native.Nat.{ℕ, _+_, _<_}
 use native.Mathlib.Omega.{arith}
 use lib.ListN.{length}
 use lib.Dec.{eqb}
@@ -20,6 +20,7 @@ Free c p = Each (λ b. b ≡ c → ⊥) p
 
 -- Pieces.
 
+-- every text has a first piece
 record Some (c : ℕ) (s : List ℕ) : Type 0 where
   first : List ℕ
   others : List (List ℕ)
@@ -248,9 +249,10 @@ put-none b o = by (eqb b 10)
     by true = refl
     by false = refl
 
-pub rows-put : (p : List ℕ) (b : ℕ) (s : List ℕ) → Free 10 p → Free 32 p → (b ≡ 32) ⊎ (b ≡ 10) → rows (p ++ (b ∷ s)) ≡ put (costOf p) b (rows s)
-rows-put p b s f g (inl e) = rw (e) (rows-space p s f g)
-rows-put p b s f g (inr e) = rw (e) (rows-line p s f ∙ ap (λ c. both c (rows s)) (column-one p g))
+pub rows-put :
+    (p : List ℕ) (b : ℕ) (s : List ℕ) → Free 10 p → Free 32 p → (b ≡ 32) ⊎ (b ≡ 10) → rows (p ++ (b ∷ s)) ≡ put (costOf p) b (rows s)
+rows-put p b s f g (inl e) = rw e (rows-space p s f g)
+rows-put p b s f g (inr e) = rw e (rows-line p s f ∙ ap (λ c. both c (rows s)) (column-one p g))
 
 -- a rest that is not empty has a column, or none are read
 both-some : {A : Type 0} (x : Option A) (o : Option (List A)) → both x o ≡ some [] → ⊥
@@ -262,7 +264,9 @@ both-some (some a) (some bs) e = let z : _≡_ {A = ℕ} 0 1 = cc in omega arith
 pub rows-some : (s : List ℕ) → 0 < length s → rows s ≡ some [] → ⊥
 unfolding columnsOf longer every
 rows-some [] l e = absurd (omega arith)
-rows-some (b ∷ s) l e = ⊎-elim (λ q. both-some (columnOf []) (rows s) (sym (line q) ∙ e)) (λ q. by (linesOf s) (sym (ap columnsOf (lines-longer b [] s (q, tt))) ∙ e)) (eq-or-ne b 10)
+rows-some (b ∷ s) l e =
+    ⊎-elim (λ q. both-some (columnOf []) (rows s) (sym (line q) ∙ e))
+    (λ q. by (linesOf s) (sym (ap columnsOf (lines-longer b [] s (q, tt))) ∙ e)) (eq-or-ne b 10)
   where
     line : b ≡ 10 → rows (b ∷ s) ≡ both (columnOf []) (rows s)
     line q = ap (λ a. rows (a ∷ s)) q ∙ rows-line [] s tt

@@ -2,9 +2,9 @@
 -- input holds from a place on, and of the memory from a place on. Assumes nothing.
 use mathlib.Core.Path.{_≡_, refl, sym, ap, _∙_}
 use mathlib.Core.Option.{Option, some, none}
-use mathlib.Core.List.{List, [], _∷_, _++_, flatten}
-use mathlib.Core.Bool.{Bool, true, false, cond, _&&_}
-use Prim.Native.Nat.{ℕ, suc, _+_, _-_, _<_, _≤_}
+use mathlib.Core.List.{List, [], _∷_, flatten}
+use mathlib.Core.Bool.{Bool, true, false, cond}
+use Prim.Native.Nat.{ℕ, _+_, _-_, _<_, _≤_}
 use native.Mathlib.Omega.{arith}
 use native.Mathlib.Numerals.{add-one}
 use lib.ListN.{length, getD, drop, set, length-append, length-drop}
@@ -37,7 +37,8 @@ pub record OneColumn (input : List ℕ) (at m : ℕ) (before after : List ℕ) (
 
 abbrev pub StoredColumn : List ℕ → ℕ → ℕ → List ℕ → List ℕ → Column → Type 0
 StoredColumn input at m before after (column.Ends e f) = OneColumn input at m before after e f
-StoredColumn input at m before after column.Bad = (c : List ℕ) (cs : List (List ℕ)) → rows (drop at input) ≡ some (c ∷ cs) → 16384 < m + length c
+StoredColumn input at m before after column.Bad =
+    (c : List ℕ) (cs : List (List ℕ)) → rows (drop at input) ≡ some (c ∷ cs) → 16384 < m + length c
 
 beside-some : (v : ℕ) (c : List ℕ) (o : Option (List (List ℕ))) → beside (some v) (both (some c) o) ≡ both (some (v ∷ c)) o
 unfolding beside both
@@ -65,7 +66,8 @@ put-some :
 unfolding both beside
 put-some v b o c cs = by (eqb b 10) o
   where
-    by : (t : Bool) (o : Option (List (List ℕ))) → cond t (both (both (some v) (some [])) o) (beside (some v) o) ≡ some (c ∷ cs) → 0 < length c
+    by :
+        (t : Bool) (o : Option (List (List ℕ))) → cond t (both (both (some v) (some [])) o) (beside (some v) o) ≡ some (c ∷ cs) → 0 < length c
     by true none e = let z : _≡_ {A = ℕ} 0 1 = cc in absurd (omega arith)
     by true (some ds) e = let q : c ≡ v ∷ [] = cc in let l = ap length q in omega arith
     by false none e = let z : _≡_ {A = ℕ} 0 1 = cc in absurd (omega arith)
@@ -138,7 +140,8 @@ pub record SomeColumns (w : ℕ) (input : List ℕ) (at m n : ℕ) (before after
 
 abbrev pub StoredColumns : ℕ → List ℕ → ℕ → ℕ → ℕ → List ℕ → List ℕ → Columns → Type 0
 StoredColumns w input at m n before after (columns.Count count) = SomeColumns w input at m n before after count
-StoredColumns w input at m n before after columns.Bad = (cs : List (List ℕ)) → rows (drop at input) ≡ some cs → wide w cs ≡ true → 16384 < m + length (flatten cs)
+StoredColumns w input at m n before after columns.Bad =
+    (cs : List (List ℕ)) → rows (drop at input) ≡ some cs → wide w cs ≡ true → 16384 < m + length (flatten cs)
 
 -- the columns are those behind the first, and it
 pub both-back :
@@ -165,7 +168,9 @@ module _ (w : ℕ) (input : List ℕ) (at m n : ℕ) (before : List ℕ) where
         room = omega arith;
       }
 
-  pub columns-bad : (middle after : List ℕ) → at < length input → StoredColumn input at m before middle column.Bad → StoredColumns w input at m n before after columns.Bad
+  pub columns-bad :
+      (middle after : List ℕ) → at < length input → StoredColumn input at m before middle column.Bad
+      → StoredColumns w input at m n before after columns.Bad
   columns-bad middle after l h [] e q = absurd (rows-some (drop at input) (let k = length-drop at input in omega arith) e)
   columns-bad middle after l h (c ∷ cs) e q = let k = h c cs e in let s = flatten-more c (c ∷ cs) cs refl in omega arith
 

@@ -1,25 +1,23 @@
 -- The sheet that an input is, by the ends of its first two lines and the columns behind them: a lemma for each return of `scan`.
 -- Assumes nothing.
-use mathlib.Core.Path.{_≡_, refl, sym, ap, ap₂, _∙_}
+use mathlib.Core.Path.{_≡_, refl, sym, ap, _∙_}
 use mathlib.Core.Option.{Option, some, none}
 use mathlib.Core.List.{List, [], _∷_, _++_, append-nil}
-use mathlib.Core.Bool.{Bool, true, false}
+use mathlib.Core.Bool.{true}
 use mathlib.Core.Logic.{_⊎_, inl, inr, ⊎-elim}
 use Prim.Native.Nat.{ℕ, _+_, _-_, _<_, _≤_}
 use native.Mathlib.Omega.{arith}
-use lib.ListN.{length, getD, drop}
-use lib.Dec.{leb}
+use lib.ListN.{length, drop}
 use borrow.Author.Tests.{le-leb, lt-leb}
 use Rattle.lists.specs.Each.{drop-here, drop-all}
 use Rattle.lists.specs.Order.{eq-or-ne, true-or-false}
 use Rattle.lists.specs.Written.{written}
 use Rattle.expression.specs.Text.{provided}
-use Rattle.scan.specs.Sheet.{both, every, linesOf, columnOf, Sheet, laid, sheetFrom, sheetOf, widthOr, matrixOf}
-use Rattle.scan.specs.Rows.{Free, lines-end, lines-open, lines-none, columnsOf, rows}
+use Rattle.scan.specs.Sheet.{both, linesOf, Sheet, fitting, laid, sheetFrom, sheetOf, widthOr, matrixOf}
+use Rattle.scan.specs.Rows.{lines-end, lines-open, lines-none, columnsOf, rows}
 use Rattle.scan.specs.Places.{part, part-length, part-rest, LineEnd}
-use Rattle.scan.specs.Matrices.{fitting, StoredMatrix}
+use Rattle.scan.specs.Matrices.{StoredMatrix}
 use Rattle.scan.specs.Answers.{answerOf, Scans}
-use Rattle.scan.specs.declared.Scanned.{Scanned}
 use Rattle.scan.specs.declared.Scanned.the-variants as scanned
 use Rattle.scan.specs.declared.Body.the-variants as body
 
@@ -41,7 +39,8 @@ module _ (input : List ℕ) (at e : ℕ) (h : LineEnd input at e) where
       open-line q =
           let f = h .from in
           let n = part-length input at e f (h .within) in
-          let d : drop at input ≡ part at e input = part-rest input at e f ∙ ap (λ r. part at e input ++ r) (drop-all input e (omega arith)) ∙ append-nil (part at e input) in
+          let d : drop at input ≡ part at e input =
+          part-rest input at e f ∙ ap (λ r. part at e input ++ r) (drop-all input e (omega arith)) ∙ append-nil (part at e input) in
           ap linesOf d ∙ lines-open (part at e input) (omega arith) (h .line)
 
 -- No sheet.
@@ -86,7 +85,8 @@ module _ (input : List ℕ) (l : length input ≤ 65535) where
         where
           by :
               (o : Option (List (List ℕ)))
-              → sheetFrom (both (some (part 0 a input)) (both (some (part (a + 1) e input)) o)) ≡ laid (part 0 a input) (part (a + 1) e input) (columnsOf o)
+              → sheetFrom (both (some (part 0 a input)) (both (some (part (a + 1) e input)) o))
+              ≡ laid (part 0 a input) (part (a + 1) e input) (columnsOf o)
           by none = refl
           by (some ls) = refl
 

@@ -22,7 +22,8 @@ shared-slice-read-if1 c = omega arith
 returns : tie.Need-returns Inv-loop μ-loop
 returns c =
     let at-loop = c .before .before .before in
-    newline-here (now (at-loop .before .args .input)) (at-loop .before .args .at) (at-loop .loop .i) (at-loop .loop .inv) (c .before .before .loop-test .taken) (c .if1 .taken)
+    let a = at-loop .before .args in
+    newline-here (now (a .input)) (a .at) (at-loop .loop .i) (at-loop .loop .inv) (c .before .before .loop-test .taken) (c .if1 .taken)
 
 add-i : tie.Need-add-i Inv-loop μ-loop
 add-i c = omega arith
@@ -33,12 +34,14 @@ loop-less c = omega arith
 loop-again : tie.Need-loop-again Inv-loop μ-loop
 loop-again c =
     let at-loop = c .before .before .before in
-    newline-more (now (at-loop .before .args .input)) (at-loop .before .args .at) (at-loop .loop .i) (at-loop .loop .inv) (c .before .before .loop-test .taken) (c .if1 .left)
+    let a = at-loop .before .args in
+    newline-more (now (a .input)) (a .at) (at-loop .loop .i) (at-loop .loop .inv) (c .before .before .loop-test .taken) (c .if1 .left)
 
 returns-2 : tie.Need-returns-2 Inv-loop μ-loop
 returns-2 c =
     let at-loop = c .before in
-    newline-end (now (at-loop .before .args .input)) (at-loop .before .args .at) (at-loop .loop .i) (at-loop .loop .inv) (c .loop-test .left)
+    let a = at-loop .before .args in
+    newline-end (now (a .input)) (a .at) (at-loop .loop .i) (at-loop .loop .inv) (c .loop-test .left)
 
 pub line-end-spec : {M : Type 1} → statement M
 line-end-spec = tie.close (tie.spec Inv-loop μ-loop loop-holds shared-slice-read-if1 returns add-i loop-less loop-again returns-2)

@@ -42,11 +42,19 @@ returns-2 c =
     digits-seven (now (a .input)) (a .at) (at-loop .loop .i) (at-loop .loop .v) (at-loop .loop .inv) (c .if2 .taken)
 
 -- the byte that is read is a digit, and fewer than seven stand in front of it
-is-one : (c : tie.Else1 Inv-loop μ-loop) → digit (getD (now (c .before .before .before .before .before .before .args .input)) (c .before .before .before .before .loop .i) 0) ≡ true
+is-one :
+    (c : tie.Else1 Inv-loop μ-loop)
+    → digit (getD (now (c .before .before .before .before .before .before .args .input)) (c .before .before .before .before .loop .i) 0) ≡ true
 is-one c = sym (c .before .is-digit .ensures) ∙ not-false _ (c .if1 .left)
 
-few : (c : tie.Else2 Inv-loop μ-loop) → c .before .before .before .before .before .loop .i < c .before .before .before .before .before .before .before .args .at + 7
-few c = let h = c .before .before .before .before .before .loop .inv .few in let f = c .before .before .before .before .before .loop .inv .from in omega arith
+few :
+    (c : tie.Else2 Inv-loop μ-loop)
+    → c .before .before .before .before .before .loop .i < c .before .before .before .before .before .before .before .args .at + 7
+few c =
+    let l = c .before .before .before .before .before .loop in
+    let h = l .inv .few in
+    let f = l .inv .from in
+    omega arith
 
 small : (c : tie.Else2 Inv-loop μ-loop) → c .before .before .before .before .before .loop .v < 1000000
 small c =
@@ -83,8 +91,8 @@ loop-again c =
     let at-loop = c .before .before .before .before .before .before in
     let a = at-loop .before .before .args in
     rw (c .wide .ensures)
-    (begun-more (now (a .input)) (a .at) (at-loop .loop .i) (at-loop .loop .v) (at-loop .loop .inv) (c .before .before .before .before .before .loop-test .taken)
-    (few (c .before)) (is-one (c .before .before)))
+    (begun-more (now (a .input)) (a .at) (at-loop .loop .i) (at-loop .loop .v) (at-loop .loop .inv)
+    (c .before .before .before .before .before .loop-test .taken) (few (c .before)) (is-one (c .before .before)))
 
 returns-3 : tie.Need-returns-3 Inv-loop μ-loop
 returns-3 c =

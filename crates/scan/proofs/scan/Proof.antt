@@ -1,5 +1,5 @@
 -- `scan::scan` meets its contract, a lemma for each return. Assumes nothing.
-use mathlib.Core.Path.{_≡_, refl, subst}
+use mathlib.Core.Path.{refl, subst}
 use native.Mathlib.Omega.{arith}
 use borrow.Author.Needs.{needs}
 use denote.Ref.{now}
@@ -37,7 +37,8 @@ returns-3 c =
     let second = c .before .line-end2 in
     scans-bad (now (a .input)) (now (a .costs)) (now (a .costs))
     (sheet-one-line (now (a .input)) (c .before .before .before .before .if1 .left) (first .result) (first .ensures)
-    (let w = first .ensures .within in let d = c .before .before .if2 .left in omega arith) (second .result) (second .ensures) (c .if3 .taken)) refl
+    (let w = first .ensures .within in let d = c .before .before .if2 .left in omega arith) (second .result) (second .ensures) (c .if3 .taken))
+    refl
 
 add-store-matrix : tie.Need-add-store-matrix
 add-store-matrix c = search needs
@@ -65,7 +66,8 @@ returns-4 c =
     (sheet-unfit (now (a .input)) (third .before .before .before .before .if1 .left) (first .result) (first .ensures)
     (let w = first .ensures .within in let d = third .before .before .if2 .left in omega arith) (second .result) (second .ensures)
     (let w = second .ensures .within in let d = third .if3 .left in omega arith) (now (a .costs)) (s .last .1 .1 .0)
-    (subst (StoredMatrix (first .result + 1) (now (a .input)) (second .result + 1) (now (a .costs)) (s .last .1 .1 .0)) (c .enum-told .given .1) (s .ensures)))
+    (subst (StoredMatrix (first .result + 1) (now (a .input)) (second .result + 1) (now (a .costs)) (s .last .1 .1 .0)) (c .enum-told .given .1)
+    (s .ensures)))
     (s .kept .1 .1 .0)
 
 sub-t8 : tie.Need-sub-t8

@@ -48,10 +48,11 @@ returns c =
 -- the cost that was read
 cost :
     (c : tie.After-v Inv-loop μ-loop)
-    → ReadCost (now (c .before .before .before .before .before .before .args .input)) (c .before .before .before .loop .i) (Is (c .v .given .0 .0) (c .v .given .0 .1 .0))
+    → ReadCost (now (c .before .before .before .before .before .before .args .input)) (c .before .before .before .loop .i)
+    (Is (c .v .given .0 .0) (c .v .given .0 .1 .0))
 cost c =
-    subst (ReadCost (now (c .before .before .before .before .before .before .args .input)) (c .before .before .before .loop .i)) (c .v .given .1)
-    (c .before .before .read-cost .ensures)
+    let input = now (c .before .before .before .before .before .before .args .input) in
+    subst (ReadCost input (c .before .before .before .loop .i)) (c .v .given .1) (c .before .before .read-cost .ensures)
 
 same-length-2 : tie.Need-same-length-2 Inv-loop μ-loop
 same-length-2 c = c .before .before .before .before .before .loop .inv .2
@@ -61,7 +62,8 @@ returns-2 c =
     let l = c .before .before .before .before .before .loop in
     let input = now (c .before .before .before .before .before .before .before .before .args .input) in
     let v = c .before .before .v .given in
-    l .inv .3 (l .costs) Bad (column-full input (l .i) (l .n) (l .costs) (v .0 .0) (v .0 .1 .0) (cost (c .before .before)) (l .costs) (c .if1 .taken))
+    l .inv .3 (l .costs) Bad
+    (column-full input (l .i) (l .n) (l .costs) (v .0 .0) (v .0 .1 .0) (cost (c .before .before)) (l .costs) (c .if1 .taken))
 
 mul-costs : tie.Need-mul-costs Inv-loop μ-loop
 mul-costs c = omega arith
@@ -95,7 +97,8 @@ returns-3 c =
     let below = l .inv .1 in
     let more = c .before .before .if1 .left in
     l .inv .3 (set (l .costs) (l .n) (v .0 .0)) (Ends (v .0 .1 .0 + 1) (l .n + 1))
-    (column-last input (l .i) (l .n) (l .costs) (v .0 .0) (v .0 .1 .0) (cost (c .before .before .before .before)) (omega arith) (c .if2 .taken))
+    (column-last input (l .i) (l .n) (l .costs) (v .0 .0) (v .0 .1 .0) (cost (c .before .before .before .before)) (omega arith)
+    (c .if2 .taken))
 
 loop-less : tie.Need-loop-less Inv-loop μ-loop
 loop-less c = let h = cost (c .before .before .before .before) .0 in let k = cost (c .before .before .before .before) .1 in omega arith

@@ -39,7 +39,8 @@ enum-told : tie.Need-enum-told Inv-loop μ-loop
 enum-told c = search needs
 
 same-length : tie.Need-same-length Inv-loop μ-loop
-same-length c = c .before .before .before .before .store-column .kept .1 .1 .0 ∙ c .before .before .before .before .before .before .before .loop .inv .3
+same-length c =
+    c .before .before .before .before .store-column .kept .1 .1 .0 ∙ c .before .before .before .before .before .before .before .loop .inv .3
 
 returns : tie.Need-returns Inv-loop μ-loop
 returns c =
@@ -83,10 +84,15 @@ returns-2 c =
     let after = e .before .before .before .before .store-column .last .1 .1 .0 in
     let g = e .end .given .0 in
     l .inv .4 after Bad
-    (columns-unequal (start .args .width) (now (start .args .input)) (l .i) (l .m) (l .n) (l .costs) after (g .0) (g .1 .0) (column e) after (c .if1 .taken))
+    (columns-unequal (start .args .width) (now (start .args .input)) (l .i) (l .m) (l .n) (l .costs) after (g .0) (g .1 .0) (column e) after
+    (c .if1 .taken))
 
 add-n : tie.Need-add-n Inv-loop μ-loop
-add-n c = let l = c .before .before .before .before .before .before .before .before .before .loop in let h = l .inv .2 in let k = l .inv .1 in omega arith
+add-n c =
+    let l = c .before .before .before .before .before .before .before .before .before .loop in
+    let h = l .inv .2 in
+    let k = l .inv .1 in
+    omega arith
 
 loop-less : tie.Need-loop-less Inv-loop μ-loop
 loop-less c = let h = column (c .before .before) .from in let k = column (c .before .before) .within in omega arith
@@ -107,8 +113,8 @@ loop-again c =
       s .kept .1 .1 .0 ∙ l .inv .3,
       λ after r k.
           l .inv .4 after r
-          (columns-more (start .args .width) (now (start .args .input)) (l .i) (l .m) (l .n) (l .costs) (s .last .1 .1 .0) (g .0) (g .1 .0) h after r
-          (c .if1 .left) k),
+          (columns-more (start .args .width) (now (start .args .input)) (l .i) (l .m) (l .n) (l .costs) (s .last .1 .1 .0) (g .0) (g .1 .0) h
+          after r (c .if1 .left) k),
     )
 
 same-length-3 : tie.Need-same-length-3 Inv-loop μ-loop

@@ -1,13 +1,11 @@
 -- `scan::store_matrix` meets its contract: the first column gives the width of the others. Assumes nothing.
-use mathlib.Core.Path.{_≡_, subst, _∙_}
-use Prim.Native.Nat.{_≤_}
+use mathlib.Core.Path.{subst}
 use native.Mathlib.Omega.{arith}
 use borrow.Author.Needs.{needs}
-use lib.ListN.{length}
 use denote.Ref.{now}
 use Rattle.scan.specs.declared.Column.the-variants.{Ends}
 use Rattle.scan.specs.Storing.{StoredColumn, StoredColumns}
-use Rattle.scan.specs.Matrices.{matrix-none, matrix-bad, matrix-uneven, matrix-is}
+use Rattle.scan.specs.Matrices.{matrix-none, matrix-bad, matrix-unequal, matrix-is}
 use Rattle.scan.proofs.store_matrix.Statement.{statement}
 use Rattle.scan.proofs.store_matrix.Tie as tie
 
@@ -43,7 +41,8 @@ first :
     (c : tie.After-end)
     → StoredColumn (now (c .before .before .before .before .before .before .before .before .before .args .input))
     (c .before .before .before .before .before .before .before .before .before .args .at) 0
-    (now (c .before .before .before .before .before .before .before .before .before .args .costs)) (c .before .before .before .before .store-column .last .1 .1 .0)
+    (now (c .before .before .before .before .before .before .before .before .before .args .costs))
+    (c .before .before .before .before .store-column .last .1 .1 .0)
     (Ends (c .end .given .0 .0) (c .end .given .0 .1 .0))
 first c =
     let a = c .before .before .before .before .before .before .before .before .before .args in
@@ -74,7 +73,7 @@ returns-3 c =
     let middle = e .before .before .before .before .store-column .last .1 .1 .0 in
     let g = e .end .given .0 in
     let s = c .before .before .before .before .store-columns in
-    matrix-uneven (a .other) (now (a .input)) (a .at) (now (a .costs)) middle (g .0) (g .1 .0) (first e) (s .last .1 .1 .0)
+    matrix-unequal (a .other) (now (a .input)) (a .at) (now (a .costs)) middle (g .0) (g .1 .0) (first e) (s .last .1 .1 .0)
     (subst (StoredColumns (g .1 .0) (now (a .input)) (g .0) (g .1 .0) 1 middle (s .last .1 .1 .0)) (c .enum-told2 .given .1) (s .ensures))
 
 same-length-3 : tie.Need-same-length-3
@@ -88,7 +87,8 @@ returns-4 c =
     let middle = e .before .before .before .before .store-column .last .1 .1 .0 in
     let g = e .end .given .0 in
     let s = c .before .before .before .before .before .store-columns in
-    matrix-is (a .other) (now (a .input)) (a .at) (now (a .costs)) middle (g .0) (g .1 .0) (first e) (s .last .1 .1 .0) (c .before .n .given .0 .0) (start .pre .1)
+    matrix-is (a .other) (now (a .input)) (a .at) (now (a .costs)) middle (g .0) (g .1 .0) (first e) (s .last .1 .1 .0)
+    (c .before .n .given .0 .0) (start .pre .1)
     (subst (StoredColumns (g .1 .0) (now (a .input)) (g .0) (g .1 .0) 1 middle (s .last .1 .1 .0)) (c .before .n .given .1) (s .ensures))
 
 pub store-matrix-spec : {M : Type 1} → statement M
