@@ -1,11 +1,20 @@
--- What the call promises of lent memory: the bytes that are printed, in front of what was there. Assumes nothing.
+-- What the call asks and promises of lent memory. Assumes nothing.
 use Prim.Native.Nat.{ℕ, _≤_}
 use mathlib.Core.Path.{_≡_, sym, ap, _∙_}
 use mathlib.Core.List.{List}
 use native.Mathlib.Omega.{arith}
 use lib.ListN.{length, take}
 use Rattle.lists.specs.Written.{Wrote}
+use Rattle.decode.specs.Promise.{Lent}
 use Rattle.reader.specs.Memory.{take-written, written-fits}
+use Rattle.layout.specs.Answer.{form-room}
+
+-- The memory that the program lends Read.
+pub record Sized (form : List ℕ) (lent : Lent) : Type 0 where
+  pub words : length form ≡ form-room
+  pub path : length (lent .path) ≡ 255
+  pub word : length (lent .word) ≡ 255
+  pub work : length (lent .work) ≡ 16384
 
 -- Bytes of which `Printed` holds stand in front of the output memory, and nothing else of it is changed; the answer is their number.
 pub record Answers (Printed : List ℕ → Type 0) (out out′ : List ℕ) (answer : ℕ) : Type 0 where

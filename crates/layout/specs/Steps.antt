@@ -25,6 +25,7 @@ use Rattle.reader.specs.Memory.{take-written, written-fits}
 use Rattle.reader.specs.Promise.{characters, ReadsBy, Reads}
 use Rattle.reader.specs.Steps.{number-some}
 use Rattle.print.specs.Lines.{reading-lines, refusal-line}
+use Rattle.layout.specs.Promise.{Sized}
 use Rattle.layout.specs.Answer.{form-room, lent-rooms, PrintsOutcome, PrintsChecked, PrintsCompiled, PrintsReading}
 
 -- a report is a refusal's or a reading's, never both
@@ -33,13 +34,6 @@ never-both n p k l e = let q = ap (λ (r : Report). r .number) e in let m = numb
 
 same-line : (m n : Refusal) → turned-away m ≡ turned-away n → refusal-line (numberOf m) ≡ refusal-line (numberOf n)
 same-line m n e = ap (λ (r : Report). refusal-line (r .number)) e
-
--- The memory that the program lends.
-pub record Sized (form : List ℕ) (before : Lent) : Type 0 where
-  pub words : length form ≡ 16384
-  pub path : length (before .path) ≡ 255
-  pub word : length (before .word) ≡ 255
-  pub work : length (before .work) ≡ 16384
 
 sized-rooms : (form : List ℕ) (before : Lent) → Sized form before → rooms before ≡ lent-rooms
 sized-rooms form before h = cc (h .path, h .word, h .work)

@@ -7,8 +7,7 @@ ghost use Prim.Native.Nat.{_≤_};
 ghost use lib.ListN.{length};
 ghost use Rattle.reading.specs.Matrix.{matrix};
 ghost use Rattle.layout.specs.Answer.{PrintsReading, Prints};
-ghost use Rattle.layout.specs.Promise.{Answers};
-ghost use Rattle.layout.specs.Steps.{Sized};
+ghost use Rattle.layout.specs.Promise.{Sized, Answers};
 
 // Reads an alphabet, a text and a matrix, and prints what Read answers; the number of bytes.
 fn answer_reading(
@@ -46,12 +45,7 @@ pub fn answer(
     work: &mut [u32],
     out: &mut [u8],
 ) -> usize
-    requires { ⌜ 16384 ≤ length (now costs) ⌝ }
-    requires { ⌜ length (now form) ≡ 16384 ⌝ }
-    requires { ⌜ length (now path) ≡ 255 ⌝ }
-    requires { ⌜ length (now word) ≡ 255 ⌝ }
-    requires { ⌜ length (now work) ≡ 16384 ⌝ }
-    requires { ⌜ 1300 ≤ length (now out) ⌝ }
+    requires { ⌜ (16384 ≤ length (now costs)) × Sized (now form) (record { path = now path; word = now word; work = now work }) × (1300 ≤ length (now out)) ⌝ }
     ensures { λ r. ⌜ Answers (Prints (now (input .entry))) (now (out .entry)) (now (out .exit)) r ⌝ }
 {
     let Scanned::Sheet {

@@ -1,14 +1,16 @@
--- Laws of the decimal numeral: its last digit, its length, the number that it stands for. Assumes nothing.
+-- Laws of the decimal numeral: its last digit, its length, the number that it stands for, no extra zero. Assumes nothing.
 use Prim.Native.Nat.{ℕ, zero, suc, _+_, _-_, _*_, _/_, _%_, _^_, _<_, _≤_}
 use mathlib.Core.Path.{_≡_, refl, sym, ap, _∙_}
 use mathlib.Core.Logic.{⊎-elim}
+use mathlib.Core.Bool.{true, _&&_}
 use mathlib.Core.List.{List, [], _∷_, _++_}
 use native.Mathlib.Nat.{pow-suc}
 use native.Mathlib.Omega.{arith}
-use borrow.Author.Tests.{lt-ltb, le-ltb}
-use lib.ListN.{length, length-append}
-use Rattle.lists.specs.Order.{lt-or-le}
-use Rattle.expression.specs.Repetition.{value}
+use lib.Dec.{leb}
+use borrow.Author.Tests.{lt-ltb, le-ltb, le-leb}
+use lib.ListN.{length, getD, length-append, List·getD-append}
+use Rattle.lists.specs.Order.{lt-or-le, and-left, and-right, and-both}
+use Rattle.expression.specs.Repetition.{value, digits as all-digits}
 use Rattle.print.specs.Lines.{digit, digits, decimal}
 
 digits-one : (k n : ℕ) → n < 10 → digits (suc k) n ≡ digit n ∷ []
@@ -65,3 +67,44 @@ digits-value (suc k) n h =
 pub decimal-value : (n : ℕ) → value 0 (decimal n) ≡ n
 unfolding decimal
 decimal-value n = digits-value (n + 1) n (omega arith)
+
+-- The numeral has a digit at least, digits only, and no extra zero in front.
+
+digits-some : (k n : ℕ) → n < k → 1 ≤ length (digits k n)
+digits-some zero n h = absurd (omega arith)
+digits-some (suc k) n h =
+    ⊎-elim (λ l. let e = ap length (digits-one k n l) in omega arith)
+    (λ l. let e = ap length (digits-more k n l) in omega (arith, length-append (digits k (n / 10)) (digit (n % 10) ∷ []))) (lt-or-le n 10)
+
+pub decimal-digits : (n : ℕ) → all-digits (decimal n) ≡ true
+unfolding decimal
+decimal-digits n = by (n + 1) n (omega arith)
+  where
+    one : (d : ℕ) → d < 10 → leb 48 (digit d) && leb (digit d) 57 ≡ true
+    one d h = and-both (leb 48 (digit d)) (leb (digit d) 57) (le-leb 48 (digit d) (omega arith)) (le-leb (digit d) 57 (omega arith))
+
+    append : (ds : List ℕ) (d : ℕ) → all-digits ds ≡ true → d < 10 → all-digits (ds ++ (digit d ∷ [])) ≡ true
+    append [] d h l = and-both (leb 48 (digit d) && leb (digit d) 57) true (one d l) refl
+    append (e ∷ ds) d h l =
+        and-both (leb 48 e && leb e 57) (all-digits (ds ++ (digit d ∷ []))) (and-left (leb 48 e && leb e 57) (all-digits ds) h)
+        (append ds d (and-right (leb 48 e && leb e 57) (all-digits ds) h) l)
+
+    by : (k n : ℕ) → n < k → all-digits (digits k n) ≡ true
+    by zero n h = absurd (omega arith)
+    by (suc k) n h =
+        ⊎-elim (λ l. ap all-digits (digits-one k n l) ∙ append [] n refl l)
+        (λ l. ap all-digits (digits-more k n l) ∙ append (digits k (n / 10)) (n % 10) (by k (n / 10) (omega arith)) (omega arith)) (lt-or-le n 10)
+
+pub decimal-lead : (n : ℕ) → 1 ≤ n → 49 ≤ getD (decimal n) 0 0
+unfolding decimal
+decimal-lead n l = by (n + 1) n (omega arith) l
+  where
+    by : (k n : ℕ) → n < k → 1 ≤ n → 49 ≤ getD (digits k n) 0 0
+    by zero n h l = absurd (omega arith)
+    by (suc k) n h l =
+        ⊎-elim (λ q. let e = ap (λ ds. getD ds 0 0) (digits-one k n q) in omega arith)
+        (λ q.
+        let e = ap (λ ds. getD ds 0 0) (digits-more k n q) ∙ List·getD-append (digits k (n / 10)) (digit (n % 10) ∷ []) 0 0 (digits-some k (n / 10) (omega arith)) in
+        let i = by k (n / 10) (omega arith) (omega arith) in
+        omega arith)
+        (lt-or-le n 10)

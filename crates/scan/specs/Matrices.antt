@@ -2,7 +2,7 @@
 use mathlib.Core.Path.{_≡_, refl, sym, ap, _∙_}
 use mathlib.Core.Option.{some}
 use mathlib.Core.List.{List, [], _∷_, _++_, flatten}
-use mathlib.Core.Bool.{Bool, true, _&&_}
+use mathlib.Core.Bool.{true}
 use Prim.Native.Nat.{ℕ, _+_, _<_, _≤_}
 use native.Mathlib.Omega.{arith}
 use lib.ListN.{length, drop, length-append, length-drop}
@@ -12,17 +12,13 @@ use borrow.Author.Tests.{leb-true, le-leb}
 use Rattle.lists.specs.Each.{drop-all}
 use Rattle.lists.specs.Order.{and-left, and-right, and-both}
 use Rattle.lists.specs.Written.{written, written-none, stored-then}
-use Rattle.scan.specs.Sheet.{both, even, widthOr}
+use Rattle.scan.specs.Sheet.{both, equal-columns, fitting, widthOr}
 use Rattle.scan.specs.Rows.{rows, rows-end, rows-some}
 use Rattle.scan.specs.Storing.{StoredColumn, StoredColumns, wide, both-back, flatten-more}
 use Rattle.scan.specs.declared.Column.the-variants as column
 use Rattle.scan.specs.declared.Columns.the-variants as columns
 use Rattle.scan.specs.declared.Body.{Body}
 use Rattle.scan.specs.declared.Body.the-variants as body
-
--- the columns are equally long, and not more than 16,384 costs
-abbrev pub fitting : List (List ℕ) → Bool
-fitting cs = even cs && leb (length (flatten cs)) 16384
 
 pub record AllColumns (other : ℕ) (input : List ℕ) (at : ℕ) (before after : List ℕ) (width count : ℕ) : Type 0 where
   pub columns : List (List ℕ)
@@ -60,21 +56,21 @@ module _ (other : ℕ) (input : List ℕ) (at : ℕ) (before : List ℕ) where
   matrix-bad middle after l h (c ∷ cs) e q =
       let k = h c cs e in
       let s = flatten-more c (c ∷ cs) cs refl in
-      let r = leb-true (length (flatten (c ∷ cs))) 16384 (and-right (even (c ∷ cs)) (leb (length (flatten (c ∷ cs))) 16384) q) in
+      let r = leb-true (length (flatten (c ∷ cs))) 16384 (and-right (equal-columns (c ∷ cs)) (leb (length (flatten (c ∷ cs))) 16384) q) in
       omega arith
 
   module _ (middle : List ℕ) (e w : ℕ) (h : StoredColumn input at 0 before middle (column.Ends e w)) where
     first : w ≡ length (h .costs)
     first = h .stored .next ∙ omega arith
 
-    pub matrix-uneven :
+    pub matrix-unequal :
         (after : List ℕ) → StoredColumns w input e w 1 middle after columns.Bad → StoredMatrix other input at before after body.Bad
-    matrix-uneven after s cs q t =
+    matrix-unequal after s cs q t =
         let k = both-back (h .costs) (rows (drop e input)) cs (sym (h .is) ∙ q) in
         let u : fitting (h .costs ∷ k .0) ≡ true = rw (k .2) at t in
-        let v : wide w (k .0) ≡ true = rw first (and-left (even (h .costs ∷ k .0)) (leb (length (flatten (h .costs ∷ k .0))) 16384) u) in
+        let v : wide w (k .0) ≡ true = rw first (and-left (equal-columns (h .costs ∷ k .0)) (leb (length (flatten (h .costs ∷ k .0))) 16384) u) in
         let l = s (k .0) (k .1) v in
-        let r = leb-true (length (flatten (h .costs ∷ k .0))) 16384 (and-right (even (h .costs ∷ k .0)) (leb (length (flatten (h .costs ∷ k .0))) 16384) u) in
+        let r = leb-true (length (flatten (h .costs ∷ k .0))) 16384 (and-right (equal-columns (h .costs ∷ k .0)) (leb (length (flatten (h .costs ∷ k .0))) 16384) u) in
         let y = flatten-more (h .costs) (h .costs ∷ k .0) (k .0) refl in
         let z = first in
         omega arith
@@ -93,7 +89,7 @@ module _ (other : ℕ) (input : List ℕ) (at : ℕ) (before : List ℕ) where
         record {
           columns = h .costs ∷ s .columns;
           are = h .is ∙ ap (both (some (h .costs))) (s .are);
-          fits = and-both (even (h .costs ∷ s .columns)) (leb (length (flatten (h .costs ∷ s .columns))) 16384) u (le-leb (length (flatten (h .costs ∷ s .columns))) 16384 (omega arith));
+          fits = and-both (equal-columns (h .costs ∷ s .columns)) (leb (length (flatten (h .costs ∷ s .columns))) 16384) u (le-leb (length (flatten (h .costs ∷ s .columns))) 16384 (omega arith));
           is-width = first;
           is-count = omega arith;
           memory = t .memory ∙ sets-written (h .costs ++ flatten (s .columns)) before (omega arith);

@@ -2,7 +2,7 @@
 use mathlib.Core.Path.{_≡_, refl, ap, _∙_, subst}
 use mathlib.Core.Option.{Option, some, none}
 use mathlib.Core.List.{List, [], _∷_, flatten}
-use mathlib.Core.Bool.{Bool, true, false, _&&_}
+use mathlib.Core.Bool.{Bool, true, false}
 use Prim.Native.Nat.{ℕ, _+_, _*_, _≤_}
 use native.Mathlib.Omega.{arith}
 use lib.ListN.{length, take, drop, length-append}
@@ -12,7 +12,7 @@ use borrow.Author.Tests.{eqb-true, eq-eqb, leb-true}
 use Rattle.lists.specs.Each.{all}
 use Rattle.lists.specs.Order.{and-left, and-right, and-both}
 use Rattle.expression.specs.Text.{provided}
-use Rattle.scan.specs.Sheet.{every, linesOf, columnOf, Sheet, even, laid, sheetFrom, sheetOf, widthOr, matrixOf}
+use Rattle.scan.specs.Sheet.{every, linesOf, columnOf, Sheet, equal-columns, fitting, laid, sheetFrom, sheetOf, widthOr, matrixOf}
 use Rattle.scan.specs.Rows.{FirstLine, lines-back}
 use Rattle.scan.specs.Answers.{answerOf}
 use Rattle.scan.specs.declared.Scanned.the-variants as scanned
@@ -41,7 +41,7 @@ record Lines (input : List ℕ) (S : Sheet) : Type 0 where
   others : List (List ℕ)
   short : length input ≤ 65535
   are : linesOf input ≡ some (S .alphabet ∷ (S .text ∷ others))
-  equal : even (S .columns) ≡ true
+  equal : equal-columns (S .columns) ≡ true
   few : length (flatten (S .columns)) ≤ 16384
 
 -- equally long columns make a rectangle
@@ -54,10 +54,10 @@ area w (c ∷ cs) e =
     let n = length-append c (flatten cs) in
     omega arith
 
-even-area : (other : ℕ) (cs : List (List ℕ)) → even cs ≡ true → length (flatten cs) ≡ length cs * widthOr other cs
+equal-area : (other : ℕ) (cs : List (List ℕ)) → equal-columns cs ≡ true → length (flatten cs) ≡ length cs * widthOr other cs
 unfolding flatten all
-even-area other [] e = omega arith
-even-area other (c ∷ cs) e = area (length c) (c ∷ cs) (and-both (eqb (length c) (length c)) (even (c ∷ cs)) (eq-eqb (length c) (length c) refl) e)
+equal-area other [] e = omega arith
+equal-area other (c ∷ cs) e = area (length c) (c ∷ cs) (and-both (eqb (length c) (length c)) (equal-columns (c ∷ cs)) (eq-eqb (length c) (length c) refl) e)
 
 module _ (input : List ℕ) (S : Sheet) (is : sheetOf input ≡ some S) where
   lines : Lines input S
@@ -72,15 +72,15 @@ module _ (input : List ℕ) (S : Sheet) (is : sheetOf input ≡ some S) where
       columns l a t ls q none e = let z : _≡_ {A = ℕ} 0 1 = cc in absurd (omega arith)
       columns l a t ls q (some cs) e =
           let T : Sheet = record { alphabet = a; text = t; columns = cs } in
-          let p = provided-back (even cs && leb (length (flatten cs)) 16384) (some T) S e in
+          let p = provided-back (fitting cs) (some T) S e in
           let same : T ≡ S = cc in
           subst (Lines input) same
           (record {
             others = ls;
             short = l;
             are = q;
-            equal = and-left (even cs) (leb (length (flatten cs)) 16384) (p .0);
-            few = leb-true (length (flatten cs)) 16384 (and-right (even cs) (leb (length (flatten cs)) 16384) (p .0));
+            equal = and-left (equal-columns cs) (leb (length (flatten cs)) 16384) (p .0);
+            few = leb-true (length (flatten cs)) 16384 (and-right (equal-columns cs) (leb (length (flatten cs)) 16384) (p .0));
           })
 
       by : length input ≤ 65535 → (o : Option (List (List ℕ))) → linesOf input ≡ o → sheetFrom o ≡ some S → Lines input S
@@ -118,4 +118,4 @@ module _ (input : List ℕ) (S : Sheet) (is : sheetOf input ≡ some S) where
   sheet-costs = lines .few
 
   pub sheet-area : length (matrixOf S .costs) ≡ matrixOf S .count * matrixOf S .width
-  sheet-area = even-area (length (S .alphabet) + 1) (S .columns) (lines .equal)
+  sheet-area = equal-area (length (S .alphabet) + 1) (S .columns) (lines .equal)

@@ -20,6 +20,7 @@ Free c p = Each (λ b. b ≡ c → ⊥) p
 
 -- Pieces.
 
+-- every text has a first piece
 record Some (c : ℕ) (s : List ℕ) : Type 0 where
   first : List ℕ
   others : List (List ℕ)

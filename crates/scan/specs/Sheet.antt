@@ -65,15 +65,20 @@ pub record Sheet : Type 0 where
   pub columns : List (List ℕ)
 
 -- each column has as many costs as the first
-abbrev pub even : List (List ℕ) → Bool
-even [] = true
-even (c ∷ cs) = all (λ d. eqb (length d) (length c)) cs
+abbrev pub equal-columns : List (List ℕ) → Bool
+equal-columns [] = true
+equal-columns (c ∷ cs) = all (λ d. eqb (length d) (length c)) cs
 
+-- equally long, and not more than 16,384 costs
+abbrev pub fitting : List (List ℕ) → Bool
+fitting cs = equal-columns cs && leb (length (flatten cs)) 16384
+
+-- a sheet of two lines and columns, if the columns fit
 unfoldable pub laid : List ℕ → List ℕ → Option (List (List ℕ)) → Option Sheet
 laid a t none = none
-laid a t (some cs) = provided (even cs && leb (length (flatten cs)) 16384) (some (record { alphabet = a; text = t; columns = cs }))
+laid a t (some cs) = provided (fitting cs) (some (record { alphabet = a; text = t; columns = cs }))
 
--- "There may be no column line."
+-- the alphabet line, the expression line and the column lines: "There may be no column line."
 unfoldable pub sheetFrom : Option (List (List ℕ)) → Option Sheet
 sheetFrom none = none
 sheetFrom (some []) = none
@@ -84,7 +89,7 @@ sheetFrom (some (a ∷ (t ∷ ls))) = laid a t (every columnOf ls)
 unfoldable pub sheetOf : List ℕ → Option Sheet
 sheetOf input = provided (leb (length input) 65535) (sheetFrom (linesOf input))
 
--- "the column width then counts as K + 1"
+-- without a column line "the column width then counts as K + 1"
 abbrev pub widthOr : ℕ → List (List ℕ) → ℕ
 widthOr other [] = other
 widthOr other (c ∷ cs) = length c

@@ -13,10 +13,10 @@ use Rattle.lists.specs.Each.{drop-here, drop-all}
 use Rattle.lists.specs.Order.{eq-or-ne, true-or-false}
 use Rattle.lists.specs.Written.{written}
 use Rattle.expression.specs.Text.{provided}
-use Rattle.scan.specs.Sheet.{both, linesOf, Sheet, laid, sheetFrom, sheetOf, widthOr, matrixOf}
+use Rattle.scan.specs.Sheet.{both, linesOf, Sheet, fitting, laid, sheetFrom, sheetOf, widthOr, matrixOf}
 use Rattle.scan.specs.Rows.{lines-end, lines-open, lines-none, columnsOf, rows}
 use Rattle.scan.specs.Places.{part, part-length, part-rest, LineEnd}
-use Rattle.scan.specs.Matrices.{fitting, StoredMatrix}
+use Rattle.scan.specs.Matrices.{StoredMatrix}
 use Rattle.scan.specs.Answers.{answerOf, Scans}
 use Rattle.scan.specs.declared.Scanned.the-variants as scanned
 use Rattle.scan.specs.declared.Body.the-variants as body

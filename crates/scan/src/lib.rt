@@ -74,7 +74,7 @@ fn is_separator(b: u8) -> bool
     b == 10
 }
 
-// Does so many digits, the first of them b, begin with an extra zero?
+// Do so many digits, the first of them b, begin with an extra zero?
 fn is_padded(count: usize, b: u8) -> bool
     ensures { λ r. ⌜ r ≡ padded count b ⌝ }
 {
@@ -187,7 +187,7 @@ fn store_columns(input: &[u8], at: usize, costs: &mut [u32], width: usize) -> Co
     Columns::Count(n)
 }
 
-// Stores all column lines; without one the width is another.
+// Stores all column lines; where there is none the width is `other`.
 fn store_matrix(input: &[u8], at: usize, costs: &mut [u32], other: usize) -> Body
     requires { ⌜ (at ≤ length (now input)) × (16384 ≤ length (now costs)) ⌝ }
     ensures { λ r. ⌜ StoredMatrix other (now (input .entry)) at (now (costs .entry)) (now (costs .exit)) r ⌝ }
@@ -204,7 +204,7 @@ fn store_matrix(input: &[u8], at: usize, costs: &mut [u32], other: usize) -> Bod
     Body::Matrix(width, n)
 }
 
-// Reads a sheet: its costs go into the lent memory.
+// Reads a sheet, and stores its costs in the lent memory (refusal 18 is the caller's for what is no sheet).
 pub fn scan(input: &[u8], costs: &mut [u32]) -> Scanned
     requires { ⌜ 16384 ≤ length (now costs) ⌝ }
     ensures { λ r. ⌜ Scans (now (input .entry)) (now (costs .entry)) (now (costs .exit)) r ⌝ }

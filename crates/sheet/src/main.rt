@@ -1,5 +1,6 @@
 // The sheet program (document 01, "Confidences and the sheet program"): a sheet on standard input, its lines on standard output.
-// A read that fails ends the input, and a write that fails ends the program. The exit code is always 0: the answer is what is printed.
+// A read that fails ends the input there, and a write that fails ends the program, both with exit code 0: the answer is what is printed.
+// Where the reader of a pipe has gone, the system ends the program as it ends any other.
 use libc::STDIN_FILENO;
 use libc::STDOUT_FILENO;
 

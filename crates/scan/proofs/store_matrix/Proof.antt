@@ -5,7 +5,7 @@ use borrow.Author.Needs.{needs}
 use denote.Ref.{now}
 use Rattle.scan.specs.declared.Column.the-variants.{Ends}
 use Rattle.scan.specs.Storing.{StoredColumn, StoredColumns}
-use Rattle.scan.specs.Matrices.{matrix-none, matrix-bad, matrix-uneven, matrix-is}
+use Rattle.scan.specs.Matrices.{matrix-none, matrix-bad, matrix-unequal, matrix-is}
 use Rattle.scan.proofs.store_matrix.Statement.{statement}
 use Rattle.scan.proofs.store_matrix.Tie as tie
 
@@ -73,7 +73,7 @@ returns-3 c =
     let middle = e .before .before .before .before .store-column .last .1 .1 .0 in
     let g = e .end .given .0 in
     let s = c .before .before .before .before .store-columns in
-    matrix-uneven (a .other) (now (a .input)) (a .at) (now (a .costs)) middle (g .0) (g .1 .0) (first e) (s .last .1 .1 .0)
+    matrix-unequal (a .other) (now (a .input)) (a .at) (now (a .costs)) middle (g .0) (g .1 .0) (first e) (s .last .1 .1 .0)
     (subst (StoredColumns (g .1 .0) (now (a .input)) (g .0) (g .1 .0) 1 middle (s .last .1 .1 .0)) (c .enum-told2 .given .1) (s .ensures))
 
 same-length-3 : tie.Need-same-length-3
