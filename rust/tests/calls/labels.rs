@@ -1,8 +1,9 @@
 //! Collapse, Spread and the costs of confidences.
-use crate::model;
-use crate::support::{number, random, Lent, Random, Tally};
+use crate::support::{number, Lent};
 use crate::LEAST;
 use kavurehy::{raw, Refusal};
+use model::input::{random, Random};
+use model::tally::Tally;
 
 const CASES: usize = 60_000;
 

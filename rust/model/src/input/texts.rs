@@ -1,6 +1,6 @@
 //! Random alphabets and texts of every kind: expressions, damaged ones, and the limits of depth, letters and length.
-use crate::support::Random;
-use crate::writer::{expression, set};
+use super::writer::{expression, set};
+use super::Random;
 
 /// Bytes that mean something in texts, and a few that do not.
 const SIGNS: &[u8] = b"()[]{}|*+?.\\^$-,:=0129ab ";
