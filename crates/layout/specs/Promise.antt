@@ -4,9 +4,8 @@ use mathlib.Core.Path.{_≡_, sym, ap, _∙_}
 use mathlib.Core.List.{List}
 use native.Mathlib.Omega.{arith}
 use lib.ListN.{length, take}
-use Rattle.lists.specs.Written.{Wrote}
+use Rattle.lists.specs.Written.{Wrote, take-written, written-fits}
 use Rattle.decode.specs.Promise.{Lent}
-use Rattle.reader.specs.Memory.{take-written, written-fits}
 use Rattle.layout.specs.Answer.{form-room}
 
 -- The memory that the program lends Read.

@@ -5,10 +5,10 @@ use mathlib.Core.Option.{Option, some, none}
 use mathlib.Core.List.{List}
 use native.Mathlib.Omega.{arith}
 use lib.ListN.{length, take, drop}
+use Rattle.lists.specs.Written.{take-written, written-fits}
 use Rattle.refusal.specs.declared.Refusal.the-variants as row
 use Rattle.refusal.specs.Number.{numberOf}
 use Rattle.reading.specs.Matrix.{matrix}
-use Rattle.reader.specs.Memory.{take-written, written-fits}
 use Rattle.scan.specs.Sheet.{Sheet, sheetOf, matrixOf}
 use Rattle.scan.specs.Answers.{answerOf, Scans}
 use Rattle.scan.specs.Parts.{answered, sheet-within, sheet-alphabet, sheet-text, sheet-costs, sheet-area}

@@ -5,7 +5,7 @@ use mathlib.Core.Option.{Option, some, none}
 use mathlib.Core.List.{List}
 use native.Mathlib.Omega.{arith}
 use lib.ListN.{length, getD, take, length-map}
-use Rattle.lists.specs.Written.{written}
+use Rattle.lists.specs.Written.{written, take-written, written-fits}
 use Rattle.refusal.specs.declared.Refusal.{Refusal}
 use Rattle.refusal.specs.declared.Refusal.the-variants.{NoReading}
 use Rattle.refusal.specs.declared.Checked.{Checked}
@@ -21,7 +21,6 @@ use Rattle.expression.specs.Grammar.{WordsOf}
 use Rattle.compile.specs.Call.{compile-call}
 use Rattle.decode.specs.Checks.{needed, matrix-checks}
 use Rattle.decode.specs.Promise.{Lent, rooms, read, outcome-report, path-of, word-of, Answers, Checks}
-use Rattle.reader.specs.Memory.{take-written, written-fits}
 use Rattle.reader.specs.Promise.{characters, ReadsBy, Reads}
 use Rattle.reader.specs.Steps.{number-some}
 use Rattle.print.specs.Lines.{reading-lines, refusal-line}
