@@ -126,7 +126,7 @@ fn costs() {
     let mut tally = Tally::default();
     for _ in 0..CASES / 5 {
         let length = *r.pick(&[0, 1, 10, 100, 255, 256, 1000]);
-        let confidences: Vec<u8> = (0..length).map(|_| r.next() as u8).collect();
+        let confidences: Vec<u8> = (0..length).map(|_| r.bits() as u8).collect();
         let mut memory = Lent::new(r.room(length));
         let short = memory.memory().len() < length;
         let answer = kavurehy::costs(&confidences, memory.memory());

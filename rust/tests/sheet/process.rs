@@ -57,14 +57,19 @@ pub fn printed(child: &mut Child) -> String {
     output
 }
 
-/// What the program prints if `write` writes its input.
-pub fn answer_to(write: impl FnOnce(ChildStdin) + Send) -> String {
-    let mut child = Command::new(program())
+/// Starts a program with pipes.
+pub fn start(command: &mut Command) -> Child {
+    command
         .stdin(Stdio::piped())
         .stdout(Stdio::piped())
         .stderr(Stdio::piped())
         .spawn()
-        .expect("a program that can be run");
+        .expect("a program that can be run")
+}
+
+/// What the program prints if `write` writes its input.
+pub fn answer_to(write: impl FnOnce(ChildStdin) + Send) -> String {
+    let mut child = start(&mut Command::new(program()));
     let stdin = child.stdin.take().unwrap();
     scope(|s| {
         s.spawn(|| write(stdin));
@@ -89,10 +94,10 @@ pub fn answer_chunked(input: &[u8], size: usize, pause: Duration) -> String {
     })
 }
 
-/// Writes bytes. Behind `most` bytes the program may be gone, not before.
-fn put(stdin: &mut ChildStdin, bytes: &[u8], most: usize) {
+/// Writes bytes of which the program takes at least `least`, if there are so many; behind those it may be gone.
+fn put(stdin: &mut ChildStdin, bytes: &[u8], least: usize) {
     if let Err(error) = stdin.write_all(bytes) {
-        let gone = error.kind() == ErrorKind::BrokenPipe && bytes.len() > most;
-        assert!(gone, "{error} behind fewer than {} bytes", bytes.len());
+        let gone = error.kind() == ErrorKind::BrokenPipe && bytes.len() > least;
+        assert!(gone, "{error}: {} bytes, of {least}", bytes.len());
     }
 }

@@ -23,7 +23,11 @@ pub fn refused() -> Vec<(u32, Vec<Vec<u8>>)> {
         (9, texts("a{128} [ab]{64} (a{16}){8}")),
         (12, matrices()),
         (13, costs()),
-        (15, vec![work(144, 56), work(112, 72), work(255, 32)]),
+        // 16,385 work words twice, then 16,640 and 16,575
+        (
+            15,
+            vec![work(144, 56), work(112, 72), work(255, 32), work(64, 127)],
+        ),
         (
             16,
             vec![b"ab\na\n".to_vec(), b"ab\naa\n0 0 0\n0 0 0\n".to_vec()],
@@ -102,8 +106,8 @@ fn limits_that_pass() {
     assert_eq!(answer(b"a\na{0,127}\n0 1\n"), "0\n\n0\n");
     let nested = format!("a\n{}a{}*\n", "(".repeat(16), ")".repeat(16));
     assert_eq!(answer(nested.as_bytes()), "0\n\n\n");
-    // 16,383 and 16,128 work words; 16,385 and 16,640 are refused above
-    for (number, letters) in [(128, 63), (128, 63), (42, 127 / 2), (255, 31)] {
+    // 16,383 work words twice, then 16,128 and 16,320
+    for (number, letters) in [(128, 63), (126, 64), (255, 31), (63, 127)] {
         let blanks = vec!["0"; number].join(" ");
         let printed = format!("0\n\n{blanks}\n");
         assert_eq!(answer(&work(number, letters)), printed);

@@ -1,5 +1,5 @@
 //! Inputs and outputs that end, fail or are not there: the program ends by itself, and prints no other answer.
-use crate::process::{answer_to, end, printed, program, under_shell};
+use crate::process::{answer_to, end, printed, program, start, under_shell};
 use std::fs::File;
 use std::io::Write;
 use std::os::unix::process::ExitStatusExt;
@@ -12,15 +12,6 @@ const EXAMPLE: &[u8] = b"ab\naa\n5 1 9\n5 1 9\n5 1 9\n";
 /// The signal for a write to a pipe that nobody reads.
 const BROKEN_PIPE: i32 = 13;
 
-fn piped(command: &mut Command) -> Child {
-    command
-        .stdin(Stdio::piped())
-        .stdout(Stdio::piped())
-        .stderr(Stdio::piped())
-        .spawn()
-        .expect("a program that can be run")
-}
-
 /// Writes the example to the program and closes the input.
 fn put_example(child: &mut Child) {
     let mut stdin = child.stdin.take().unwrap();
@@ -30,7 +21,7 @@ fn put_example(child: &mut Child) {
 /// The answer comes when the input has ended, not before.
 #[test]
 fn waits_for_the_end() {
-    let mut child = piped(&mut Command::new(program()));
+    let mut child = start(&mut Command::new(program()));
     let mut stdin = child.stdin.take().unwrap();
     for line in EXAMPLE.split_inclusive(|&b| b == b'\n') {
         stdin.write_all(line).unwrap();
@@ -57,9 +48,9 @@ fn cut_off() {
 /// No input at all, input that cannot be read, and input without end.
 #[test]
 fn other_inputs() {
-    let mut closed = piped(&mut under_shell("exec \"$0\" <&-"));
+    let mut closed = start(&mut under_shell("exec \"$0\" <&-"));
     assert_eq!(printed(&mut closed), "refused 18\n");
-    let mut for_writing = piped(&mut under_shell("exec \"$0\" 0>/dev/null"));
+    let mut for_writing = start(&mut under_shell("exec \"$0\" 0>/dev/null"));
     assert_eq!(printed(&mut for_writing), "refused 18\n");
     for path in ["/", "/dev/null", "/dev/zero", "/dev/urandom"] {
         let mut child = Command::new(program())
@@ -75,7 +66,7 @@ fn other_inputs() {
 /// A pipe that nobody reads: the system ends the program by its signal for that, as any other.
 #[test]
 fn reader_gone() {
-    let mut child = piped(&mut Command::new(program()));
+    let mut child = start(&mut Command::new(program()));
     drop(child.stdout.take());
     put_example(&mut child);
     let status = end(&mut child);
@@ -85,7 +76,7 @@ fn reader_gone() {
 /// The same where that signal is ignored: exit code 0.
 #[test]
 fn reader_gone_without_signal() {
-    let mut child = piped(&mut under_shell("trap '' PIPE; exec \"$0\""));
+    let mut child = start(&mut under_shell("trap '' PIPE; exec \"$0\""));
     drop(child.stdout.take());
     put_example(&mut child);
     assert_eq!(end(&mut child).code(), Some(0));
@@ -101,18 +92,18 @@ fn other_outputs() {
         "exec \"$0\" >&- 2>&-",
     ];
     for script in scripts {
-        let mut child = piped(&mut under_shell(script));
+        let mut child = start(&mut under_shell(script));
         put_example(&mut child);
         assert_eq!(printed(&mut child), "", "{script}");
     }
-    let mut neither = piped(&mut under_shell("exec \"$0\" <&- >&-"));
+    let mut neither = start(&mut under_shell("exec \"$0\" <&- >&-"));
     assert_eq!(printed(&mut neither), "");
 }
 
 /// Arguments and the environment mean nothing.
 #[test]
 fn arguments() {
-    let mut child = piped(
+    let mut child = start(
         Command::new(program())
             .args(["-h", "refused", ""])
             .env_clear(),

@@ -62,7 +62,7 @@ pub fn edit(r: &mut Random, bytes: &mut Vec<u8>) {
     let byte = if r.chance(80) {
         *r.pick(SIGNS)
     } else {
-        r.next() as u8
+        r.bits() as u8
     };
     match r.below(8) {
         0 if n < bytes.len() => drop(bytes.remove(n)),

@@ -62,7 +62,7 @@ pub fn damage(r: &mut Random, text: &mut Vec<u8>) {
         4 if n.max(m) < text.len() => text.swap(n, m),
         5 => text.truncate(n),
         6 => text.extend_from_within(n.min(m)..n.max(m)),
-        _ if r.chance(30) => text.insert(n, r.next() as u8),
+        _ if r.chance(30) => text.insert(n, r.bits() as u8),
         _ => {}
     }
 }
