@@ -107,7 +107,7 @@ fn main() {
         for (face, units) in [("FL", left), ("FR", right)] {
             let mut columns = line(&mut random, &angle(face, units));
             if (level, face) == (14, "FR") {
-                columns.truncate(9); // the line runs off the sheet
+                columns.truncate(8); // the line runs off the sheet: fewer columns than any word has letters
             }
             let file = Path::new(&folder).join(format!("{level:02}-{face}.sheet"));
             fs::write(file, sheet(&columns)).expect("a file that can be written");

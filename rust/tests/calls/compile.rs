@@ -1,13 +1,15 @@
 //! Compile: random texts against the model, and what the forms accept.
-use crate::model::derivatives::Machine;
-use crate::model::expression::{parse, Tree};
-use crate::model::opening::{compile, compile_within};
-use crate::model::words::is_word;
-use crate::support::{number, random, Lent, Random, Tally};
-use crate::texts::{alphabet, bad_alphabet, text};
-use crate::writer::expression;
+use crate::support::{number, Lent};
 use crate::LEAST;
 use kavurehy::{raw, FORM_WORDS};
+use model::derivatives::Machine;
+use model::expression::{parse, Tree};
+use model::input::texts::{alphabet, bad_alphabet, text};
+use model::input::writer::expression;
+use model::input::{random, Random};
+use model::opening::{compile, compile_within};
+use model::tally::Tally;
+use model::words::is_word;
 
 const CASES: usize = 200_000;
 

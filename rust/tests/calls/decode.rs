@@ -1,13 +1,17 @@
 //! Decode: an exhaustive search on small matrices, another exact method on long lines, each refusal in its place.
 use crate::forms::{damaged, flipped, random_form, KINDS};
-use crate::matrix::{few_columns, Line, Memory};
-use crate::model::collapse;
-use crate::model::form::Form;
-use crate::model::ranked::ranked;
-use crate::model::search::{exhaustive, tied, Best};
-use crate::support::{number, random, Random, Tally};
+use crate::matrix::{matrix, Memory};
+use crate::support::number;
 use crate::LEAST;
 use kavurehy::raw;
+use model::collapse;
+use model::form::Form;
+use model::input::matrix::few_columns;
+use model::input::{random, Random};
+use model::matrix::Line;
+use model::ranked::ranked;
+use model::search::{exhaustive, tied, Best};
+use model::tally::Tally;
 
 /// A call of Decode.
 #[derive(Clone, Debug)]
@@ -81,7 +85,7 @@ impl Call {
         let mut memory = Memory::lend(&self.line);
         let reading = kavurehy::decode(
             &self.form,
-            self.line.matrix(),
+            matrix(&self.line),
             memory.path.memory(),
             memory.word.memory(),
             memory.work.memory(),

@@ -1,6 +1,6 @@
 //! Random valid forms, and every way to damage one.
-use crate::model::form::{Form, Letter};
-use crate::support::Random;
+use model::form::{Form, Letter};
+use model::input::Random;
 
 /// A valid form of at most so many characters and letters. A quarter have one label only, so that blanks are needed
 /// everywhere; some have no first or no last letter, and so accept at most the empty word.

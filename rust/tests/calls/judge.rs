@@ -1,10 +1,11 @@
 //! Judge: random forms, words along their walks and beside them, damaged forms.
 use crate::forms::{damaged, flipped, random_form, KINDS};
-use crate::model::bad_labels;
-use crate::model::form::Form;
-use crate::support::{random, Random, Tally};
 use crate::LEAST;
 use kavurehy::{raw, Refusal};
+use model::bad_labels;
+use model::form::Form;
+use model::input::{random, Random};
+use model::tally::Tally;
 
 const CASES: usize = 60_000;
 

@@ -1,8 +1,9 @@
 //! Collapse, Spread and the costs of confidences.
-use crate::model;
-use crate::support::{number, random, Lent, Random, Tally};
+use crate::support::{number, Lent};
 use crate::LEAST;
 use kavurehy::{raw, Refusal};
+use model::input::{random, Random};
+use model::tally::Tally;
 
 const CASES: usize = 60_000;
 
@@ -125,7 +126,7 @@ fn costs() {
     let mut tally = Tally::default();
     for _ in 0..CASES / 5 {
         let length = *r.pick(&[0, 1, 10, 100, 255, 256, 1000]);
-        let confidences: Vec<u8> = (0..length).map(|_| r.next() as u8).collect();
+        let confidences: Vec<u8> = (0..length).map(|_| r.bits() as u8).collect();
         let mut memory = Lent::new(r.room(length));
         let short = memory.memory().len() < length;
         let answer = kavurehy::costs(&confidences, memory.memory());

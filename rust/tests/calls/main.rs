@@ -8,13 +8,10 @@ mod judge;
 mod labels;
 mod lines;
 mod matrix;
-mod model;
 mod read;
 mod read_call;
 mod readings;
 mod support;
-mod texts;
-mod writer;
 
 /// How often each call answers each of its numbers, at least, on the random input of its test.
 const LEAST: usize = 500;

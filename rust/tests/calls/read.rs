@@ -1,16 +1,18 @@
 //! Read, from the text to the path: an exhaustive search on small matrices, another exact method on longer lines, each refusal
 //! in its place.
-use crate::matrix::Line;
-use crate::model::collapse;
-use crate::model::opening::compile;
-use crate::model::ranked::ranked;
-use crate::model::search::tied;
-use crate::model::words::is_word;
-use crate::read_call::Call;
-use crate::support::{random, Tally};
-use crate::texts::many_letters;
-use crate::writer::expression;
+use crate::read_call::{hold, hold_long, hold_small};
 use crate::LEAST;
+use model::call::Call;
+use model::collapse;
+use model::input::random;
+use model::input::texts::many_letters;
+use model::input::writer::expression;
+use model::matrix::Line;
+use model::opening::compile;
+use model::ranked::ranked;
+use model::search::tied;
+use model::tally::Tally;
+use model::words::is_word;
 
 /// The numbers that Read answers.
 const ROWS: [usize; 16] = [0, 1, 2, 3, 4, 5, 6, 7, 8, 9, 10, 12, 13, 14, 15, 16];
@@ -22,7 +24,7 @@ fn small_reads() {
     let (mut ties, mut parted, mut several) = (0, 0, 0);
     for _ in 0..150_000 {
         let mut call = Call::small(&mut r);
-        if let Ok(best) = call.hold_small(&mut tally) {
+        if let Ok(best) = hold_small(&call, &mut tally) {
             let (tree, form) = compile(&call.alphabet, &call.text).unwrap();
             let costs = &call.line.costs;
             ties += usize::from(tied(form.k, costs, &best, |w| is_word(&tree, w)));
@@ -33,7 +35,7 @@ fn small_reads() {
         for _ in 0..r.from(1, 3) {
             call.spoil(&mut r);
         }
-        let _ = call.hold_small(&mut tally);
+        let _ = hold_small(&call, &mut tally);
     }
     tally.demand("read", LEAST, &ROWS);
     // lines with several best lists, lines whose best word needs a blank between equal labels, words of several letters
@@ -51,7 +53,7 @@ fn medium_reads() {
     let mut left_out = 0;
     for _ in 0..20_000 {
         let call = Call::proper(&mut r, 12, 24, |r, alphabet| expression(r, alphabet, 5).0);
-        left_out += usize::from(call.hold_long(&mut tally, 200).is_none());
+        left_out += usize::from(hold_long(&call, &mut tally, 200).is_none());
     }
     tally.demand("read of medium lines", LEAST, &[0, 10, 16]);
     assert!(left_out < 2_000, "{left_out} lines were left out");
@@ -70,7 +72,7 @@ fn long_reads() {
             0 => many_letters(r, alphabet),
             _ => expression(r, alphabet, size).0,
         });
-        match call.hold_long(&mut tally, 1_000) {
+        match hold_long(&call, &mut tally, 1_000) {
             None => left_out += 1,
             Some(Err(_)) => {}
             Some(Ok(best)) => {
@@ -96,7 +98,7 @@ fn too_many_columns() {
             form: 7,
             line: Line::random(&mut r, 2, 2, columns),
         };
-        let answer = call.hold(&mut tally, |_, form| ranked(form, &call.line.costs));
+        let answer = hold(&call, &mut tally, |_, form| ranked(form, &call.line.costs));
         assert_eq!(answer.err(), (columns > 255).then_some(12));
     }
 }

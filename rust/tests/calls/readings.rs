@@ -1,8 +1,8 @@
 //! How rows 1 to 10 of the table are read, text by text, with the numbers written by hand: the model and Compile are both held
 //! to them.
 use crate::compile::hold;
-use crate::model::opening::compile;
 use kavurehy::FORM_WORDS;
+use model::opening::compile;
 
 /// This text over this alphabet is answered with this number.
 fn answers(alphabet: &[u8], row: u32, text: &str) {

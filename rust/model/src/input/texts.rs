@@ -1,6 +1,6 @@
 //! Random alphabets and texts of every kind: expressions, damaged ones, and the limits of depth, letters and length.
-use crate::support::Random;
-use crate::writer::{expression, set};
+use super::writer::{expression, set};
+use super::Random;
 
 /// Bytes that mean something in texts, and a few that do not.
 const SIGNS: &[u8] = b"()[]{}|*+?.\\^$-,:=0129ab ";
@@ -62,7 +62,7 @@ pub fn damage(r: &mut Random, text: &mut Vec<u8>) {
         4 if n.max(m) < text.len() => text.swap(n, m),
         5 => text.truncate(n),
         6 => text.extend_from_within(n.min(m)..n.max(m)),
-        _ if r.chance(30) => text.insert(n, r.next() as u8),
+        _ if r.chance(30) => text.insert(n, r.bits() as u8),
         _ => {}
     }
 }

@@ -1,13 +1,18 @@
 //! What document 01 says, said again in plain Rust as directly as its sentences go. Nothing here is taken from the Rattle code;
-//! where there is a choice of method, another one is taken.
+//! where there is a choice of method, another one is taken. `input` makes random input, `tally` counts answers.
 
 pub mod bracket;
+pub mod call;
 pub mod derivatives;
 pub mod expression;
 pub mod form;
+pub mod input;
+pub mod matrix;
 pub mod opening;
 pub mod ranked;
 pub mod search;
+pub mod sheet;
+pub mod tally;
 pub mod words;
 
 /// First merge each run of equal neighbours into one, then delete blanks.

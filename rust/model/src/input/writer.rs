@@ -1,6 +1,6 @@
 //! Random expressions of every construct, written together with the tree that they should give.
-use crate::model::expression::{either, joined, Tree};
-use crate::support::Random;
+use super::Random;
+use crate::expression::{either, joined, Tree};
 use std::rc::Rc;
 
 /// An expression of every construct, and its tree.

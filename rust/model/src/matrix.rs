@@ -1,0 +1,38 @@
+//! What Decode and Read are given besides a form or a text, and rows 12 to 15.
+
+/// A matrix, and how much memory is lent.
+#[derive(Clone, Debug)]
+pub struct Line {
+    pub costs: Vec<u32>,
+    pub width: usize,
+    pub columns: usize,
+    pub path: usize,
+    pub word: usize,
+    pub work: usize,
+}
+
+/// Work memory needed: (T + 1) × (2L + 1) words.
+pub fn need(columns: usize, letters: usize) -> usize {
+    (columns + 1) * (2 * letters + 1)
+}
+
+impl Line {
+    /// The work words needed for K and L, or the first row of 12 to 15 that applies.
+    pub fn check(&self, k: usize, letters: usize) -> Result<usize, u32> {
+        let width = k + 1;
+        if self.columns > 255 || self.width != width || self.costs.len() != self.columns * width {
+            return Err(12);
+        }
+        if self.costs.iter().any(|&c| c > 1_000_000) {
+            return Err(13);
+        }
+        if self.path < self.columns || self.word < self.columns {
+            return Err(14);
+        }
+        let need = need(self.columns, letters);
+        if self.work < need {
+            return Err(15);
+        }
+        Ok(need)
+    }
+}

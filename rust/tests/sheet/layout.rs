@@ -1,0 +1,111 @@
+//! Row 18: each kind of damage to a sheet, also where another number would apply.
+use crate::process::answer;
+use crate::refusals::{columns, refused};
+
+fn is_refused(sheet: &[u8]) {
+    let printed = answer(sheet);
+    assert_eq!(printed, "refused 18\n", "{}", sheet.escape_ascii());
+}
+
+/// Column lines that make no sheet, with `|` between; a newline is written `/`.
+fn are_refused(columns: &str) {
+    for lines in columns.split('|') {
+        is_refused(format!("ab/a*/{lines}").replace('/', "\n").as_bytes());
+    }
+}
+
+#[test]
+fn too_few_lines() {
+    for input in ["", "a", "\n", "ab", "ab\n", "ab\na", "ab\na*", "5 1 9\n"] {
+        is_refused(input.as_bytes());
+    }
+}
+
+#[test]
+fn no_final_newline() {
+    are_refused("0|0 0 0|0 0 0/0|0 0 0/0 0 0");
+}
+
+/// First, between and last, where it is a doubled final newline.
+#[test]
+fn empty_column_lines() {
+    are_refused("/|/0 0 0/|0 0 0//0 0 0/|0 0 0//|0 0 0///|//");
+    for input in ["\n\n\n", "\n\n\n\n", "ab\n\n\n"] {
+        is_refused(input.as_bytes());
+    }
+}
+
+#[test]
+fn numbers() {
+    are_refused("00 0 0/|0 01 0/|0 0 00/|0 0 0000001/|0000000 0 0/|0 0 0/0 0 02/");
+    are_refused("10000000 0 0/|0 0 99999999/|0 12345678 0/|00000000 0 0/");
+    are_refused(
+        "4294967296 0 0/|4294967301 0 0/|18446744073709551616 0 0/|18446744073709551621 0 0/",
+    );
+}
+
+#[test]
+fn spaces_and_signs() {
+    are_refused("0  0 0/|0 0  0/|0 0 0 /| 0 0 0/| /|0 0 0/ /|   /");
+    are_refused("0\t0 0/|0 0\t0/|0 0 0\t/|\t0 0 0/|0 0 0\r/|0\u{a0}0 0/");
+    are_refused("-0 0 0/|0 -1 0/|-1 0 0/|0 +1 0/|0 1. 0/|0 1e1 0/|0 x 0/|0x1 0 0/|0,0,0/|0 0 0\0/|0 0 ²/|٣ 0 0/");
+}
+
+#[test]
+fn unequal_columns() {
+    are_refused("0 0 0/0 0/|0 0/0 0 0/|0 0 0/0 0 0/0 0 0 0/|0/0 0 0/|0 0 0/0/0 0 0/");
+}
+
+/// Every byte but a digit in the place of a digit, of a space and of the final newline.
+#[test]
+fn every_other_byte() {
+    let sheet = b"ab\na*\n7 7 7\n7 7 7\n";
+    for place in [6, 7, 8, 12, 13, 17] {
+        let other = |byte: &u8| *byte != sheet[place] && !byte.is_ascii_digit();
+        for byte in (0..=255).filter(other) {
+            let mut damaged = *sheet;
+            damaged[place] = byte;
+            is_refused(&damaged);
+        }
+    }
+}
+
+/// 16,384 costs are a sheet, whatever Read says of it; one more is none.
+#[test]
+fn too_many_costs() {
+    let all: Vec<char> = (' '..='~').collect();
+    let sheet = |k: usize, number: usize| {
+        let alphabet: String = all[..k].iter().collect();
+        let column = vec!["0"; k + 1].join(" ");
+        answer(format!("{alphabet}\n!?\n{}", columns(number, &column)).as_bytes())
+    };
+    assert_eq!(sheet(63, 255), format!("0\n\n{}\n", ["0"; 255].join(" ")));
+    assert_eq!(sheet(63, 256), "refused 12\n");
+    assert_eq!(sheet(63, 257), "refused 18\n");
+    assert_eq!(sheet(95, 170), format!("0\n\n{}\n", ["0"; 170].join(" ")));
+    assert_eq!(sheet(95, 171), "refused 18\n");
+    let narrow = |number| answer(format!("a\na*\n{}", columns(number, "0")).as_bytes());
+    assert_eq!(narrow(16_384), "refused 12\n");
+    assert_eq!(narrow(16_385), "refused 18\n");
+    let wide = |number| answer(format!("a\na*\n{}\n", vec!["0"; number].join(" ")).as_bytes());
+    assert_eq!(wide(16_384), "refused 12\n");
+    assert_eq!(wide(16_385), "refused 18\n");
+}
+
+/// 18 comes first: each sheet that is turned away with another number, damaged.
+#[test]
+fn before_every_number() {
+    for (_, sheets) in refused() {
+        let few = sheets.iter().take(4).chain(sheets.last());
+        for sheet in few {
+            is_refused(&sheet[..sheet.len() - 1]);
+            for line in ["\n", "00\n", "10000000\n", "1 \n", "-1\n", "1\t1\n", "0"] {
+                is_refused(&[sheet, line.as_bytes()].concat());
+            }
+            is_refused(&[&sheet[..], b"0\n0 0\n"].concat());
+        }
+    }
+    let alone = |line: &[u8]| is_refused(&[line, b"\n"].concat());
+    alone(b"aa");
+    alone(&[200; 300]);
+}

@@ -1,0 +1,103 @@
+//! Runs the sheet program with a time limit.
+use std::io::{ErrorKind, Read, Write};
+use std::path::{Path, PathBuf};
+use std::process::{Child, ChildStdin, Command, ExitStatus, Stdio};
+use std::thread::{scope, sleep};
+use std::time::{Duration, Instant};
+
+/// Past this time the program has not ended by itself.
+const LIMIT: Duration = Duration::from_secs(20);
+
+/// A sheet takes at most this many bytes; the program reads one more to see that there are too many.
+const MOST: usize = 65_535;
+
+pub fn program() -> PathBuf {
+    let path = Path::new(env!("CARGO_MANIFEST_DIR")).join("../target/bin/sheet");
+    assert!(
+        path.is_file(),
+        "{} is missing: run `rt check sheet` first",
+        path.display()
+    );
+    path
+}
+
+/// The program under a shell, which first does what is asked there: `$0` is the program.
+pub fn under_shell(script: &str) -> Command {
+    let mut command = Command::new("sh");
+    command.arg("-c").arg(script).arg(program());
+    command
+}
+
+/// How the program ended.
+pub fn end(child: &mut Child) -> ExitStatus {
+    let start = Instant::now();
+    loop {
+        if let Some(status) = child.try_wait().unwrap() {
+            return status;
+        }
+        if start.elapsed() > LIMIT {
+            child.kill().unwrap();
+            panic!("the program did not end by itself within {LIMIT:?}");
+        }
+        sleep(Duration::from_micros(100));
+    }
+}
+
+/// What the program printed, once it has ended: little enough for a pipe. It ended with exit code 0 and without a word on
+/// standard error.
+pub fn printed(child: &mut Child) -> String {
+    let status = end(child);
+    let mut output = String::new();
+    let mut errors = String::new();
+    let stdout = child.stdout.as_mut().unwrap();
+    stdout.read_to_string(&mut output).expect("plain text");
+    let stderr = child.stderr.as_mut().unwrap();
+    stderr.read_to_string(&mut errors).expect("plain text");
+    assert_eq!((status.code(), &errors[..]), (Some(0), ""));
+    output
+}
+
+/// Starts a program with pipes.
+pub fn start(command: &mut Command) -> Child {
+    command
+        .stdin(Stdio::piped())
+        .stdout(Stdio::piped())
+        .stderr(Stdio::piped())
+        .spawn()
+        .expect("a program that can be run")
+}
+
+/// What the program prints if `write` writes its input.
+pub fn answer_to(write: impl FnOnce(ChildStdin) + Send) -> String {
+    let mut child = start(&mut Command::new(program()));
+    let stdin = child.stdin.take().unwrap();
+    scope(|s| {
+        s.spawn(|| write(stdin));
+        printed(&mut child)
+    })
+}
+
+/// What the program prints for an input.
+pub fn answer(input: &[u8]) -> String {
+    answer_to(|mut stdin| put(&mut stdin, input, MOST))
+}
+
+/// The same for an input written in chunks of this size with a pause behind each.
+pub fn answer_chunked(input: &[u8], size: usize, pause: Duration) -> String {
+    answer_to(|mut stdin| {
+        let mut left = MOST;
+        for chunk in input.chunks(size) {
+            put(&mut stdin, chunk, left);
+            left = left.saturating_sub(chunk.len());
+            sleep(pause);
+        }
+    })
+}
+
+/// Writes bytes of which the program takes at least `least`, if there are so many; behind those it may be gone.
+fn put(stdin: &mut ChildStdin, bytes: &[u8], least: usize) {
+    if let Err(error) = stdin.write_all(bytes) {
+        let gone = error.kind() == ErrorKind::BrokenPipe && bytes.len() > least;
+        assert!(gone, "{error}: {} bytes, of {least}", bytes.len());
+    }
+}

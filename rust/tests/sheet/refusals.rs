@@ -1,0 +1,142 @@
+//! Sheets that are sheets, and turned away by Read: each number, and the lowest where several apply.
+use crate::process::answer;
+
+/// So many columns, each of them this line.
+pub fn columns(number: usize, line: &str) -> String {
+    format!("{line}\n").repeat(number)
+}
+
+/// Numbers, each with sheets that are turned away with it.
+pub fn refused() -> Vec<(u32, Vec<Vec<u8>>)> {
+    vec![
+        (1, alphabets()),
+        (
+            2,
+            vec![b"ab\n\n".to_vec(), long(256), b"a\n\n0 0\n".to_vec()],
+        ),
+        (3, bytes_outside("ab\na?\n")),
+        (4, texts("* a** () (a a) a||b ^a a$ \\a |a")),
+        (5, texts("(((((((((((((((((a)))))))))))))))))")),
+        (6, texts("a{0} a{2,1} a{256} a{ a{1,2,3} a{x}")),
+        (7, texts("[b-a] [a [[:a:]] [a-b-b]")),
+        (8, texts("c ac [c] [^ab] \\.")),
+        (9, texts("a{128} [ab]{64} (a{16}){8}")),
+        (12, matrices()),
+        (13, costs()),
+        // 16,385 work words twice, then 16,640 and 16,575
+        (
+            15,
+            vec![work(144, 56), work(112, 72), work(255, 32), work(64, 127)],
+        ),
+        (
+            16,
+            vec![b"ab\na\n".to_vec(), b"ab\naa\n0 0 0\n0 0 0\n".to_vec()],
+        ),
+    ]
+}
+
+/// Texts over the alphabet `ab`, with spaces between.
+fn texts(list: &str) -> Vec<Vec<u8>> {
+    let sheet = |text| format!("ab\n{text}\n5 1 9\n").into_bytes();
+    list.split(' ').map(sheet).collect()
+}
+
+fn alphabets() -> Vec<Vec<u8>> {
+    let doubled = [b"a!a\na\n".to_vec(), b"aa\na*\n0 0\n".to_vec()];
+    let empty = [b"\na*\n".to_vec(), b"\n\n".to_vec(), b"\n\n0\n".to_vec()];
+    let many = (32..=127).chain(*b"\na*\n").collect();
+    let mut all = bytes_outside("?\na\n");
+    all.extend(doubled);
+    all.extend(empty);
+    all.push(many);
+    all
+}
+
+/// The sheet with each byte outside 32 to 126, but for the newline, in the place of `?`.
+fn bytes_outside(sheet: &str) -> Vec<Vec<u8>> {
+    let (before, behind) = sheet.split_once('?').unwrap();
+    let outside = (0..=255).filter(|b| !(32..=126).contains(b) && *b != b'\n');
+    outside
+        .map(|b| [before.as_bytes(), &[b], behind.as_bytes()].concat())
+        .collect()
+}
+
+/// A bracket of so many bytes over the alphabet `a`.
+fn long(length: usize) -> Vec<u8> {
+    format!("a\n[{}]*\n0 0\n", "a".repeat(length - 3)).into_bytes()
+}
+
+/// Over 255 columns, and widths other than K + 1.
+fn matrices() -> Vec<Vec<u8>> {
+    let over = [256, 257, 5_461].map(|n| format!("ab\na*\n{}", columns(n, "0 1 1")));
+    let narrow = ["0", "0 1", "0 1 1 1", "0 1 1 1 1"].map(|line| format!("ab\na*\n{line}\n"));
+    let one = [1, 255, 256, 16_384].map(|n| format!("ab\na*\n{}", columns(n, "0")));
+    let all = over.into_iter().chain(narrow).chain(one);
+    all.map(String::into_bytes).collect()
+}
+
+fn costs() -> Vec<Vec<u8>> {
+    let sheet = |cost| format!("a\na*\n0 0\n0 {cost}\n").into_bytes();
+    [1_000_001, 1_000_002, 1_048_577, 9_999_999]
+        .map(sheet)
+        .to_vec()
+}
+
+/// So many columns and letters: (T + 1) × (2L + 1) work words.
+fn work(number: usize, letters: usize) -> Vec<u8> {
+    format!("a\na{{0,{letters}}}\n{}", columns(number, "0 1")).into_bytes()
+}
+
+#[test]
+fn each_number() {
+    for (number, sheets) in refused() {
+        for sheet in sheets {
+            let said = sheet.escape_ascii();
+            assert_eq!(answer(&sheet), format!("refused {number}\n"), "{said}");
+        }
+    }
+}
+
+/// The last that pass: 95 characters, 255 bytes of text, 127 letters, 16 groups, 255 columns.
+#[test]
+fn limits_that_pass() {
+    let all: String = (' '..='~').collect();
+    assert_eq!(answer(format!("{all}\n.?\n").as_bytes()), "0\n\n\n");
+    assert_eq!(answer(&long(255)), "0\n\n0\n");
+    assert_eq!(answer(b"a\na{0,127}\n0 1\n"), "0\n\n0\n");
+    let nested = format!("a\n{}a{}*\n", "(".repeat(16), ")".repeat(16));
+    assert_eq!(answer(nested.as_bytes()), "0\n\n\n");
+    // 16,383 work words twice, then 16,128 and 16,320
+    for (number, letters) in [(128, 63), (126, 64), (255, 31), (63, 127)] {
+        let blanks = vec!["0"; number].join(" ");
+        let printed = format!("0\n\n{blanks}\n");
+        assert_eq!(answer(&work(number, letters)), printed);
+    }
+}
+
+/// The lowest number; among 4 to 8 the leftmost.
+#[test]
+fn first_number() {
+    let rows = [
+        (1, "aa\n\n0\n"),
+        (1, "\n**\n0 0\n9999999 0\n"),
+        (1, "aa\n\u{1}\n"),
+        (2, "ab\n\n0 9999999\n"),
+        (3, "ab\n\u{1f}**c\n0\n"),
+        (4, "ab\n**c\n0\n"),
+        (6, "ab\na{0}c**\n1000001\n"),
+        (7, "ab\n[b-a]c*\n0\n"),
+        (8, "ab\nc**\n0\n"),
+        (9, "ab\na{128}\n0\n"),
+        (12, "ab\naa\n1000001\n"),
+        (13, "ab\naa\n1000001 0 0\n"),
+    ];
+    for (number, sheet) in rows {
+        let printed = format!("refused {number}\n");
+        assert_eq!(answer(sheet.as_bytes()), printed, "{sheet}");
+    }
+    let both = format!("a\na{{32}}\n{}0 1000001\n", columns(254, "0 1"));
+    assert_eq!(answer(both.as_bytes()), "refused 13\n");
+    let neither = format!("a\na{{127}}\n{}", columns(70, "0 1"));
+    assert_eq!(answer(neither.as_bytes()), "refused 15\n");
+}
