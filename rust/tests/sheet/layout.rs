@@ -1,10 +1,9 @@
 //! Row 18: each kind of damage to a sheet, also where another number would apply.
-use crate::process::answer;
 use crate::refusals::{columns, refused};
+use crate::{prints, refuses};
 
-fn is_refused(sheet: &[u8]) {
-    let printed = answer(sheet);
-    assert_eq!(printed, "refused 18\n", "{}", sheet.escape_ascii());
+fn is_refused(input: &[u8]) {
+    refuses(input, 18);
 }
 
 /// Column lines that make no sheet, with `|` between; a newline is written `/`.
@@ -70,26 +69,29 @@ fn every_other_byte() {
     }
 }
 
+/// A sheet of so many equal columns for the first K characters.
+fn wide(k: usize, number: usize) -> Vec<u8> {
+    let alphabet: String = (' '..='~').take(k).collect();
+    let column = vec!["0"; k + 1].join(" ");
+    format!("{alphabet}\n!?\n{}", columns(number, &column)).into_bytes()
+}
+
 /// 16,384 costs are a sheet, whatever Read says of it; one more is none.
 #[test]
 fn too_many_costs() {
-    let all: Vec<char> = (' '..='~').collect();
-    let sheet = |k: usize, number: usize| {
-        let alphabet: String = all[..k].iter().collect();
-        let column = vec!["0"; k + 1].join(" ");
-        answer(format!("{alphabet}\n!?\n{}", columns(number, &column)).as_bytes())
-    };
-    assert_eq!(sheet(63, 255), format!("0\n\n{}\n", ["0"; 255].join(" ")));
-    assert_eq!(sheet(63, 256), "refused 12\n");
-    assert_eq!(sheet(63, 257), "refused 18\n");
-    assert_eq!(sheet(95, 170), format!("0\n\n{}\n", ["0"; 170].join(" ")));
-    assert_eq!(sheet(95, 171), "refused 18\n");
-    let narrow = |number| answer(format!("a\na*\n{}", columns(number, "0")).as_bytes());
-    assert_eq!(narrow(16_384), "refused 12\n");
-    assert_eq!(narrow(16_385), "refused 18\n");
-    let wide = |number| answer(format!("a\na*\n{}\n", vec!["0"; number].join(" ")).as_bytes());
-    assert_eq!(wide(16_384), "refused 12\n");
-    assert_eq!(wide(16_385), "refused 18\n");
+    for (k, number) in [(63, 255), (95, 170)] {
+        let blanks = vec!["0"; number].join(" ");
+        prints(&wide(k, number), &format!("0\n\n{blanks}\n"));
+    }
+    refuses(&wide(63, 256), 12);
+    refuses(&wide(63, 257), 18);
+    refuses(&wide(95, 171), 18);
+    for (number, row) in [(16_384, 12), (16_385, 18)] {
+        let one_each = format!("a\na*\n{}", columns(number, "0"));
+        refuses(one_each.as_bytes(), row);
+        let one_column = format!("a\na*\n{}\n", vec!["0"; number].join(" "));
+        refuses(one_column.as_bytes(), row);
+    }
 }
 
 /// 18 comes first: each sheet that is turned away with another number, damaged.

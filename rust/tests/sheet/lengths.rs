@@ -3,7 +3,7 @@ use crate::process::{answer, answer_chunked};
 use model::sheet;
 use std::time::Duration;
 
-/// A sheet of exactly so many bytes, 3 to 6 for each cost: 170 columns for the 95 characters.
+/// A sheet of exactly so many bytes, 3 to 5 for each cost: 170 columns for the 95 characters.
 fn sheet_of(bytes: usize) -> Vec<u8> {
     let mut sheet: Vec<u8> = (32..=126).chain(*b"\n[a-e]*z?[ !]\n").collect();
     let mut costs = 170 * 96;

@@ -36,7 +36,7 @@ pub fn end(child: &mut Child) -> ExitStatus {
             return status;
         }
         if start.elapsed() > LIMIT {
-            child.kill().unwrap();
+            child.kill().and_then(|()| child.wait()).unwrap();
             panic!("the program did not end by itself within {LIMIT:?}");
         }
         sleep(Duration::from_micros(100));
@@ -53,7 +53,7 @@ pub fn printed(child: &mut Child) -> String {
     stdout.read_to_string(&mut output).expect("plain text");
     let stderr = child.stderr.as_mut().unwrap();
     stderr.read_to_string(&mut errors).expect("plain text");
-    assert_eq!((status.code(), &errors[..]), (Some(0), ""));
+    assert_eq!((status.code(), &errors[..]), (Some(0), ""), "{status}");
     output
 }
 

@@ -24,7 +24,7 @@ fn input(r: &mut Random) -> Vec<u8> {
 fn random_sheets() {
     let mut r = random("random_sheets");
     let mut tally = Tally::default();
-    for _ in 0..5_000 {
+    for _ in 0..4_000 {
         let input = input(&mut r);
         let (number, printed) = sheet::answer(&input);
         tally.add(number);

@@ -1,5 +1,5 @@
 //! Sheets that are sheets, and turned away by Read: each number, and the lowest where several apply.
-use crate::process::answer;
+use crate::{prints, refuses};
 
 /// So many columns, each of them this line.
 pub fn columns(number: usize, line: &str) -> String {
@@ -90,10 +90,7 @@ fn work(number: usize, letters: usize) -> Vec<u8> {
 #[test]
 fn each_number() {
     for (number, sheets) in refused() {
-        for sheet in sheets {
-            let said = sheet.escape_ascii();
-            assert_eq!(answer(&sheet), format!("refused {number}\n"), "{said}");
-        }
+        sheets.iter().for_each(|sheet| refuses(sheet, number));
     }
 }
 
@@ -101,17 +98,28 @@ fn each_number() {
 #[test]
 fn limits_that_pass() {
     let all: String = (' '..='~').collect();
-    assert_eq!(answer(format!("{all}\n.?\n").as_bytes()), "0\n\n\n");
-    assert_eq!(answer(&long(255)), "0\n\n0\n");
-    assert_eq!(answer(b"a\na{0,127}\n0 1\n"), "0\n\n0\n");
+    prints(format!("{all}\n.?\n").as_bytes(), "0\n\n\n");
+    prints(&long(255), "0\n\n0\n");
+    prints(b"a\na{0,127}\n0 1\n", "0\n\n0\n");
     let nested = format!("a\n{}a{}*\n", "(".repeat(16), ")".repeat(16));
-    assert_eq!(answer(nested.as_bytes()), "0\n\n\n");
+    prints(nested.as_bytes(), "0\n\n\n");
     // 16,383 work words twice, then 16,128 and 16,320
     for (number, letters) in [(128, 63), (126, 64), (255, 31), (63, 127)] {
         let blanks = vec!["0"; number].join(" ");
-        let printed = format!("0\n\n{blanks}\n");
-        assert_eq!(answer(&work(number, letters)), printed);
+        prints(&work(number, letters), &format!("0\n\n{blanks}\n"));
     }
+}
+
+/// 127 letters, each followed by each: 16,257 words of form.
+#[test]
+fn largest_form() {
+    let all: String = (' '..='~').collect();
+    let none = format!("{all}\n(.|[ -?])*\n");
+    prints(none.as_bytes(), "0\n\n\n");
+    let column = format!("{}0", "1 ".repeat(95));
+    let tildes = none + &columns(63, &column);
+    let path = ["95"; 63].join(" ");
+    prints(tildes.as_bytes(), &format!("0\n~\n{path}\n"));
 }
 
 /// The lowest number; among 4 to 8 the leftmost.
@@ -132,11 +140,10 @@ fn first_number() {
         (13, "ab\naa\n1000001 0 0\n"),
     ];
     for (number, sheet) in rows {
-        let printed = format!("refused {number}\n");
-        assert_eq!(answer(sheet.as_bytes()), printed, "{sheet}");
+        refuses(sheet.as_bytes(), number);
     }
     let both = format!("a\na{{32}}\n{}0 1000001\n", columns(254, "0 1"));
-    assert_eq!(answer(both.as_bytes()), "refused 13\n");
+    refuses(both.as_bytes(), 13);
     let neither = format!("a\na{{127}}\n{}", columns(70, "0 1"));
-    assert_eq!(answer(neither.as_bytes()), "refused 15\n");
+    refuses(neither.as_bytes(), 15);
 }
