@@ -1,4 +1,5 @@
 -- What was found by a reading, and the unread text behind it. Assumes nothing.
+-- Used by the contracts and 10 files of specs/; in compile.
 use mathlib.Core.Path.{_≡_, refl, ap}
 use mathlib.Core.List.{List, []}
 use mathlib.Core.Bool.{Bool, true, false}

@@ -1,4 +1,5 @@
 -- A set of labels as letters: the labels written one by one, and the range of letters that they take. Assumes nothing.
+-- Used by the contracts, the proofs, PieceTurns and Whole.
 use Prim.Native.Nat.{ℕ, zero, suc, _+_, _-_, _≤_, _<_}
 use mathlib.Core.Path.{_≡_, refl, sym, ap, _∙_}
 use mathlib.Core.Logic.{_⊎_, inl, inr}

@@ -1,5 +1,6 @@
 -- A part of the text that was read from a place on; and what alternations and branches are made of, by the steps of their reading.
 -- Assumes nothing.
+-- Used by the proofs and 4 files of specs/.
 use mathlib.Core.Path.{_≡_, refl, sym, ap, subst, _∙_}
 use mathlib.Core.List.{List, []}
 use mathlib.Core.Bool.{Bool, true, false}

@@ -1,5 +1,6 @@
 -- What a piece and a group are made of, by the steps of their reading: copies of a group, a set, or an alternation in parentheses.
 -- Assumes nothing.
+-- Used by the proofs, BranchTurns and PieceTurns.
 use mathlib.Core.Path.{_≡_, refl, sym, ap, subst, _∙_}
 use mathlib.Core.List.{List}
 use mathlib.Core.Bool.{Bool, true, false}

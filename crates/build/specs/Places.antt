@@ -1,4 +1,5 @@
 -- The part of a text that is read at a place, where one is. Assumes nothing.
+-- Used by the contracts and 6 files of specs/.
 use mathlib.Core.Path.{_≡_}
 use mathlib.Core.List.{List}
 use mathlib.Core.Bool.{true}

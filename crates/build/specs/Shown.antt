@@ -1,5 +1,6 @@
 -- What the arrays of a part that was built say of its letters, and how parts put together say it: index i stands for the letter of number
 -- i + 1. Assumes nothing.
+-- Used by the contracts, the proofs and 4 files of specs/.
 use Prim.Native.Nat.{ℕ, suc, _+_, _≤_}
 use mathlib.Core.Path.{_≡_, refl, sym, ap, ap₂, subst, _∙_}
 use mathlib.Core.Bool.{Bool, true, false, _&&_, _||_, or-assoc, or-false}

@@ -1,4 +1,5 @@
 -- What the answers of `tokens` say of a repetition or a set that was found. Assumes nothing.
+-- Used by the proofs.
 use mathlib.Core.Path.{_≡_, sym, ap, _∙_}
 use mathlib.Core.List.{List}
 use mathlib.Core.Bool.{Bool, true, false}

@@ -1,4 +1,5 @@
 -- The whole text as it is built: the arrays tell the automaton of its tree. Assumes nothing.
+-- Used by the contracts and the proofs; in compile.
 use Prim.Native.Nat.{ℕ, zero, suc, _-_, _≤_}
 use mathlib.Core.Path.{_≡_, refl, sym, ap, _∙_}
 use mathlib.Core.Bool.{Bool, true, false, _||_}

@@ -1,5 +1,6 @@
 -- What Compile makes of an alphabet and a text: the form of its expression, or the refusal that applies (document 01, "What is turned
 -- away", rows 1 to 10). Assumes nothing.
+-- Used by the contracts, the proofs and 5 files of specs/; in kavurehy, layout and reader.
 use Prim.Native.Nat.{ℕ}
 use mathlib.Core.Path.{_≡_}
 use mathlib.Core.Bool.{Bool, true, false, not, _&&_, _||_}

@@ -1,4 +1,5 @@
 -- Past rows 1 to 3: what the checking parser's answer says of the text, and what is then left to fill. Assumes nothing.
+-- Used by the contracts and the proofs.
 use Prim.Native.Nat.{ℕ, _≤_, _<_}
 use mathlib.Core.Path.{_≡_, refl, sym, ap, _∙_}
 use mathlib.Core.Bool.{Bool, true, false}

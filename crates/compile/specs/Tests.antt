@@ -1,4 +1,5 @@
 -- Rows 1, 2 and 3, test by test. Assumes nothing.
+-- Used by the proofs.
 use Prim.Native.Nat.{ℕ, _<_, _≤_}
 use mathlib.Core.Path.{_≡_, refl, sym, ap, _∙_}
 use mathlib.Core.Bool.{Bool, true, false, not, _&&_, and-false}

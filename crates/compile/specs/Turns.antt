@@ -1,4 +1,5 @@
 -- The alphabet's test for equal bytes, turn by turn, and the checks of the text one by one. Assumes nothing.
+-- Used by the proofs.
 use Prim.Native.Nat.{ℕ, zero, suc, _+_, _<_, _≤_}
 use mathlib.Core.Path.{_≡_, refl, sym, ap, ap₂, _∙_}
 use mathlib.Core.Bool.{Bool, true, false, not, _&&_, _||_}

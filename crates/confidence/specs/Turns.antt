@@ -1,4 +1,5 @@
 -- What the code's steps compute, over plain numbers and lists. Assumes nothing.
+-- Used by the proofs.
 use Prim.Native.Nat.{ℕ, zero, suc, _+_, _*_, _-_, _^_, _≤_, _<_}
 use mathlib.Core.Path.{_≡_, refl, sym, ap, ap₂, _∙_}
 use mathlib.Core.Bool.{Bool, true, false}

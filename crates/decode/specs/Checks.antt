@@ -1,5 +1,6 @@
 -- The checks of Decode, in their order (document 01, "What is turned away", rows 11 to 15), and what each means where it does not hold.
 -- Assumes nothing.
+-- Used by the contracts, the proofs, Passing, Phases and Promise; in kavurehy, layout and reader.
 use Prim.Native.Nat.{ℕ, _+_, _*_, _≤_}
 use mathlib.Core.Path.{_≡_}
 use mathlib.Core.Bool.{Bool, true, false, not, _||_}

@@ -1,4 +1,5 @@
 -- The checks one by one: which refusal is given, and what is known of an input that passes them all. Assumes nothing.
+-- Used by the contracts, the proofs and Phases; in kavurehy and reader.
 use Prim.Native.Nat.{ℕ, _+_, _*_, _<_, _≤_}
 use mathlib.Core.Path.{_≡_, refl, sym, ap, _∙_}
 use mathlib.Core.Bool.{Bool, true, false, not, _||_}

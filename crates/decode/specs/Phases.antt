@@ -1,4 +1,5 @@
 -- From the two phases, the table of costs to go and the trace through it, to Decode's answer. Assumes nothing.
+-- Used by the proofs.
 use Prim.Native.Nat.{ℕ, _+_, _*_, _≤_, _<_}
 use mathlib.Core.Path.{_≡_, refl, sym, ap, ap₂, _∙_, subst}
 use mathlib.Core.Option.{some, none}

@@ -1,4 +1,5 @@
 -- What Decode promises (demand 3, of every valid form), for any set of words. Assumes nothing.
+-- Used by the contracts, the proofs and Phases; in kavurehy, layout and reader.
 use Prim.Native.Nat.{ℕ}
 use mathlib.Core.Path.{_≡_, refl}
 use mathlib.Core.Option.{Option, some, none}

@@ -1,4 +1,5 @@
 -- The matrix that a view lends: its costs, its column width and its column count. Assumes nothing.
+-- Used by the contracts and the proofs; in reader.
 use denote.Ref.{now}
 use Rattle.reading.specs.Matrix.{Matrix, matrix}
 use Rattle.decode.specs.declared.Matrix.{Matrix as View}

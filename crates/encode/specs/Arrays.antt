@@ -1,5 +1,6 @@
 -- The automaton that arrays stand for, and what writing its form makes of the lent memory (document 01, "Opening and the compiled form",
 -- and row 10 of its table). Assumes nothing.
+-- Used by the contracts, the proofs, Parts, Turns and Whole; in build and compile.
 use Prim.Native.Nat.{ℕ, _-_, _≤_}
 use mathlib.Core.Path.{_≡_, refl}
 use mathlib.Core.Bool.{Bool, true, false, _&&_}

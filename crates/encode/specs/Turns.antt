@@ -1,4 +1,5 @@
 -- What is still to be counted or written at one of the letters, and what its turn takes from that. Assumes nothing.
+-- Used by the proofs; in build.
 use Prim.Native.Nat.{ℕ, _+_, _-_, _<_, _≤_}
 use mathlib.Core.Path.{_≡_, refl, sym, ap, _∙_}
 use mathlib.Core.Bool.{Bool, true, false}

@@ -1,5 +1,6 @@
 -- The reading finds the tree of every text that has one; so a whole text is read to a tree exactly when it is a text of that tree.
 -- Assumes nothing.
+-- Used by Leftmost and Together; in compile.
 use mathlib.Core.Path.{_≡_, refl, sym, ap, _∙_}
 use mathlib.Core.Logic.{_↔_, _⊎_, inl, inr}
 use mathlib.Core.List.{List, [], _∷_, _++_, append-assoc, append-nil}

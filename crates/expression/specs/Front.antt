@@ -1,5 +1,6 @@
 -- What is found, and where a fault stands, as facts on texts: the text in front of the rest is a text of the tree, and the text in front
 -- of a fault can be continued to one; and how these are put together. Assumes nothing.
+-- Used by 4 files of specs/; in build and parse.
 use mathlib.Core.Path.{_≡_, refl, sym, ap, _∙_}
 use mathlib.Core.List.{List, [], _∷_, _++_, append-assoc, append-nil}
 use mathlib.Core.Bool.{Bool, true, false}

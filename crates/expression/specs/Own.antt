@@ -1,4 +1,5 @@
 -- What is read from its own bytes alone, whatever stands behind them, and what is refused at its first byte. Assumes nothing.
+-- Used by 8 files of specs/; in build.
 use mathlib.Core.Path.{_≡_, refl, ap, _∙_}
 use mathlib.Core.Option.{Option, some, none}
 use mathlib.Core.List.{List, [], _∷_, _++_}

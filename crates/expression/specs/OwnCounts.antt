@@ -1,5 +1,6 @@
 -- A repetition is read from its own bytes alone, in front of anything but a `?`, and its counts are in range, or it is refused at its
 -- first byte. The modifier changes nothing. Assumes nothing.
+-- Used by 5 files of specs/; in build and positions.
 use mathlib.Core.Path.{_≡_, refl, sym, ap, _∙_}
 use mathlib.Core.Option.{Option, some, none}
 use mathlib.Core.List.{List, [], _∷_, _++_, append-assoc, append-nil}

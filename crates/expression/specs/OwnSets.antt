@@ -1,4 +1,5 @@
 -- A set is read from its own bytes alone and has a label, or is refused at its first byte. Assumes nothing.
+-- Used by 4 files of specs/.
 use mathlib.Core.Path.{_≡_, refl, sym, subst}
 use mathlib.Core.Option.{some}
 use mathlib.Core.List.{List, [], _∷_}

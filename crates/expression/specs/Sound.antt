@@ -1,4 +1,5 @@
 -- What a reading says, by its steps: what is found has a text, and what stands in front of a fault can be continued. Assumes nothing.
+-- Used by Exact, Leftmost and Steps; in build and parse.
 use mathlib.Core.Path.{_≡_, refl}
 use mathlib.Core.List.{List}
 use mathlib.Core.Bool.{true}

@@ -1,4 +1,5 @@
 -- The reading goes forward, and `read` is the one function that satisfies its equation. Assumes nothing.
+-- Used by Exact; in build and parse.
 use mathlib.Core.Path.{_≡_, refl, sym, ap, _∙_}
 use mathlib.Core.List.{List, [], _∷_}
 use mathlib.Core.Bool.{true}

@@ -1,5 +1,6 @@
 -- What the call Judge makes of a form and a word: accepted or not, or the refusal that applies (document 01, "What is turned away",
 -- rows 11 and 17), and what it reports. Assumes nothing.
+-- Used by the contracts and the proofs; in kavurehy.
 use Prim.Native.Nat.{ℕ, _≤_}
 use mathlib.Core.Path.{_≡_, refl, ap, _∙_}
 use mathlib.Core.Bool.{Bool, true, false, not}

@@ -1,5 +1,6 @@
 -- Sets of letters, 0 for 'no letter yet': what it means to take a set on by one label, and how this decides which words are accepted.
 -- Assumes nothing.
+-- Used by the contracts and the proofs.
 use Prim.Native.Nat.{ℕ, zero, suc, _+_, _<_, _≤_}
 use mathlib.Core.Path.{_≡_, refl, sym, ap, subst, _∙_}
 use mathlib.Core.Bool.{Bool, true, false}

@@ -1,4 +1,5 @@
 -- The lengths that the calls report fit 32 bits. Assumes nothing.
+-- Used by the proofs.
 use Prim.Native.Nat.{ℕ, _*_, _^_, _<_, _≤_}
 use mathlib.Core.Path.{_≡_, refl, ap}
 use mathlib.Core.Bool.{Bool, true, false, not, _||_}

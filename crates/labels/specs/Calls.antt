@@ -1,5 +1,6 @@
 -- What the calls Collapse and Spread make of their input: a list of labels, or the refusal that applies (document 01, "What is turned
 -- away", rows 14 and 17). Assumes nothing.
+-- Used by the contracts, the proofs, Faults and Turns; in form and kavurehy.
 use Prim.Native.Nat.{ℕ}
 use mathlib.Core.Path.{_≡_, refl, ap}
 use mathlib.Core.Bool.{Bool, true, false, not, _&&_, _||_}

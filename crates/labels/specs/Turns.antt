@@ -1,4 +1,5 @@
 -- What one turn of each loop of this crate does, over plain lists. Assumes nothing.
+-- Used by the proofs; in kavurehy.
 use Prim.Native.Nat.{ℕ, zero, suc, _+_, _<_, _≤_}
 use mathlib.Core.Path.{_≡_, refl, sym, ap, _∙_}
 use mathlib.Core.Bool.{Bool, true, false, cond, or-true}

@@ -1,6 +1,7 @@
 -- What the sheet program prints for the bytes of its input (document 01, "Confidences and the sheet program" and "What is turned away"):
 -- "18 comes first; else the lowest number", and past the checks the best reading of the matrix, or 16 where there is none.
 -- No memory is in it. Assumes nothing.
+-- Used by the contracts, the proofs and 4 files of specs/.
 use Prim.Native.Nat.{ℕ}
 use mathlib.Core.Path.{_≡_, sym, ap, _∙_}
 use mathlib.Core.Option.{Option, some, none}

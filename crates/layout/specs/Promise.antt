@@ -1,4 +1,5 @@
 -- What the call asks and promises of lent memory. Assumes nothing.
+-- Used by the contracts, the proofs and Steps.
 use Prim.Native.Nat.{ℕ, _≤_}
 use mathlib.Core.Path.{_≡_, sym, ap, _∙_}
 use mathlib.Core.List.{List}

@@ -1,4 +1,5 @@
 -- From what the scan of an input promises to what is printed for it. Assumes nothing.
+-- Used by the proofs.
 use Prim.Native.Nat.{ℕ, _+_, _-_, _*_, _≤_}
 use mathlib.Core.Path.{_≡_, refl, sym, ap, ap₂, _∙_}
 use mathlib.Core.Option.{Option, some, none}

@@ -1,4 +1,5 @@
 -- From what Read promises to what is printed. Assumes nothing.
+-- Used by the proofs.
 use Prim.Native.Nat.{ℕ, _-_, _≤_}
 use mathlib.Core.Path.{_≡_, refl, sym, ap, _∙_, subst}
 use mathlib.Core.Option.{Option, some, none}

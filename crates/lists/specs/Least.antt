@@ -1,5 +1,6 @@
 -- The least of all that is offered, and of a top that stands for 'nothing below is offered'; how a loop over an index finds it.
 -- Assumes nothing.
+-- Used in table, trace and trellis.
 use Prim.Native.Nat.{ℕ, _+_, _<_, _≤_, min}
 use mathlib.Core.Path.{_≡_, refl, subst}
 use mathlib.Core.Logic.{_⊎_, inl, inr, ⊎-elim}
@@ -72,9 +73,3 @@ module _ {top : ℕ} where
         split : (n : ℕ) → Among a (k + 1) Q n → Among a k Q n ⊎ Q k n
         split n o =
             ⊎-elim (λ e. inr (subst (λ i. Q i n) e (o .3))) (λ d. inl (o .0, o .1, (let i = o .2 in omega arith), o .3)) (eq-or-ne (o .0) k)
-
-    pub least-skip : {k v : ℕ} → a ≤ k → Least top (Among a k Q) v → ((n : ℕ) → Q k n → ⊥) → Least top (Among a (k + 1) Q) v
-    least-skip {k} {v} h l f =
-        let i = l .within in
-        let e : min v top ≡ v = omega arith in
-        rw e at (least-more h l (least-none (Q k) f))

@@ -1,4 +1,5 @@
 -- A number from one to another. Assumes nothing.
+-- Used in automaton, compile, encode, form, kavurehy and labels.
 use Prim.Native.Nat.{ℕ, _<_, _≤_}
 use mathlib.Core.Path.{_≡_}
 use mathlib.Core.Bool.{Bool, true, false, _&&_, and-false}

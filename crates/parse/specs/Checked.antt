@@ -1,4 +1,5 @@
 -- What the checking parser answers: the letters of the expression, up to 128, or the refusal of its leftmost fault. Assumes nothing.
+-- Used by the contracts, the proofs and Examples; in compile.
 use mathlib.Core.Path.{_≡_, sym, ap, _∙_}
 use mathlib.Core.List.{List}
 use Prim.Native.Nat.{ℕ, _≤_, _<_}

@@ -1,4 +1,5 @@
 -- What each function of the cycle answers, from what the functions that it calls answer: one lemma for each return. Assumes nothing.
+-- Used by the proofs.
 use mathlib.Core.Path.{_≡_, refl, sym, ap, ap₂, _∙_}
 use mathlib.Core.List.{List}
 use mathlib.Core.Bool.{Bool, true, false, cond}

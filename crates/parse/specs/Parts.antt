@@ -1,4 +1,5 @@
 -- The parts of a text at their places, as the parser answers them, and what a part that was read says. Assumes nothing.
+-- Used by the contracts, the proofs, Checked and Cycle.
 use mathlib.Core.Path.{_≡_, refl, sym, ap, _∙_}
 use mathlib.Core.List.{List}
 use mathlib.Core.Bool.{true, cond}

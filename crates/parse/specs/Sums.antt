@@ -1,4 +1,5 @@
 -- Sums and products counted up to 128. Assumes nothing.
+-- Used by the proofs and Cycle.
 use mathlib.Core.Path.{_≡_, refl, ap}
 use Prim.Native.Nat.{ℕ, zero, suc, _*_, _≤_, _<_}
 use native.Mathlib.Omega.{arith}

@@ -1,5 +1,6 @@
 -- The compiled form of a tree (document 01, "Opening and the compiled form"): it is valid, and stands for the tree's words.
 -- Assumes nothing.
+-- Used by Examples; in compile.
 use Prim.Native.Nat.{ℕ, _≤_}
 use mathlib.Core.Path.{_≡_, _∙_}
 use mathlib.Core.Logic.{_↔_, Iff·trans, Iff·symm}

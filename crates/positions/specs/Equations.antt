@@ -1,5 +1,6 @@
 -- The numbered letters part by part, as equations: for each shape, for a set of labels as a whole, and for a repetition copy by copy;
 -- and what a repetition keeps. Assumes nothing.
+-- Used by Exact, FirstLast and Marked; in build.
 use Prim.Native.Nat.{ℕ, zero, suc, _+_, _-_, _≤_, _<_}
 use mathlib.Core.Path.{_≡_, refl, sym}
 use mathlib.Core.Logic.{_⊎_, inl, inr}
@@ -21,31 +22,6 @@ letters-joining r s = length-append (labels r) (labels s)
 pub letters-alternation : (r s : Opened) → letters (alternation r s) ≡ letters r + letters s
 unfolding labels
 letters-alternation r s = length-append (labels r) (labels s)
-
-module _ (n : ℕ) where
-  pub numbered-letter : (a : ℕ) → numbered n (letter a) ≡ single n
-  unfolding numbered
-  numbered-letter a = refl
-
-  pub numbered-joining : (r s : Opened) → numbered n (joining r s) ≡ joint (numbered n r) (numbered (n + letters r) s)
-  unfolding numbered
-  numbered-joining r s = refl
-
-  pub numbered-alternation : (r s : Opened) → numbered n (alternation r s) ≡ choice (numbered n r) (numbered (n + letters r) s)
-  unfolding numbered
-  numbered-alternation r s = refl
-
-  pub numbered-optional : (r : Opened) → numbered n (optional r) ≡ perhaps (numbered n r)
-  unfolding numbered
-  numbered-optional r = refl
-
-  pub numbered-star : (r : Opened) → numbered n (star r) ≡ perhaps (again (numbered n r))
-  unfolding numbered
-  numbered-star r = refl
-
-  pub numbered-plus : (r : Opened) → numbered n (plus r) ≡ again (numbered n r)
-  unfolding numbered
-  numbered-plus r = refl
 
 -- the same letters, first, last and arcs
 pub record Same (p q : Positions) : Type 0 where

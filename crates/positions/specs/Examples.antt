@@ -1,4 +1,5 @@
 -- Some expressions with their letters, computed. Assumes nothing.
+-- Computed examples: nothing leans on them.
 use Prim.Native.Nat.{ℕ}
 use Prim.Native.Char.{code}
 use mathlib.Core.Path.{_≡_, refl}

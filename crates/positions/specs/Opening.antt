@@ -1,4 +1,5 @@
 -- Opening keeps the set of words. Assumes nothing.
+-- Used by Exact.
 use Prim.Native.Nat.{ℕ, zero, suc, _+_, _-_, _≤_}
 use mathlib.Core.Path.{_≡_, refl, ap}
 use mathlib.Core.Logic.{inl, inr, _↔_}

@@ -1,4 +1,5 @@
 -- What the sheet program prints (document 01, "Output in full"), as bytes. Assumes nothing.
+-- Used by the contracts, the proofs, Decimal and Pieces; in layout.
 use Prim.Native.Nat.{ℕ, zero, suc, _+_, _/_, _%_}
 use Prim.Native.Char.{code}
 use mathlib.Core.Path.{_≡_, refl}

@@ -1,4 +1,5 @@
 -- Two pieces written one behind the other, and how long the printed lines can be. Assumes nothing.
+-- Used by the proofs.
 use Prim.Native.Nat.{ℕ, suc, _+_, _*_, _<_, _≤_}
 use mathlib.Core.Path.{_≡_, refl, ap}
 use mathlib.Core.List.{List, [], _∷_, _++_, append-nil, flatMap}

@@ -1,4 +1,5 @@
 -- What Read promises: demand 3, by the expression's words. Assumes nothing.
+-- Used by the contracts, the proofs, Demands, Spelling and Steps; in kavurehy and layout.
 use Prim.Native.Nat.{ℕ, _-_}
 use mathlib.Core.Path.{_≡_}
 use mathlib.Core.List.{List, map}

@@ -1,4 +1,5 @@
 -- A word's labels replaced by their characters, in place. Assumes nothing.
+-- Used by the contracts, the proofs and Steps.
 use Prim.Native.Nat.{ℕ, zero, suc, _+_, _-_, _≤_, _<_}
 use mathlib.Core.Path.{_≡_, refl, sym, ap, _∙_}
 use mathlib.Core.List.{List, [], _∷_, map}

@@ -1,4 +1,5 @@
 -- From Decode's answer to Read's: the word as characters, and the form's words as those of the text. Assumes nothing.
+-- Used by the proofs; in layout.
 use Prim.Native.Nat.{ℕ, zero, suc, _+_, _-_, _≤_, _<_}
 use mathlib.Core.Path.{_≡_, refl, sym, ap, ap₂, _∙_, subst}
 use mathlib.Core.Option.{Option, some, none}

@@ -1,4 +1,5 @@
 -- The best of all that qualify: none costs less, and of those that cost the same it comes first. Assumes nothing.
+-- Used by 4 files of specs/; in trellis.
 use Prim.Native.Nat.{ℕ, _≤_}
 use mathlib.Core.Path.{_≡_, refl, sym}
 use native.Mathlib.Omega.{arith}

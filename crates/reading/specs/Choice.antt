@@ -1,4 +1,5 @@
 -- Of two outcomes the better one, and that it is the outcome of both sets together. Assumes nothing.
+-- Used by Exhaustive; in reader.
 use Prim.Native.Nat.{ℕ, zero, suc, _+_, _≤_, _<_}
 use mathlib.Core.Path.{_≡_, refl, sym, ap, _∙_}
 use mathlib.Core.Bool.{Bool, true, false, _&&_, _||_}

@@ -1,4 +1,5 @@
 -- The order of paths: by labels, from the first column. Assumes nothing.
+-- Used by 4 files of specs/; in reader and trellis.
 use Prim.Native.Nat.{ℕ, _<_, _≤_}
 use mathlib.Core.Path.{_≡_, refl, sym, ap, ap₂}
 use mathlib.Core.List.{List, [], _∷_}

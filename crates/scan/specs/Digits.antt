@@ -1,4 +1,5 @@
 -- The digits at a place of a sheet, and the cost that they make with what stands behind them. Assumes nothing.
+-- Used by the contracts, the proofs and Storing.
 use mathlib.Core.Path.{_≡_, refl, sym, ap, ap₂, _∙_}
 use mathlib.Core.Option.{some, none}
 use mathlib.Core.List.{List, [], _∷_, _++_, append-assoc, append-nil}

@@ -1,4 +1,5 @@
 -- What storing the whole matrix answers: the first column line gives the width that the others must have. Assumes nothing.
+-- Used by the contracts, the proofs and Whole.
 use mathlib.Core.Path.{_≡_, refl, sym, ap, _∙_}
 use mathlib.Core.Option.{some}
 use mathlib.Core.List.{List, [], _∷_, _++_, flatten}

@@ -1,4 +1,5 @@
 -- Where the parts of a sheet are in its input, and how many costs it has: what a caller of `scan` relies on. Assumes nothing.
+-- Used in layout.
 use mathlib.Core.Path.{_≡_, refl, ap, _∙_, subst}
 use mathlib.Core.Option.{Option, some, none}
 use mathlib.Core.List.{List, [], _∷_, flatten}
@@ -94,9 +95,6 @@ module _ (input : List ℕ) (S : Sheet) (is : sheetOf input ≡ some S) where
 
   second : FirstLine (first .behind) (S .text) (lines .others)
   second = lines-back (first .behind) (S .text) (lines .others) (first .others)
-
-  pub sheet-short : length input ≤ 65535
-  sheet-short = lines .short
 
   -- the alphabet line, the expression line and their newlines lie within the input
   pub sheet-within : length (S .alphabet) + 1 + length (S .text) + 1 ≤ length input

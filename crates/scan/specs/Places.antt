@@ -1,4 +1,5 @@
 -- The part of an input from one place up to another, and where a line ends. Assumes nothing.
+-- Used by the contracts, the proofs, Digits and Whole.
 use mathlib.Core.Path.{_≡_, sym, ap, _∙_}
 use mathlib.Core.List.{List, [], _∷_, _++_}
 use Prim.Native.Nat.{ℕ, suc, _+_, _-_, _<_, _≤_}

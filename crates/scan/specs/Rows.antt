@@ -1,5 +1,6 @@
 -- The columns that the rest of a sheet holds, from any place on: what the rest's first line or first number makes of them.
 -- Assumes nothing.
+-- Used by 6 files of specs/.
 use mathlib.Core.Path.{_≡_, refl, sym, ap, _∙_}
 use mathlib.Core.Option.{Option, some, none}
 use mathlib.Core.List.{List, [], _∷_, _++_, append-assoc, append-nil}

@@ -1,5 +1,6 @@
 -- The candidates of a column: for each letter the cost of its label, and what there is to pay behind it by the row of the next column.
 -- Assumes nothing.
+-- Used by the contracts, the proofs, Fill, Letters and Rows.
 use Prim.Native.Nat.{ℕ, zero, suc, _+_, _*_, _-_, _<_, _≤_}
 use mathlib.Core.Path.{_≡_, refl, sym, subst, _∙_}
 use mathlib.Core.Logic.{_⊎_, inl, inr}

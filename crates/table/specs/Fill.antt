@@ -1,4 +1,5 @@
 -- The whole table, filled from the last row to the first. Assumes nothing.
+-- Used by the contracts and the proofs; in decode.
 use Prim.Native.Nat.{ℕ, _+_, _*_, _-_, _<_, _≤_}
 use mathlib.Core.Path.{_≡_, refl, subst, _∙_}
 use mathlib.Core.Logic.{_⊎_, inl, inr}

@@ -1,5 +1,6 @@
 -- The two states of a letter in a row, by the candidates and the row of the next column; and those of all letters, one behind another.
 -- Assumes nothing.
+-- Used by the contracts, the proofs and Rows.
 use Prim.Native.Nat.{ℕ, _+_, _*_, _-_, _<_, _≤_, min}
 use mathlib.Core.Path.{_≡_, ap, _∙_}
 use mathlib.Core.Logic.{_⊎_, inl, inr}

@@ -1,5 +1,6 @@
 -- What the candidates of a column offer along a letter's arcs, and to the letters that may be first: index by index of the loops that
 -- look for the least. Assumes nothing.
+-- Used by the contracts, the proofs, Column, Letters and Rows.
 use Prim.Native.Nat.{ℕ, _+_, _<_, _≤_, min}
 use mathlib.Core.Path.{_≡_, refl, sym, ap, _∙_}
 use mathlib.Core.Bool.{Bool, true, false, cond}

@@ -1,5 +1,6 @@
 -- A row of the table from the row of the next column, with the places of both as separate numbers; and the last row.
 -- Assumes nothing.
+-- Used by the contracts, the proofs and Fill.
 use Prim.Native.Nat.{ℕ, _+_, _*_, _-_, _/_, _<_, _≤_, min}
 use mathlib.Core.Path.{_≡_, sym, ap, ap₂, subst, _∙_}
 use mathlib.Core.Logic.{_⊎_, inl, inr}

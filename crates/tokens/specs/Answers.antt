@@ -1,4 +1,5 @@
 -- What the functions of this crate and of `parse` answer, by the definitions of `expression`. Assumes nothing.
+-- Used by the contracts, the proofs and 5 files of specs/; in build, compile and parse.
 use mathlib.Core.Path.{_≡_}
 use mathlib.Core.Option.{Option, some, none}
 use mathlib.Core.List.{List, []}

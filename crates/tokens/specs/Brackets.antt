@@ -1,4 +1,5 @@
 -- The bracket at a place of a text: its first item and its closing `]`, its end and its members. Assumes nothing.
+-- Used by the contracts, the proofs and Sets.
 use mathlib.Core.Path.{_≡_, refl, sym, ap, _∙_}
 use mathlib.Core.Option.{Option, some, none}
 use mathlib.Core.List.{List, _∷_}

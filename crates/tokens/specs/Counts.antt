@@ -1,4 +1,5 @@
 -- What stands in braces: a number by its digits, and a count with or without a comma. Assumes nothing.
+-- Used by the contracts, the proofs and Signs.
 use mathlib.Core.Path.{_≡_, refl, sym, ap, ap₂, _∙_}
 use mathlib.Core.Option.{Option, some, none}
 use mathlib.Core.List.{List, [], _∷_}

@@ -1,5 +1,6 @@
 -- What is left inside a bracket begins with an item: its range, how many bytes it takes, and whether it may stand there; the rule of
 -- `items` by that. Assumes nothing.
+-- Used by the contracts and the proofs.
 use mathlib.Core.Path.{_≡_, refl, sym, ap, _∙_}
 use mathlib.Core.Option.{Option, some, none}
 use mathlib.Core.List.{List, [], _∷_}

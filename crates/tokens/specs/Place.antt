@@ -1,4 +1,5 @@
 -- A text from a place on: its first byte, the first such byte in it, and the place where it begins. Assumes nothing.
+-- Used by the contracts, the proofs and 6 files of specs/; in build and parse.
 use mathlib.Core.Path.{_≡_, refl, sym, ap, _∙_}
 use mathlib.Core.Option.{Option, some, none}
 use mathlib.Core.List.{List, [], _∷_, _++_}

@@ -1,4 +1,5 @@
 -- The set at a place of a text, by its first byte: its end, its members, its labels. Assumes nothing.
+-- Used by the proofs.
 use mathlib.Core.Path.{_≡_, refl, sym, ap, ap₂, _∙_}
 use mathlib.Core.List.{List, [], _∷_}
 use mathlib.Core.Bool.{Bool, true, false, cond, _&&_, or-false}

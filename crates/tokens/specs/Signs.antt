@@ -1,4 +1,5 @@
 -- The repetition at a place of a text: its sign or its braces, one `?` behind it, and its end. Assumes nothing.
+-- Used by the contracts and the proofs.
 use mathlib.Core.Path.{_≡_, refl, sym, ap, ap₂, _∙_}
 use mathlib.Core.Option.{Option, some, none}
 use mathlib.Core.List.{List, []}

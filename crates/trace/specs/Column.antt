@@ -1,5 +1,6 @@
 -- One column of the trace, by its costs and the next row of costs to go: the label that a reached state offers if it keeps to the price,
 -- the lowest of these, and the states of that label. Assumes nothing.
+-- Used by the contracts, the proofs and Traced.
 use Prim.Native.Nat.{ℕ, _*_, _-_, _≤_, _<_}
 use mathlib.Core.Path.{_≡_, refl, sym, ap, _∙_, subst}
 use mathlib.Core.Bool.{Bool, true, false}

@@ -1,5 +1,6 @@
 -- The states that a step from a state leads to, as the code marks them: the state itself, the blanks after its letter, and the letters
 -- that may stand behind it and whose label is not barred. Assumes nothing.
+-- Used by the contracts, the proofs, Column and Traced.
 use Prim.Native.Nat.{ℕ, _+_, _*_, _-_, _/_, _%_, _≤_, _<_}
 use mathlib.Core.Path.{_≡_, refl, sym, _∙_, subst}
 use mathlib.Core.Bool.{Bool, true, false}

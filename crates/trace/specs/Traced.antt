@@ -1,5 +1,6 @@
 -- The whole trace: what it relies on, what it promises of the path memory, and where it stands before each column.
 -- Assumes nothing.
+-- Used by the contracts and the proofs; in decode.
 use Prim.Native.Nat.{ℕ, _+_, _*_, _-_, _≤_, _<_}
 use mathlib.Core.Path.{_≡_, refl, sym, ap, ap₂, _∙_, subst}
 use mathlib.Core.Bool.{true, false}

@@ -1,5 +1,6 @@
 -- One mark for the impossible: a price that no path of usable costs reaches. A sum that stops at it takes a cost above it, hence a
 -- barred one, as impossible. Assumes nothing.
+-- Used by 6 files of specs/; in decode, table and trace.
 use Prim.Native.Nat.{ℕ, _+_, _*_, _≤_, _<_, min}
 use mathlib.Core.Path.{_≡_, refl}
 use mathlib.Core.List.{List, [], _∷_}
@@ -14,14 +15,6 @@ TOP = 1000000000
 -- a cost, and a price behind it
 abbrev pub plus : ℕ → ℕ → ℕ
 plus c v = min TOP (c + v)
-
--- the same, found by a sum that fits 32 bits where v is at most TOP
-pub record Summed (c v : ℕ) : Type 0 where
-  pub fits : min c TOP + v < 4294967296
-  pub is : min TOP (min c TOP + v) ≡ plus c v
-
-pub summed : (c v : ℕ) → v ≤ TOP → Summed c v
-summed c v h = record { fits = omega arith; is = omega arith }
 
 example-sum : plus 3 4 ≡ 7
 example-sum = refl

@@ -1,5 +1,6 @@
 -- One column of the trace through extended states: the states that a step from the set leads to, those of them that keep to the price,
 -- and the lowest label among these. Assumes nothing.
+-- Used in trace.
 use Prim.Native.Nat.{ℕ, _+_, _*_, _-_, _/_, _%_, _≤_}
 use mathlib.Core.Path.{_≡_, refl, sym, ap, _∙_, subst}
 use mathlib.Core.Bool.{true, cond}
@@ -37,43 +38,6 @@ step-entering A s x u (leave i j o f e o′) = e ∙ sym (entering-letter A j u 
 abbrev pub Reached : Automaton → (ℕ → Type 0) → ℕ → Type 0
 Reached A In u = (s : ℕ) × In s × Step A s (entering A u) u
 
--- letter i may be left for letter j from the set: from its blanks, or from itself to another label
-abbrev pub Leaves : Automaton → (ℕ → Type 0) → (i j : ℕ) → Type 0
-Leaves A In i j = In (2 * i) ⊎ ((1 ≤ i) × In (2 * i - 1) × (A .label i ≡ A .label j → ⊥))
-
--- blanks are reached from themselves and from their letter
-pub reached-blanks : (A : Automaton) (In : ℕ → Type 0) (i u : ℕ) → InBlanks i u → Reached A In u ↔ (In u ⊎ ((1 ≤ i) × In (2 * i - 1)))
-reached-blanks A In i u o = (λ r. split (r .0) (r .1) (r .2), go)
-  where
-    go : In u ⊎ ((1 ≤ i) × In (2 * i - 1)) → Reached A In u
-    go (inl h) = (u, h, rest i o (entering-blanks A i u o) o)
-    go (inr h) = (2 * i - 1, h .1, pass i (let p = h .0 in omega arith) (entering-blanks A i u o) o)
-
-    split : (s : ℕ) → In s → Step A s (entering A u) u → In u ⊎ ((1 ≤ i) × In (2 * i - 1))
-    split s h (stay j d e d′) = absurd (omega arith)
-    split s h (pass j d e d′) = inr (omega arith, subst In (omega arith) h)
-    split s h (arc i′ j d f n e d′) = absurd (omega arith)
-    split s h (rest j d e d′) = inl (subst In (omega arith) h)
-    split s h (leave i′ j d f e d′) = absurd (omega arith)
-
--- a letter is reached from itself and by arcs
-pub reached-letter :
-    (A : Automaton) (In : ℕ → Type 0) (j u : ℕ) → OnLetter j u → Reached A In u ↔ (In u ⊎ ((i : ℕ) × (A .follow i j ≡ true) × Leaves A In i j))
-reached-letter A In j u o = (λ r. split (r .0) (r .1) (r .2), ⊎-elim (λ h. (u, h, stay j o (entering-letter A j u o) o)) (λ h. go (h .0) (h .1) (h .2)))
-  where
-    go : (i : ℕ) → A .follow i j ≡ true → Leaves A In i j → Reached A In u
-    go i f (inl h) = (2 * i, h, leave i j refl f (entering-letter A j u o) o)
-    go i f (inr h) = (2 * i - 1, h .1, arc i j (let p = h .0 in omega arith) f (h .2) (entering-letter A j u o) o)
-
-    split : (s : ℕ) → In s → Step A s (entering A u) u → In u ⊎ ((i : ℕ) × (A .follow i j ≡ true) × Leaves A In i j)
-    split s h (stay i d e d′) = inl (subst In (omega arith) h)
-    split s h (pass i d e d′) = absurd (omega arith)
-    split s h (arc i j′ d f n e d′) =
-        let q : j′ ≡ j = omega arith in
-        inr (i, rw q at f, inr (omega arith, subst In (omega arith) h, λ z. n (z ∙ ap (A .label) (sym q))))
-    split s h (rest i d e d′) = absurd (omega arith)
-    split s h (leave i j′ d f e d′) = let q : j′ ≡ j = omega arith in inr (i, rw q at f, inl (subst In (omega arith) h))
-
 -- reached, it keeps to the price v by the next row of costs to go
 abbrev pub Kept : Automaton → Matrix → (t : ℕ) → (row : ℕ → ℕ) → (ℕ → Type 0) → (v u : ℕ) → Type 0
 Kept A M t row In v u = Reached A In u × (plus (cost M t (entering A u)) (row u) ≡ v)
@@ -103,10 +67,6 @@ module _ {k : ℕ} {A : Automaton} (proper : Proper k A) (M : Matrix) (t v : ℕ
         step = subst (λ y. Step A (h .0 .0) y u) e (h .0 .2);
         keeps = subst (λ y. plus (cost M t y) (row u) ≡ v) e (h .1);
       }
-
-  -- the label of a state that is kept is one of the matrix
-  pub kept-label : (u : ℕ) → Kept A M t row In v u → entering A u ≤ k
-  kept-label u h = step-label proper (h .0 .0) (entering A u) u (h .0 .2) (within (h .0 .0) (h .0 .1))
 
   pub picked-chosen : {x : ℕ} {In′ : ℕ → Type 0} → Picked A M t row In v x In′ → Chosen (extended A) M t row In v x In′
   picked-chosen {x} {In′} p =
