@@ -63,7 +63,7 @@ fn is_alphabet(list: &[u8]) -> bool
 }
 
 // Rows 1, 2 and 3.
-pub fn check_text(alphabet: &[u8], text: &[u8]) -> Checked
+fn check_text(alphabet: &[u8], text: &[u8]) -> Checked
     ensures { λ r. ⌜ r ≡ first-refusal (text-checks (now (alphabet .entry)) (now (text .entry))) ⌝ }
 {
     if !is_alphabet(alphabet) {

@@ -107,7 +107,7 @@ pub fn decode_valid(
 {
     let stride = 2 * letters(form) + 1;
     let price = table::fill(form, costs, width, count, work);
-    if 1000000000 <= price {
+    if table::TOP <= price {
         return Decoded::Refused(Refusal::NoReading);
     }
     trace::trace(form, costs, width, count, work, 0, stride, path);

@@ -138,7 +138,7 @@ fn put_spaced(path: &mut [u8], n: usize, a: u8, x: u8) -> usize
 }
 
 // Writes the spread of a word without blanks; its length.
-pub fn write_spread(word: &[u8], path: &mut [u8]) -> usize
+fn write_spread(word: &[u8], path: &mut [u8]) -> usize
     requires { ⌜ (length (spreadOf (now word)) ≤ length (now path)) × Each (0 <_) (now word) ⌝ }
     ensures { λ r. ⌜ Wrote (spreadOf (now (word .entry))) (now (path .entry)) (now (path .exit)) r ⌝ }
 {

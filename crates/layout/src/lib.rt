@@ -35,8 +35,8 @@ fn answer_reading(
     }
 }
 
-// Reads a sheet and prints its reading or refusal; the number of bytes.
-pub fn answer(
+// Reads a sheet, with memory for its costs and for Read, and prints its reading or refusal; the number of bytes.
+fn answer_sheet(
     input: &[u8],
     costs: &mut [u32],
     form: &mut [u32],
@@ -45,7 +45,7 @@ pub fn answer(
     work: &mut [u32],
     out: &mut [u8],
 ) -> usize
-    requires { ⌜ (16384 ≤ length (now costs)) × Sized (now form) (record { path = now path; word = now word; work = now work }) × (1300 ≤ length (now out)) ⌝ }
+    requires { ⌜ (length (now costs) ≡ 16384) × Sized (now form) (record { path = now path; word = now word; work = now work }) × (1300 ≤ length (now out)) ⌝ }
     ensures { λ r. ⌜ Answers (Prints (now (input .entry))) (now (out .entry)) (now (out .exit)) r ⌝ }
 {
     let Scanned::Sheet {
@@ -70,6 +70,27 @@ pub fn answer(
         path,
         word,
         work,
+        out,
+    )
+}
+
+// Reads a sheet and prints its reading or refusal; the number of bytes. The memory that document 01 has the program lend is local.
+pub fn answer(input: &[u8], out: &mut [u8]) -> usize
+    requires { ⌜ 1300 ≤ length (now out) ⌝ }
+    ensures { λ r. ⌜ Answers (Prints (now (input .entry))) (now (out .entry)) (now (out .exit)) r ⌝ }
+{
+    let mut costs = [0u32; 16384];
+    let mut form = [0u32; 16384];
+    let mut path = [0u8; 255];
+    let mut word = [0u8; 255];
+    let mut work = [0u32; 16384];
+    answer_sheet(
+        input,
+        &mut costs,
+        &mut form,
+        &mut path,
+        &mut word,
+        &mut work,
         out,
     )
 }

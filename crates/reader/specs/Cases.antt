@@ -1,5 +1,5 @@
 -- Document 01's lines to try that are marked P, as one checked list over the definitions: each case is data, one test is computed over all
--- of them, and one lemma turns the test into the statement. (The line on the form of `ab*` is in compile, Examples.) Assumes nothing.
+-- of them, and one lemma turns the test into the statement. Assumes nothing.
 -- Used in layout.
 use Prim.Native.Nat.{ℕ, _+_}
 use Prim.Native.String.{String}
@@ -37,17 +37,19 @@ use Rattle.positions.specs.Numbered.{numbered, positionAutomaton}
 use Rattle.compile.specs.Call.{distinct, compile-call}
 use Rattle.compile.specs.Meaning.{compiled-means}
 
--- alphabet, text, costs, columns; the path that is read, or none, and its price
+-- alphabet, text, costs, columns; the path that is read, or none, and its price. Or alphabet, text; the form that it compiles to.
 pub data Case : Type 0 where
   case : (alphabet text : String) (costs : List ℕ) (columns : ℕ) (answer : Option (List ℕ)) (price : ℕ) → Case
+  form : (alphabet text : String) (words : List ℕ) → Case
 
--- what a case states: the outcome for the text's words, and the price
+-- what a case states: the outcome for the text's words, and the price; or the form's words
 abbrev priced : Matrix → Option (List ℕ) → ℕ
 priced M none = 0
 priced M (some p) = price M p
 
 abbrev pub Stated : Case → Type 0
 Stated (case A s costs t o p) = Outcome (WordsOf (bytes A) (bytes s)) (matrix costs (length (bytes A) + 1) t) o × (priced (matrix costs (length (bytes A) + 1) t) o ≡ p)
+Stated (form A s f) = compile-call (bytes A) (bytes s) (length f) ≡ passed f
 
 same-list : List ℕ → List ℕ → Bool
 same-list [] [] = true
@@ -66,7 +68,12 @@ tried : Verdict (List ℕ) → Matrix → Option (List ℕ) → ℕ → Bool
 tried (refused n) M o p = false
 tried (passed f) M o p = same (decided M (accepts (view f))) o && eqb (priced M o) p
 
+compiled : Verdict (List ℕ) → List ℕ → Bool
+compiled (refused n) f = false
+compiled (passed g) f = same-list g f
+
 holds : Case → Bool
+holds (form A s f) = compiled (compile-call (bytes A) (bytes s) (length f)) f
 holds (case A s costs t o p) = tried (compile-call (bytes A) (bytes s) 99) (matrix costs (length (bytes A) + 1) t) o p
 
 same-list-true : (p q : List ℕ) → same-list p q ≡ true → p ≡ q
@@ -98,8 +105,14 @@ tried-true A s M o p (passed f) e h =
       eqb-true (priced M o) p (and-right (same (decided M (accepts (view f))) o) (eqb (priced M o) p) h),
     )
 
+compiled-true : (v : Verdict (List ℕ)) (f : List ℕ) → compiled v f ≡ true → v ≡ passed f
+unfolding compiled
+compiled-true (refused n) f e = let z : _≡_ {A = ℕ} 0 1 = cc in absurd (omega arith)
+compiled-true (passed g) f e = ap {B = Verdict (List ℕ)} passed (same-list-true g f e)
+
 holds-stated : (c : Case) → holds c ≡ true → Stated c
 unfolding holds
+holds-stated (form A s f) h = compiled-true (compile-call (bytes A) (bytes s) (length f)) f h
 holds-stated (case A s costs t o p) h = tried-true (bytes A) (bytes s) (matrix costs (length (bytes A) + 1) t) o p (compile-call (bytes A) (bytes s) 99) refl h
 
 unfoldable pub cases : List Case
@@ -113,9 +126,10 @@ cases =
     ∷ case "ab" "a" (0 ∷ 0 ∷ 0 ∷ 0 ∷ 0 ∷ 0 ∷ []) 2 (some (0 ∷ 1 ∷ [])) 0
     ∷ case "ab" "a{2}" (1 ∷ 0 ∷ 9 ∷ 1 ∷ 0 ∷ 9 ∷ 1 ∷ 0 ∷ 9 ∷ 1 ∷ 0 ∷ 9 ∷ []) 4 (some (1 ∷ 0 ∷ 1 ∷ 1 ∷ [])) 1
     ∷ case "ab" "(a|b)*" (3 ∷ 1 ∷ 1 ∷ 3 ∷ 1 ∷ 1 ∷ []) 2 (some (1 ∷ 1 ∷ [])) 2
+    ∷ form "ab" "ab*" (0x10020002 ∷ 0x20000301 ∷ 0x20000202 ∷ 0x30000102 ∷ 0x30000202 ∷ [])
     ∷ []
 
 -- every case is as it states
 pub cases-stated : Each Stated cases
-unfolding cases holds tried same same-list decided exhaustive over better preferred not-after usable collapse merge without-blanks spells followOf endsOf compile-call distinct if-passed unless all any keep numbers flatMap encode labelsOf letterCount then first-of split enclosed provided closed reserved items members inside bracket escaped a-set labelled-set number from-on from-to comma counts sign repetition grouped step go read whole expressionOf anyOf copies nested repeated opened labels numbered positionAutomaton
+unfolding cases holds compiled tried same same-list decided exhaustive over better preferred not-after usable collapse merge without-blanks spells followOf endsOf compile-call distinct if-passed unless all any keep numbers flatMap encode labelsOf letterCount then first-of split enclosed provided closed reserved items members inside bracket escaped a-set labelled-set number from-on from-to comma counts sign repetition grouped step go read whole expressionOf anyOf copies nested repeated opened labels numbered positionAutomaton
 cases-stated = all-each holds Stated holds-stated cases refl

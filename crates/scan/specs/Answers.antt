@@ -15,6 +15,8 @@ abbrev pub answerOf : Option Sheet → Scanned
 answerOf none = scanned.Bad
 answerOf (some S) = scanned.Sheet (length (S .alphabet)) (length (S .text)) (matrixOf S .width) (matrixOf S .count)
 
+-- The costs of the sheet in front of the lent memory, and behind them what was there. Where there is no sheet, the memory, which is just
+-- what the largest sheet needs, holds anything: how far the costs were stored is the program's choice.
 pub record Scans (input before after : List ℕ) (r : Scanned) : Type 0 where
   pub answer : r ≡ answerOf (sheetOf input)
   pub costs : (S : Sheet) → sheetOf input ≡ some S → after ≡ written (matrixOf S .costs) before

@@ -204,9 +204,9 @@ fn store_matrix(input: &[u8], at: usize, costs: &mut [u32], other: usize) -> Bod
     Body::Matrix(width, n)
 }
 
-// Reads a sheet, and stores its costs in the lent memory (refusal 18 is the caller's for what is no sheet).
+// Reads a sheet, and stores its costs in the lent memory; for what is no sheet (row 18) all of that memory holds anything afterwards.
 pub fn scan(input: &[u8], costs: &mut [u32]) -> Scanned
-    requires { ⌜ 16384 ≤ length (now costs) ⌝ }
+    requires { ⌜ length (now costs) ≡ 16384 ⌝ }
     ensures { λ r. ⌜ Scans (now (input .entry)) (now (costs .entry)) (now (costs .exit)) r ⌝ }
 {
     if 65535 < input.len() {

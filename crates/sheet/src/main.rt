@@ -7,21 +7,8 @@ use libc::STDOUT_FILENO;
 fn main() {
     // One byte more than a sheet may have, so that the byte too many is seen.
     let mut input = [0u8; 65536];
-    let mut costs = [0u32; 16384];
-    let mut form = [0u32; 16384];
-    let mut path = [0u8; 255];
-    let mut word = [0u8; 255];
-    let mut work = [0u32; 16384];
     let mut out = [0u8; 1300];
     let n = io::read_full(STDIN_FILENO, &mut input);
-    let m = layout::answer(
-        &input[..n],
-        &mut costs,
-        &mut form,
-        &mut path,
-        &mut word,
-        &mut work,
-        &mut out,
-    );
+    let m = layout::answer(&input[..n], &mut out);
     io::write_all(STDOUT_FILENO, &out[..m]);
 }

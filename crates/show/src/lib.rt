@@ -56,7 +56,7 @@ pub fn counted(answer: Counted) {
 }
 
 // A call's name, the list given, and its answer.
-pub fn call(name: &[u8], given: &[u8], answer: Counted) {
+fn call(name: &[u8], given: &[u8], answer: Counted) {
     text(name);
     bytes(given);
     text(b":");

@@ -126,7 +126,7 @@ pub fn member(text: &[u8], at: usize, b: u8) -> bool
 }
 
 // How many labels of the alphabet the set has that begins here.
-pub fn labels(alphabet: &[u8], text: &[u8], at: usize) -> usize
+fn labels(alphabet: &[u8], text: &[u8], at: usize) -> usize
     requires { ⌜ SetAt (now text) at ⌝ }
     ensures { λ r. ⌜ r ≡ labelsOf (now (alphabet .entry)) (setAt (now (text .entry)) at) ⌝ }
 {

@@ -1,4 +1,4 @@
--- `layout::answer` meets its contract: 18 for what is no sheet, else what is printed for the lines and the costs of the sheet.
+-- `layout::answer_sheet` meets its contract: 18 for what is no sheet, else what is printed for the lines and the costs of the sheet.
 -- Assumes nothing.
 use Prim.Native.Nat.{ℕ, _+_, _-_, _*_}
 use mathlib.Core.Path.{sym, subst}
@@ -14,8 +14,8 @@ use Rattle.print.specs.Lines.{refusal-line}
 use Rattle.layout.specs.Answer.{PrintsReading, Prints}
 use Rattle.layout.specs.Promise.{answers, answers-as}
 use Rattle.layout.specs.Sheets.{Laid, laid-out, no-sheet}
-use Rattle.layout.proofs.answer.Statement.{statement}
-use Rattle.layout.proofs.answer.Tie as tie
+use Rattle.layout.proofs.answer_sheet.Statement.{statement}
+use Rattle.layout.proofs.answer_sheet.Tie as tie
 
 -- the costs as the scan left them
 abbrev left : tie.After-scan → List ℕ
@@ -120,8 +120,8 @@ returns-2 c =
     answers-as (PrintsReading (take (v .0) i) (take (v .0 + 1 + v .1 .0 - (v .0 + 1)) (drop (v .0 + 1) i)) M) (Prints i) (now (s .args .out))
     (f .last .1 .1 .1 .1 .1 .1 .1 .1 .1 .0) (f .result) (places p .prints) (f .ensures)
 
-pub answer-spec : {M : Type 1} → statement M
-answer-spec =
+pub answer-sheet-spec : {M : Type 1} → statement M
+answer-sheet-spec =
     tie.close
     (tie.spec
     scan-requires
