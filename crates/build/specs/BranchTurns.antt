@@ -17,14 +17,16 @@ use Rattle.expression.specs.Sense.{copies-some}
 use Rattle.expression.specs.Read.{m-alternation, m-branch, m-piece, m-group, ends, read}
 use Rattle.positions.specs.Opened.{opened, repeated, labels}
 use Rattle.positions.specs.Equations.{letters-joining, letters-alternation}
-use Rattle.tokens.specs.Place.{place}
-use Rattle.build.specs.Found.{restOf, treeOf}
+use Rattle.characters.specs.Place.{place}
+use Rattle.parts.specs.Together.{Chosen, Joined}
+use Rattle.parts.specs.declared.Built.{Built}
+use Rattle.letters.specs.Found.{restOf, treeOf}
+use Rattle.letters.specs.Shows.{Builds}
 use Rattle.build.specs.Copies.{fewer-none, Alike, alike-by, alike-then}
-use Rattle.build.specs.Shown.{Builds, Room, Chosen, Joined, builds-alike, builds-alternation, builds-joining, room-first, room-next}
+use Rattle.build.specs.Shown.{Room, builds-alike, builds-alternation, builds-joining, room-first, room-next}
 use Rattle.build.specs.Places.{PartAt, openedAt, endAt, countAt, leftAt}
 use Rattle.build.specs.Made.{Two, alternation-alone, alternation-more, piece-found, branch-last, branch-more}
 use Rattle.build.specs.Pieces.{piece-counted}
-use Rattle.build.specs.declared.Built.{Built}
 
 module _ (A text : List ℕ) where
   -- how many letters a part has that was read

@@ -1,42 +1,27 @@
 -- A repetition copy by copy: what is left of it behind some copies, and what the next copy adds (document 01, "Opening and the compiled
 -- form"). Assumes nothing.
--- Used by the contracts and 6 files of specs/.
+-- Used by 5 files of specs/.
 use Prim.Native.Nat.{ℕ, zero, suc, _+_, _-_, _≤_, _<_}
 use mathlib.Core.Path.{_≡_, refl, sym, _∙_}
 use mathlib.Core.Logic.{_⊎_, inl, inr}
 use mathlib.Core.Bool.{Bool, true, false}
-use mathlib.Core.List.{List, append-nil}
+use mathlib.Core.List.{append-nil}
 use native.Mathlib.Omega.{arith}
 use lib.Dec.{leb}
 use borrow.Author.Tests.{le-leb, lt-leb}
 use Rattle.lists.specs.Order.{lt-or-le}
 use Rattle.expression.specs.Tree.{Count, between, onward}
-use Rattle.expression.specs.Text.{Reads}
 use Rattle.expression.specs.Letters.{copiesOf}
 use Rattle.expression.specs.OwnCounts.{InRange}
 use Rattle.positions.specs.Opened.{Opened, joining, optional, plus, star, empty, labels, repeated}
 use Rattle.positions.specs.Numbered.{numbered}
 use Rattle.positions.specs.Equations.{Same, between-none, between-needed, between-spare, onward-more, onward-one, onward-none, joined-empty}
-use Rattle.tokens.specs.Place.{place}
-use Rattle.build.specs.Found.{restOf, countOf}
-use Rattle.build.specs.declared.Copies.{Copies}
+use Rattle.letters.specs.Copies.{leastOf, isOnward}
 
 -- what a count asks behind k words
 abbrev pub fewer : Count → ℕ → Count
 fewer (between n m) k = between (n - k) (m - k)
 fewer (onward n) k = onward (n - k)
-
-abbrev pub leastOf : Count → ℕ
-leastOf (between n m) = n
-leastOf (onward n) = n
-
-abbrev pub isOnward : Count → Bool
-isOnward (between n m) = false
-isOnward (onward n) = true
-
--- a count that was read, as copies to build
-abbrev pub copiesBy : List ℕ → Reads Count → Copies
-copiesBy text x = record { least = leastOf (countOf x); most = copiesOf (countOf x); onward = isOnward (countOf x); end = place text (restOf x) }
 
 -- r or nothing, where it may be spared; r once or more, where it goes onward
 unfoldable pub spared : Bool → Opened → Opened

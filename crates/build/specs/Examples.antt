@@ -13,7 +13,7 @@ use Rattle.expression.specs.Sets.{a-set, labelled-set}
 use Rattle.expression.specs.Repetition.{number, from-on, from-to, comma, counts, sign, repetition}
 use Rattle.expression.specs.Read.{m-branch, m-piece, m-group, grouped, step, go, read}
 use Rattle.positions.specs.Opened.{Opened, letter, joining, alternation, optional, plus, empty, never, anyOf, copies, nested, repeated, opened}
-use Rattle.build.specs.Found.{counted}
+use Rattle.letters.specs.Found.{counted}
 use Rattle.build.specs.Places.{endAt, openedAt, countAt, leftAt}
 
 abbrev ab : List ℕ

@@ -18,9 +18,9 @@ use Rattle.expression.specs.Sense.{Sensible, sensible}
 use Rattle.expression.specs.Front.{Front, Stop}
 use Rattle.expression.specs.Sound.{read-sound}
 use Rattle.expression.specs.Steps.{read-step, read-forward}
-use Rattle.tokens.specs.Place.{place, behind, next-at, rest-at}
-use Rattle.tokens.specs.Answers.{is-found}
-use Rattle.build.specs.Found.{restOf, treeOf, not-found, then-first, then-is}
+use Rattle.characters.specs.Place.{place, behind, next-at, rest-at}
+use Rattle.bracket.specs.Answers.{is-found}
+use Rattle.letters.specs.Found.{restOf, treeOf, not-found, then-first, then-is}
 use Rattle.build.specs.Places.{PartAt, treeAt, endAt}
 
 -- x is made of a and then b

@@ -16,17 +16,21 @@ use Rattle.expression.specs.Read.{m-alternation, m-piece, m-group, ends, read}
 use Rattle.positions.specs.Opened.{Opened, joining, opened, labels, labelsIn, anyOf}
 use Rattle.positions.specs.Equations.{letters-joining}
 use Rattle.positions.specs.Letters.{any-of-labels}
-use Rattle.tokens.specs.Place.{place}
-use Rattle.tokens.specs.Answers.{is-found, SetAt, setAt}
-use Rattle.build.specs.Found.{treeOf, counted}
-use Rattle.build.specs.Copies.{leastOf, isOnward, copiesBy, spared, looped, last-copy, next-copy, copies-few}
-use Rattle.build.specs.Shown.{Builds, Room, Joined, Looped, Spared, builds-alike, builds-joining, builds-spared, builds-looped, room-first, room-next}
-use Rattle.build.specs.Letters.{SetRoom, SetBuilds}
+use Rattle.characters.specs.Place.{place}
+use Rattle.bracket.specs.Answers.{is-found}
+use Rattle.tokens.specs.Answers.{SetAt, setAt}
+use Rattle.parts.specs.Together.{Joined, Looped, Spared}
+use Rattle.parts.specs.declared.Built.{Built}
+use Rattle.letters.specs.Found.{treeOf, counted}
+use Rattle.letters.specs.Copies.{leastOf, isOnward, copiesBy}
+use Rattle.letters.specs.Shows.{Builds}
+use Rattle.letters.specs.Letters.{SetRoom, SetBuilds}
+use Rattle.letters.specs.declared.Copies.{Copies}
+use Rattle.build.specs.Copies.{spared, looped, last-copy, next-copy, copies-few}
+use Rattle.build.specs.Shown.{Room, builds-alike, builds-joining, builds-spared, builds-looped, room-first, room-next}
 use Rattle.build.specs.Places.{PartAt, openedAt, endAt, countAt, leftAt}
 use Rattle.build.specs.Made.{reading}
 use Rattle.build.specs.Pieces.{group-found, piece-counted, group-set, Enclosed, group-enclosed}
-use Rattle.build.specs.declared.Built.{Built}
-use Rattle.build.specs.declared.Copies.{Copies}
 
 spared-letters : (b : Bool) (r : Opened) → length (labels (spared b r)) ≡ length (labels r)
 unfolding spared labels

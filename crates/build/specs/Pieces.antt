@@ -22,9 +22,9 @@ use Rattle.expression.specs.Own.{Here}
 use Rattle.expression.specs.OwnCounts.{InRange, Repeating, repetition-says}
 use Rattle.expression.specs.Steps.{read-step}
 use Rattle.positions.specs.Opened.{opened, repeated}
-use Rattle.tokens.specs.Place.{place, place-drop, behind, next-at, rest-at, byte-is}
-use Rattle.tokens.specs.Answers.{is-found, setOf}
-use Rattle.build.specs.Found.{restOf, treeOf, countOf, counted, counted-repeated, counted-plain, not-found}
+use Rattle.characters.specs.Place.{place, place-drop, behind, next-at, rest-at, byte-is}
+use Rattle.bracket.specs.Answers.{is-found, setOf}
+use Rattle.letters.specs.Found.{restOf, treeOf, countOf, counted, counted-repeated, counted-plain, not-found}
 use Rattle.build.specs.Copies.{Alike, alike-by, one-copy}
 use Rattle.build.specs.Places.{PartAt, treeAt, endAt}
 use Rattle.build.specs.Made.{first-found, goes-on}

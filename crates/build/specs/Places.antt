@@ -8,9 +8,9 @@ use lib.ListN.{drop}
 use Rattle.expression.specs.Tree.{Count, Tree}
 use Rattle.expression.specs.Read.{Mode, m-group, read}
 use Rattle.positions.specs.Opened.{Opened, opened, repeated}
-use Rattle.tokens.specs.Place.{place}
-use Rattle.tokens.specs.Answers.{is-found}
-use Rattle.build.specs.Found.{restOf, treeOf, countOf, counted}
+use Rattle.characters.specs.Place.{place}
+use Rattle.bracket.specs.Answers.{is-found}
+use Rattle.letters.specs.Found.{restOf, treeOf, countOf, counted}
 use Rattle.build.specs.Copies.{fewer}
 
 -- in a text over the alphabet A

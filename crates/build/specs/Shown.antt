@@ -1,35 +1,21 @@
--- What the arrays of a part that was built say of its letters, and how parts put together say it: index i stands for the letter of number
--- i + 1. Assumes nothing.
--- Used by the contracts, the proofs and 4 files of specs/.
+-- How the arrays of parts put together tell the letters of the whole, and the room that there must be for it: index i stands for the letter
+-- of number i + 1. Assumes nothing.
+-- Used by the contracts, BranchTurns, PieceTurns and Whole.
 use Prim.Native.Nat.{ℕ, suc, _+_, _≤_}
-use mathlib.Core.Path.{_≡_, refl, sym, ap, ap₂, subst, _∙_}
+use mathlib.Core.Path.{_≡_, refl, ap, ap₂, subst, _∙_}
 use mathlib.Core.Bool.{Bool, true, false, _&&_, _||_, or-assoc, or-false}
 use mathlib.Core.List.{List}
 use native.Mathlib.Omega.{arith}
 use lib.ListN.{length}
 use Rattle.lists.specs.Written.{Stored, stored-then, stored-size}
-use Rattle.relation.specs.Sets.{member, arc, Union, Linked}
+use Rattle.relation.specs.Sets.{member, arc, Linked}
 use Rattle.positions.specs.Opened.{Opened, joining, alternation, labels}
 use Rattle.positions.specs.Numbered.{Positions, joint, choice, again, numbered}
 use Rattle.positions.specs.Equations.{Same}
+use Rattle.parts.specs.Together.{Merged, Chosen, Joined, Looped, Spared}
+use Rattle.parts.specs.declared.Built.{Built}
+use Rattle.letters.specs.Shows.{Shows, Builds}
 use Rattle.build.specs.Copies.{spared, looped, Alike}
-use Rattle.build.specs.declared.Built.{Built}
-
--- The arrays tell the positions p: the part's own of the empty word and of first and last letters, and the follow relation has the arcs
--- of p beside those that it had before.
-pub record Shows (p : Positions) (x : Built) (before after : List (List Bool)) : Type 0 where
-  pub nullable : x .nullable ≡ p .nullable
-  pub first : (i : ℕ) → member (x .first) i ≡ p .first (suc i)
-  pub last : (i : ℕ) → member (x .last) i ≡ p .last (suc i)
-  pub size : length after ≡ length before
-  pub arcs : (i j : ℕ) → arc after i j ≡ (arc before i j || p .follow (suc i) (suc j))
-
--- The opened expression r was built behind n letters: it ends at e, its labels were stored in their places and nowhere else, and the
--- arrays tell its positions.
-pub record Builds (n : ℕ) (r : Opened) (e : ℕ) (before after : List (List Bool)) (old new : List ℕ) (x : Built) : Type 0 where
-  pub ends : x .end ≡ e
-  pub stored : Stored (labels r) n old new (x .letters)
-  pub shows : Shows (numbered (suc n) r) x before after
 
 -- there is room to build r behind n letters
 pub record Room (A : List ℕ) (r : Opened) (n : ℕ) (marks : List ℕ) (follow : List (List Bool)) : Type 0 where
@@ -37,56 +23,6 @@ pub record Room (A : List ℕ) (r : Opened) (n : ℕ) (marks : List ℕ) (follow
   pub few : n + length (labels r) ≤ 127
   pub labelled : 127 ≤ length marks
   pub rows : 127 ≤ length follow
-
--- What the functions of parts.rt do.
-
--- the letters of a, and those of b where `on` says so
-unfoldable pub Merged : List Bool → Bool → List Bool → List Bool → Type 0
-Merged a on b r = (i : ℕ) → member r i ≡ (member a i || on && member b i)
-
-pub merged-on : (a b r : List Bool) (on : Bool) → on ≡ true → Union a b r → Merged a on b r
-unfolding Merged
-merged-on a b r on e u i = u .at i ∙ ap (λ t. member a i || t && member b i) (sym e)
-
-pub merged-off : (a b : List Bool) (on : Bool) → on ≡ false → Merged a on b a
-unfolding Merged
-merged-off a b on e i = sym (ap (λ t. member a i || t && member b i) e ∙ or-false (member a i))
-
--- a or b
-pub record Chosen (a b x : Built) : Type 0 where
-  pub ends : x .end ≡ b .end
-  pub counts : x .letters ≡ b .letters
-  pub nullable : x .nullable ≡ (a .nullable || b .nullable)
-  pub first : Merged (a .first) true (b .first) (x .first)
-  pub last : Merged (a .last) true (b .last) (x .last)
-
--- a and then b
-pub record Joined (a b x : Built) (before after : List (List Bool)) : Type 0 where
-  pub ends : x .end ≡ b .end
-  pub counts : x .letters ≡ b .letters
-  pub nullable : x .nullable ≡ (a .nullable && b .nullable)
-  pub first : Merged (a .first) (a .nullable) (b .first) (x .first)
-  pub last : Merged (b .last) (b .nullable) (a .last) (x .last)
-  pub arcs : Linked (a .last) (b .first) before after
-
--- arcs from the last letters to the first, where `on` says so
-pub record Looped (on : Bool) (from to : List Bool) (before after : List (List Bool)) : Type 0 where
-  pub size : length after ≡ length before
-  pub arcs : (i j : ℕ) → arc after i j ≡ (arc before i j || on && (member from i && member to j))
-
-pub looped-on : (on : Bool) (from to : List Bool) (before after : List (List Bool)) → on ≡ true → Linked from to before after → Looped on from to before after
-looped-on on from to before after e l = rw e (record { size = l .size; arcs = l .at })
-
-pub looped-off : (on : Bool) (from to : List Bool) (before : List (List Bool)) → on ≡ false → Looped on from to before before
-looped-off on from to before e = rw e (record { size = refl; arcs = λ i j. sym (or-false (arc before i j)) })
-
--- a, or nothing where it may be spared; it ends at e
-pub record Spared (a : Built) (spare : Bool) (e : ℕ) (x : Built) : Type 0 where
-  pub ends : x .end ≡ e
-  pub counts : x .letters ≡ a .letters
-  pub nullable : x .nullable ≡ (spare || a .nullable)
-  pub first : x .first ≡ a .first
-  pub last : x .last ≡ a .last
 
 -- Parts put together tell the positions of the whole.
 module _ (f g : List (List Bool)) where

@@ -14,15 +14,16 @@ use Rattle.expression.specs.Read.{m-alternation, read, whole, expressionOf}
 use Rattle.positions.specs.Opened.{Opened, opened, labels}
 use Rattle.positions.specs.Numbered.{numbered, positionAutomaton, automatonOf}
 use Rattle.positions.specs.Letters.{opened-letters}
-use Rattle.encode.specs.Arrays.{has}
+use Rattle.arc_words.specs.Rows.{has}
 use Rattle.encode.specs.Parts.{Tells}
-use Rattle.tokens.specs.Answers.{is-found}
-use Rattle.build.specs.Found.{restOf, treeOf, not-found, then-first, then-is}
-use Rattle.build.specs.Shown.{Builds, Room}
-use Rattle.build.specs.Letters.{none-marked}
+use Rattle.bracket.specs.Answers.{is-found}
+use Rattle.parts.specs.declared.Built.{Built}
+use Rattle.letters.specs.Found.{restOf, treeOf, not-found, then-first, then-is}
+use Rattle.letters.specs.Shows.{Builds}
+use Rattle.letters.specs.Letters.{none-marked}
+use Rattle.build.specs.Shown.{Room}
 use Rattle.build.specs.Places.{PartAt, treeAt, openedAt, endAt}
 use Rattle.build.specs.Made.{reading}
-use Rattle.build.specs.declared.Built.{Built}
 
 -- the tree of a text, where it has one
 abbrev pub treeOfText : List ℕ → List ℕ → Tree

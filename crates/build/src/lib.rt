@@ -2,41 +2,22 @@
 // letters, the follow relation as one row a letter, and which letters may be first and last. The letter of number i stands at index i - 1.
 // Alternation, branch, piece and group call each other over a text that reads; a repeated piece is gone through once for each copy. At
 // each call the unread text falls, or stays and the next closer part or the next copy is asked for.
-mod parts; // parts.rt: parts put together
-mod token; // token.rt: a set or a repetition at a place
-
-use parse::is_end;
+use characters::peek;
+use counting::is_end;
+use letters::copies_at;
+use letters::set;
+use parts::Built;
 use parts::again;
 use parts::choice;
 use parts::joint;
 use parts::perhaps;
-use token::copies_at;
-use token::set;
-use tokens::peek;
 ghost use Prim.Native.Nat.{_<_};
 ghost use Rattle.expression.specs.Letters.{copiesOf};
 ghost use Rattle.expression.specs.Read.{m-alternation, m-branch, m-piece, m-group};
+ghost use Rattle.letters.specs.Shows.{Builds};
 ghost use Rattle.build.specs.Places.{PartAt, openedAt, endAt, countAt, leftAt};
-ghost use Rattle.build.specs.Shown.{Room, Builds};
+ghost use Rattle.build.specs.Shown.{Room};
 ghost use Rattle.build.specs.Whole.{Buildable, BuildsWhole};
-
-// A part that was built: where it ends in the text; how many letters there are up to its end; whether it has the empty word; and which
-// letters may be first in it, and last.
-pub struct Built {
-    pub end: usize,
-    pub letters: usize,
-    pub nullable: bool,
-    pub first: [bool; 127],
-    pub last: [bool; 127],
-}
-
-// A repetition: at least and at most so many copies are built, the last with arcs back or without; then where it ends.
-struct Copies {
-    least: usize,
-    most: usize,
-    onward: bool,
-    end: usize,
-}
 
 // Branches with `|` between them, behind so many letters.
 fn alternation(

@@ -21,7 +21,8 @@ use Rattle.expression.specs.Repetition.{number, from-on, from-to, comma, counts
 use Rattle.expression.specs.Read.{grouped, step, go, read, whole, expressionOf}
 use Rattle.positions.specs.Opened.{anyOf, copies, nested, repeated, opened, labels}
 use Rattle.positions.specs.Numbered.{numbered, positionAutomaton}
-use Rattle.compile.specs.Call.{distinct, compile-call}
+use Rattle.alphabet.specs.Alphabet.{distinct}
+use Rattle.compile.specs.Call.{compile-call}
 
 -- an alphabet, a text, room for the form, the refusal (0: none) and the length of what is filled
 data Row : Type 0 where

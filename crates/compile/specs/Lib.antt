@@ -1,6 +1,4 @@
 pub mod Call
 pub mod Meaning
-pub mod Tests
-pub mod Turns
 pub mod Steps
 pub mod Examples

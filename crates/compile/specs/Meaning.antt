@@ -1,6 +1,6 @@
 -- Demand 2, stated at Compile: the form that it writes is valid, and accepts a word exactly if the expression's set of words, by its
 -- text, has it. Assumes nothing.
--- Used in kavurehy and reader.
+-- Used in kavurehy, read_text and reader.
 use Prim.Native.Nat.{ℕ, _≤_}
 use mathlib.Core.Path.{_≡_, refl, sym, ap, _∙_, subst}
 use mathlib.Core.Bool.{Bool, true, false, not, _&&_}
@@ -27,7 +27,8 @@ use Rattle.expression.specs.Grammar.{TextOf, WordsOf}
 use Rattle.expression.specs.Exact.{exact, words-of-text, expression-whole}
 use Rattle.expression.specs.Sense.{sensible}
 use Rattle.positions.specs.Compiled.{formOf, form-valid, form-alphabet, form-letters, form-words}
-use Rattle.compile.specs.Call.{distinct, is-alphabet, text-checks, formed, read-form, compile-call}
+use Rattle.alphabet.specs.Alphabet.{distinct, is-alphabet, text-checks}
+use Rattle.compile.specs.Call.{formed, read-form, compile-call}
 
 -- the form f is that of the text s over the alphabet A: valid, with its K and L, and with the text's words
 pub record Means (A s f : List ℕ) : Type 0 where

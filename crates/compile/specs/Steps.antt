@@ -21,16 +21,17 @@ use Rattle.expression.specs.Read.{expressionOf}
 use Rattle.positions.specs.Numbered.{automatonOf}
 use Rattle.automaton.specs.Form.{encode}
 use Rattle.positions.specs.Compiled.{formOf, automaton-letters}
-use Rattle.tokens.specs.Answers.{is-found}
+use Rattle.bracket.specs.Answers.{is-found}
 use Rattle.parse.specs.declared.Checked.{Checked}
 use Rattle.parse.specs.declared.Checked.the-variants.{Letters, Refused}
 use Rattle.parse.specs.Checked.{checkedOf, checked}
 use Rattle.encode.specs.Arrays.{arrayed, form-call}
 use Rattle.encode.specs.Parts.{told-form}
-use Rattle.build.specs.Found.{treeOf}
+use Rattle.alphabet.specs.Alphabet.{text-checks}
+use Rattle.parts.specs.declared.Built.{Built}
+use Rattle.letters.specs.Found.{treeOf}
 use Rattle.build.specs.Whole.{treeOfText, Buildable, BuildsWhole, no-arc}
-use Rattle.build.specs.declared.Built.{Built}
-use Rattle.compile.specs.Call.{text-checks, formed, read-form, compile-call}
+use Rattle.compile.specs.Call.{formed, read-form, compile-call}
 
 -- a text that reads, with few letters
 pub record Compilable (A s : List ℕ) : Type 0 where

@@ -1,6 +1,6 @@
 -- Collapse (document 01, "Alphabet, labels, paths"): first each run of equal neighbours becomes one, then the blanks go. Label 0 is
 -- the blank. Assumes nothing.
--- Used by Spread; in 7 other crates.
+-- Used by Spread; in 9 other crates.
 use Prim.Native.Nat.{ℕ, zero, suc, _+_, _<_, _≤_}
 use mathlib.Core.Path.{_≡_, refl, sym, ap, _∙_}
 use mathlib.Core.Bool.{Bool, true, false, _||_, or-true}

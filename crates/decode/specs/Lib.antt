@@ -1,5 +1,2 @@
-pub mod Checks
-pub mod Passing
 pub mod View
 pub mod Promise
-pub mod Phases

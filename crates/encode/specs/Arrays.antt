@@ -1,6 +1,6 @@
 -- The automaton that arrays stand for, and what writing its form makes of the lent memory (document 01, "Opening and the compiled form",
 -- and row 10 of its table). Assumes nothing.
--- Used by the contracts, the proofs, Parts, Turns and Whole; in build and compile.
+-- Used by the contracts, the proofs, Parts and Whole; in compile.
 use Prim.Native.Nat.{ℕ, _-_, _≤_}
 use mathlib.Core.Path.{_≡_, refl}
 use mathlib.Core.Bool.{Bool, true, false, _&&_}
@@ -14,10 +14,7 @@ use Rattle.refusal.specs.declared.Refusal.the-variants.{FormMemory}
 use Rattle.refusal.specs.Verdict.{Verdict, check, unless, passed, refused}
 use Rattle.automaton.specs.Automaton.{Automaton}
 use Rattle.automaton.specs.Form.{encode}
-
--- the letter is in the set: its entry stands at the index below its number
-abbrev pub has : List Bool → ℕ → Bool
-has s j = getD s (j - 1) false
+use Rattle.arc_words.specs.Rows.{has}
 
 -- The number of letters; whether the empty word is accepted; the label of each letter; which letters may be first, and last; and for each
 -- letter a row of those that may stand behind it. What the arrays hold past the last letter says nothing.

@@ -1,4 +1,3 @@
 pub mod Arrays
 pub mod Parts
-pub mod Turns
 pub mod Whole

@@ -1,19 +1,21 @@
 -- The form of an automaton that is given by arrays, part by part as it is counted and written. Assumes nothing.
--- Used by the contracts, the proofs, Turns and Whole; in build and compile.
+-- Used by the contracts, the proofs and Whole; in build and compile.
 use Prim.Native.Nat.{ℕ, zero, suc, _+_, _-_, _≤_}
 use mathlib.Core.Path.{_≡_, refl, sym, ap, ap₂, _∙_}
 use mathlib.Core.Bool.{Bool, false, _&&_}
-use mathlib.Core.List.{List, [], _∷_, _++_, map, flatMap}
+use mathlib.Core.List.{List, [], _∷_, _++_, map}
 use native.Mathlib.Omega.{arith}
 use lib.ListN.{getD}
 use lib.Dec.{leb}
 use borrow.Author.Tests.{le-leb}
 use Rattle.lists.specs.Ranges.{in-range}
-use Rattle.lists.specs.Among.{keep, keep-same, map-same, flat-same}
+use Rattle.lists.specs.Among.{keep-same, map-same, flat-same}
 use Rattle.lists.specs.Ascending.{numbers, numbers-among}
+use Rattle.lists.specs.Remaining.{from, from-first}
 use Rattle.automaton.specs.Automaton.{Automaton}
 use Rattle.automaton.specs.Form.{headWord, letterWord, arcWord, letterOf, arcsFrom, encode}
-use Rattle.encode.specs.Arrays.{has, arrayed}
+use Rattle.arc_words.specs.Rows.{has, rowBy, rowAt, arcsBy}
+use Rattle.encode.specs.Arrays.{arrayed}
 
 -- the word of letter j
 abbrev pub letterBy : List ℕ → List Bool → List Bool → ℕ → ℕ
@@ -23,16 +25,9 @@ letterBy labels first last j = letterWord (getD labels (j - 1) 0) (has first j) 
 unfoldable pub lettersBy : ℕ → List ℕ → List Bool → List Bool → List ℕ
 lettersBy l labels first last = map (letterBy labels first last) (numbers 1 l)
 
--- the arcs of letter i, whose row of l letters is given
-unfoldable pub rowBy : ℕ → List Bool → ℕ → List ℕ
-rowBy l row i = map (arcWord i) (keep (has row) (numbers 1 l))
-
--- all arcs
-abbrev pub rowAt : ℕ → List (List Bool) → ℕ → List ℕ
-rowAt l follow i = rowBy l (getD follow (i - 1) []) i
-
-unfoldable pub arcsBy : ℕ → List (List Bool) → List ℕ
-arcsBy l follow = flatMap (rowAt l follow) (numbers 1 l)
+pub letters-first : (l : ℕ) (labels : List ℕ) (first last : List Bool) → lettersBy l labels first last ≡ map (letterBy labels first last) (from l 1)
+unfolding lettersBy
+letters-first l labels first last = ap (map (letterBy labels first last)) (sym (from-first l))
 
 -- What the arrays say of each letter is what an automaton says.
 pub record Tells (A : Automaton) (empty : Bool) (labels : List ℕ) (first last : List Bool) (follow : List (List Bool)) : Type 0 where

@@ -10,8 +10,9 @@ use lib.ListN.{length, set, length-append, length-map}
 use Rattle.lists.specs.Ascending.{numbers, length-numbers}
 use Rattle.lists.specs.Written.{Filling, Stored, Wrote, filling-none, filling-more, filling-stored, filling-room, filling-all}
 use Rattle.automaton.specs.Form.{encode}
+use Rattle.arc_words.specs.Rows.{arcsBy}
 use Rattle.encode.specs.Arrays.{arrayed}
-use Rattle.encode.specs.Parts.{letterBy, lettersBy, arcsBy, arrayed-words}
+use Rattle.encode.specs.Parts.{letterBy, lettersBy, arrayed-words}
 
 module _ (whole : List ℕ) (head : ℕ) (letters arcs memory : List ℕ) (is : whole ≡ head ∷ (letters ++ arcs)) (room : length whole ≤ length memory) where
   head-written : Filling whole memory (set memory 0 head) (letters ++ arcs) 1

@@ -1,5 +1,5 @@
 -- The grammar (document 01, "Expression text"): which texts a tree has, and so which words a text. Assumes nothing.
--- Used by 5 files of specs/; in compile, kavurehy, layout and reader.
+-- Used by 5 files of specs/; in compile, kavurehy, read_print, read_text and reader.
 use mathlib.Core.Path.{_≡_}
 use mathlib.Core.List.{List, [], _∷_, _++_}
 use Prim.Native.Nat.{ℕ, zero, suc, _≤_}

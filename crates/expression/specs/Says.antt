@@ -1,5 +1,5 @@
 -- What holds of an answer, whichever it is: one fact of what was found, another of a fault. Assumes nothing.
--- Used by 8 files of specs/; in build, parse and tokens.
+-- Used by 8 files of specs/; in build, parse and repetition.
 use mathlib.Core.Path.{_≡_, refl}
 use mathlib.Core.Option.{Option, some, none}
 use mathlib.Core.List.{List, _∷_}

@@ -1,5 +1,5 @@
 -- What the call Judge makes of a form and a word: accepted or not, or the refusal that applies (document 01, "What is turned away",
--- rows 11 and 17), and what it reports. Assumes nothing.
+-- rows 11 and 17). Assumes nothing.
 -- Used by the contracts and the proofs; in kavurehy.
 use Prim.Native.Nat.{ℕ, _≤_}
 use mathlib.Core.Path.{_≡_, refl, ap, _∙_}
@@ -14,7 +14,6 @@ use Rattle.lists.specs.Ranges.{in-range}
 use Rattle.lists.specs.Order.{and-both}
 use Rattle.lists.specs.Each.{Each, each-all}
 use Rattle.refusal.specs.declared.Refusal.the-variants.{BadForm, Label}
-use Rattle.refusal.specs.Number.{numberOf}
 use Rattle.refusal.specs.Verdict.{Verdict, passed, refused, check, unless, unless-holds, unless-second, unless-neither}
 use Rattle.labels.specs.Calls.{label-fault}
 use Rattle.labels.specs.Faults.{fault-labels}
@@ -22,26 +21,10 @@ use Rattle.automaton.specs.Automaton.{Accepts}
 use Rattle.automaton.specs.Form.{validForm, alphabetOf, view}
 use Rattle.automaton.specs.Accepted.{accepts, accepts-decides}
 use Rattle.automaton.specs.Valid.{valid-at, view-proper}
-use Rattle.form.specs.declared.Judged.{Judged}
-use Rattle.form.specs.declared.Judged.the-variants.{Accepted, Rejected, Refused}
 
 -- whether the form accepts the word, unless the form is invalid or the list is no word over its alphabet
 unfoldable pub judged : List ℕ → List ℕ → Verdict Bool
 judged form word = unless (check (not (validForm form)) BadForm ∷ (check (label-fault (alphabetOf form) 1 word) Label ∷ [])) (accepts (view form) word)
-
--- 0 or the refusal's number, and whether the word was accepted: no at a refusal
-pub record Judgement : Type 0 where
-  pub number : ℕ
-  pub accepted : Bool
-
-abbrev pub reported : Judged → Judgement
-reported Accepted = record { number = 0; accepted = true }
-reported Rejected = record { number = 0; accepted = false }
-reported (Refused n) = record { number = numberOf n; accepted = false }
-
-abbrev pub report : Verdict Bool → Judgement
-report (passed b) = record { number = 0; accepted = b }
-report (refused n) = record { number = numberOf n; accepted = false }
 
 module _ (form word : List ℕ) where
   pub judged-invalid : validForm form ≡ false → judged form word ≡ refused BadForm

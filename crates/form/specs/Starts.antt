@@ -1,6 +1,6 @@
 -- Where each letter's arcs begin: the arcs stand in the order of their sources, so one index tells those below a letter from the
 -- others. Assumes nothing.
--- Used by the contracts, the proofs and Sets; in table and trace.
+-- Used by the contracts, the proofs and Sets; in column, offers, row and steps.
 use Prim.Native.Nat.{ℕ, _+_, _<_, _≤_}
 use mathlib.Core.Path.{_≡_, sym, subst}
 use mathlib.Core.Logic.{_⊎_, inl, inr}

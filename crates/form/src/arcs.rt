@@ -1,6 +1,6 @@
 // Where each letter's arcs begin: they stand in the order of their sources.
-use crate::letters;
-use crate::source;
+use form_words::letters;
+use form_words::source;
 ghost use Prim.Native.Nat.{_≤_};
 ghost use lib.ListN.{length};
 ghost use Rattle.automaton.specs.Valid.{Valid};

@@ -1,35 +1,21 @@
-// The compiled form (document 01, "Opening and the compiled form"): its fields, its check, where each letter's arcs begin, sets of
-// letters, and the call Judge.
+// Forms at work (document 01, "Opening and the compiled form"): where each letter's arcs begin, sets of letters, and the call Judge.
 mod arcs;
-mod fields;
 mod sets;
-mod validity;
 
+use answers::Judged;
 pub use arcs::starts;
-pub use fields::alphabet;
-pub use fields::label;
-pub use fields::letters;
-pub use fields::may_be_first;
-pub use fields::may_end;
-pub use fields::source;
-pub use fields::target;
+use form_check::valid;
+use form_words::alphabet;
 use refusal::Refusal;
 pub use sets::advance;
 pub use sets::no_letter;
 pub use sets::some_may_end;
-pub use validity::valid;
 ghost use mathlib.Core.Path.{_≡_};
 ghost use mathlib.Core.Bool.{true};
+ghost use Rattle.answers.specs.Judgement.{report, reported};
 ghost use Rattle.automaton.specs.Form.{validForm, view};
 ghost use Rattle.automaton.specs.Accepted.{accepts as acceptsOf};
-ghost use Rattle.form.specs.Judge.{judged, report, reported};
-
-// What Judge answers.
-pub enum Judged {
-    Accepted,
-    Rejected,
-    Refused(Refusal),
-}
+ghost use Rattle.form.specs.Judge.{judged};
 
 fn label_of(x: u8) -> usize
     ensures { λ r. ⌜ r ≡ x ⌝ }

@@ -1,9 +1,9 @@
 // Sets of letters, 0 for 'no letter yet': the set behind one label more, and whether a word may end there.
-use crate::label;
-use crate::letters;
-use crate::may_be_first;
-use crate::may_end;
-use crate::target;
+use form_words::label;
+use form_words::letters;
+use form_words::may_be_first;
+use form_words::may_end;
+use form_words::target;
 ghost use mathlib.Core.Path.{_≡_};
 ghost use mathlib.Core.Logic.{_↔_};
 ghost use mathlib.Core.Bool.{true};

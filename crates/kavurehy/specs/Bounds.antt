@@ -23,8 +23,10 @@ use Rattle.refusal.specs.Verdict.{Verdict, passed, refused, check, unless, firs
 use Rattle.refusal.specs.Report.{Report, report, Fills}
 use Rattle.ctc.specs.Collapse.{collapse, collapse-shorter}
 use Rattle.ctc.specs.Spread.{spread, spread-length}
-use Rattle.labels.specs.Calls.{label-fault, collapse-call, spread-call}
-use Rattle.labels.specs.Turns.{few-pairs-in}
+use Rattle.labels.specs.Calls.{label-fault}
+use Rattle.collapse.specs.Calls.{collapse-call}
+use Rattle.spread.specs.Calls.{spread-call}
+use Rattle.spread.specs.Turns.{few-pairs-in}
 use Rattle.automaton.specs.Automaton.{Accepts}
 use Rattle.automaton.specs.Form.{validForm, view, lettersOf, alphabetOf, arcWord, letterOf, arcsFrom, encode}
 use Rattle.automaton.specs.Valid.{valid-parts}
@@ -34,10 +36,12 @@ use Rattle.reading.specs.Reading.{Outcome}
 use Rattle.expression.specs.Grammar.{WordsOf}
 use Rattle.compile.specs.Call.{compile-call}
 use Rattle.compile.specs.Meaning.{compiled-means}
-use Rattle.decode.specs.Checks.{needed, matrix-checks, decode-checks}
-use Rattle.decode.specs.Passing.{fits}
-use Rattle.decode.specs.Promise.{Lent, rooms, labels, Checks, Answers, Decodes, outcome-report}
-use Rattle.reader.specs.Promise.{characters, ReadsBy, Reads}
+use Rattle.decode_checks.specs.Checks.{needed, matrix-checks, decode-checks}
+use Rattle.decode_checks.specs.Passing.{fits}
+use Rattle.decode_phases.specs.Answers.{Lent, rooms, labels, Checks, Answers, outcome-report}
+use Rattle.decode.specs.Promise.{Decodes}
+use Rattle.spelling.specs.Spelling.{characters}
+use Rattle.read_text.specs.Promise.{ReadsBy, Reads}
 
 -- Collapse and Spread: what passes the checks is short.
 module _ (few : ℕ) (w : List ℕ) where

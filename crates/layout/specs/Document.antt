@@ -17,10 +17,12 @@ use Rattle.expression.specs.Repetition.{number, from-on, from-to, comma, counts
 use Rattle.expression.specs.Read.{grouped, step, go, read, whole, expressionOf}
 use Rattle.positions.specs.Opened.{anyOf, copies, nested, repeated, opened, labels}
 use Rattle.positions.specs.Numbered.{numbered, positionAutomaton}
-use Rattle.compile.specs.Call.{distinct, compile-call}
+use Rattle.alphabet.specs.Alphabet.{distinct}
+use Rattle.compile.specs.Call.{compile-call}
 use Rattle.reader.specs.Cases.{cases, cases-stated}
-use Rattle.scan.specs.Sheet.{onto, pieces, both, every, closed, costOf, columnOf, laid, sheetFrom, sheetOf}
-use Rattle.print.specs.Lines.{digits, decimal, following, spaced}
+use Rattle.sheet_text.specs.Sheet.{onto, pieces, both, every, closed, costOf, columnOf, laid, sheetFrom, sheetOf}
+use Rattle.numerals.specs.Numerals.{digits, decimal}
+use Rattle.path_text.specs.Labels.{following, spaced}
 use Rattle.layout.specs.Answer.{Prints}
 
 -- "Input in full" and "Output in full"

@@ -10,12 +10,13 @@ use Rattle.lists.specs.Written.{take-written, written-fits}
 use Rattle.refusal.specs.declared.Refusal.the-variants as row
 use Rattle.refusal.specs.Number.{numberOf}
 use Rattle.reading.specs.Matrix.{matrix}
-use Rattle.scan.specs.Sheet.{Sheet, sheetOf, matrixOf}
-use Rattle.scan.specs.Answers.{answerOf, Scans}
-use Rattle.scan.specs.Parts.{answered, sheet-within, sheet-alphabet, sheet-text, sheet-costs, sheet-area}
+use Rattle.sheet_text.specs.Sheet.{Sheet, sheetOf, matrixOf}
+use Rattle.sheet_text.specs.Parts.{sheet-within, sheet-alphabet, sheet-text, sheet-costs, sheet-area}
+use Rattle.scan.specs.Answers.{answerOf, Scans, answered}
 use Rattle.scan.specs.declared.Scanned.the-variants as scanned
 use Rattle.print.specs.Lines.{refusal-line}
-use Rattle.layout.specs.Answer.{PrintsReading, PrintsSheet, Prints}
+use Rattle.read_print.specs.Answer.{PrintsReading}
+use Rattle.layout.specs.Answer.{PrintsSheet, Prints}
 
 -- A sheet by its places: the two lines lie in the input and the costs in the memory, and what is printed for them is printed for it.
 pub record Laid (input costs : List ℕ) (a t w n : ℕ) : Type 0 where

@@ -1,39 +1,12 @@
 // From the bytes of a sheet to the bytes that are printed for it (document 01, "Confidences and the sheet program").
-use reader::Reading;
+use read_print::answer_reading;
 use refusal::Refusal;
 use scan::Scanned;
 ghost use mathlib.Core.Path.{_≡_};
 ghost use Prim.Native.Nat.{_≤_};
 ghost use lib.ListN.{length};
-ghost use Rattle.reading.specs.Matrix.{matrix};
-ghost use Rattle.layout.specs.Answer.{PrintsReading, Prints};
-ghost use Rattle.layout.specs.Promise.{Sized, Answers};
-
-// Reads an alphabet, a text and a matrix, and prints what Read answers; the number of bytes.
-fn answer_reading(
-    alphabet: &[u8],
-    text: &[u8],
-    costs: &[u32],
-    width: usize,
-    count: usize,
-    form: &mut [u32],
-    path: &mut [u8],
-    word: &mut [u8],
-    work: &mut [u32],
-    out: &mut [u8],
-) -> usize
-    requires { ⌜ Sized (now form) (record { path = now path; word = now word; work = now work }) × (1300 ≤ length (now out)) ⌝ }
-    ensures { λ r. ⌜ Answers (PrintsReading (now (alphabet .entry)) (now (text .entry)) (matrix (now (costs .entry)) width count)) (now (out .entry)) (now (out .exit)) r ⌝ }
-{
-    match reader::read(alphabet, text, costs, width, count, form, path, word, work) {
-        Reading::Refused(r) => print::print_refusal(r, out),
-        Reading::Path {
-            price,
-            length,
-            form: _,
-        } => print::print_reading(price, &word[..length], &path[..count], out),
-    }
-}
+ghost use Rattle.read_print.specs.Promise.{Sized, Answers};
+ghost use Rattle.layout.specs.Answer.{Prints};
 
 // Reads a sheet, with memory for its costs and for Read, and prints its reading or refusal; the number of bytes.
 fn answer_sheet(

@@ -20,10 +20,12 @@ use Rattle.expression.specs.Read.{Mode, m-alternation, m-branch, m-piece, m-gro
 use Rattle.expression.specs.Steps.{read-step}
 use Rattle.tokens.specs.declared.Part.{Part}
 use Rattle.tokens.specs.declared.Part.the-variants as part
-use Rattle.tokens.specs.Place.{place, place-drop, next-at, rest-at, byte-is}
-use Rattle.tokens.specs.Answers.{partOf, repeatsOf, set-tree}
-use Rattle.parse.specs.Sums.{few-times}
-use Rattle.parse.specs.Parts.{add, repeated, closed, partAt, Found, part-found}
+use Rattle.characters.specs.Place.{place, place-drop, next-at, rest-at, byte-is}
+use Rattle.tokens.specs.Answers.{partOf, set-tree}
+use Rattle.repetition.specs.Answers.{repeatsOf}
+use Rattle.counting.specs.Sums.{few-times}
+use Rattle.counting.specs.Parts.{add, repeated, closed}
+use Rattle.parse.specs.Parts.{partAt, Found, part-found}
 
 module _ (A text : List ℕ) where
   -- what is made of a tree that was read, where its letters are known

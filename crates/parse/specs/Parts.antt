@@ -1,62 +1,23 @@
 -- The parts of a text at their places, as the parser answers them, and what a part that was read says. Assumes nothing.
--- Used by the contracts, the proofs, Checked and Cycle.
+-- Used by the proofs, Checked and Cycle.
 use mathlib.Core.Path.{_≡_, refl, sym, ap, _∙_}
 use mathlib.Core.List.{List}
-use mathlib.Core.Bool.{true, cond}
-use Prim.Native.Nat.{ℕ, _+_, _*_, _≤_, _<_}
-use Prim.Native.Char.{code}
+use Prim.Native.Nat.{ℕ, _≤_, _<_}
 use native.Mathlib.Omega.{arith}
-use lib.ListN.{length, getD, drop, length-drop}
-use lib.Dec.{eqb}
-use borrow.Author.Tests.{eq-eqb, ne-eqb}
-use Rattle.lists.specs.Each.{drop-here, drop-all}
-use Rattle.refusal.specs.declared.Refusal.the-variants as row
-use Rattle.expression.specs.Bytes.{bytes}
-use Rattle.expression.specs.Tree.{onward, Tree}
-use Rattle.expression.specs.Text.{Reads, found, fault, one-of}
-use Rattle.expression.specs.Letters.{copiesOf, letterCount}
+use lib.ListN.{length, drop, length-drop}
+use Rattle.expression.specs.Tree.{Tree}
+use Rattle.expression.specs.Text.{Reads, found, fault}
+use Rattle.expression.specs.Letters.{letterCount}
 use Rattle.expression.specs.Sense.{few}
-use Rattle.expression.specs.Read.{Mode, ends, read}
+use Rattle.expression.specs.Read.{Mode, read}
 use Rattle.expression.specs.Says.{of-found}
 use Rattle.expression.specs.Front.{Front, Stop}
 use Rattle.expression.specs.Sound.{read-sound}
 use Rattle.expression.specs.Steps.{read-forward}
 use Rattle.tokens.specs.declared.Part.{Part}
 use Rattle.tokens.specs.declared.Part.the-variants as part
-use Rattle.tokens.specs.declared.Repeats.{Repeats}
-use Rattle.tokens.specs.declared.Repeats.the-variants as count
-use Rattle.tokens.specs.Place.{place, behind}
+use Rattle.characters.specs.Place.{place, behind}
 use Rattle.tokens.specs.Answers.{partOf}
-
--- a part that goes on behind n letters
-abbrev pub add : ℕ → Part → Part
-add n (part.Read e m) = part.Read e (few (n + m))
-add n (part.Refused x) = part.Refused x
-
--- a part of n letters, repeated
-abbrev pub repeated : ℕ → Repeats → Part
-repeated n (count.Between least most e) = part.Read e (few (most * n))
-repeated n (count.Onward least e) = part.Read e (few (copiesOf (onward least) * n))
-repeated n (count.Refused x) = part.Refused x
-
--- a group's content, and the `)` behind it
-abbrev pub closed : List ℕ → Part → Part
-closed text (part.Read e n) = cond (eqb (getD text e 0) (code ")")) (part.Read (e + 1) n) (part.Refused row.MisplacedSign)
-closed text (part.Refused x) = part.Refused x
-
-module _ (text : List ℕ) (e n : ℕ) where
-  pub closed-is : getD text e 0 ≡ code ")" → part.Read (e + 1) n ≡ closed text (part.Read e n)
-  closed-is k = rw (eq-eqb (getD text e 0) (code ")") k)
-
-  pub closed-not : (getD text e 0 ≡ code ")" → ⊥) → part.Refused row.MisplacedSign ≡ closed text (part.Read e n)
-  closed-not k = rw (ne-eqb (getD text e 0) (code ")") k)
-
--- a branch ends here
-pub ends-none : (text : List ℕ) (at : ℕ) → length text ≤ at → true ≡ ends (drop at text)
-ends-none text at l = sym (ap ends (drop-all text at l))
-
-pub ends-by : (text : List ℕ) (at : ℕ) → at < length text → one-of (bytes "|)") (getD text at 0) ≡ ends (drop at text)
-ends-by text at l = sym (ap ends (drop-here 0 text at l))
 
 module _ (A text : List ℕ) where
   -- the part at a place

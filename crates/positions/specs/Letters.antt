@@ -1,5 +1,5 @@
 -- A tree opens into as many letters as it counts (document 01, "Opening and the compiled form"). Assumes nothing.
--- Used by Compiled, Exact and FirstLast; in build.
+-- Used by Compiled, Exact and FirstLast; in build and letters.
 use Prim.Native.Nat.{ℕ, zero, suc, _+_, _-_, _*_}
 use mathlib.Core.Path.{_≡_, refl, sym, ap, _∙_}
 use mathlib.Core.Bool.{cond}

@@ -1,6 +1,6 @@
 -- An opened expression, its set of words, and how the tree of an expression opens (document 01, "Opening and the compiled form").
 -- Assumes nothing.
--- Used by 8 files of specs/; in build, compile, layout and reader.
+-- Used by 8 files of specs/; in build, compile, layout, letters and reader.
 use Prim.Native.Nat.{ℕ, zero, suc, _-_}
 use mathlib.Core.Path.{_≡_}
 use mathlib.Core.Logic.{_⊎_}

@@ -34,7 +34,8 @@ use Rattle.expression.specs.Read.{grouped, step, go, read, whole, expressionOf}
 use Rattle.expression.specs.Grammar.{WordsOf}
 use Rattle.positions.specs.Opened.{anyOf, copies, nested, repeated, opened, labels}
 use Rattle.positions.specs.Numbered.{numbered, positionAutomaton}
-use Rattle.compile.specs.Call.{distinct, compile-call}
+use Rattle.alphabet.specs.Alphabet.{distinct}
+use Rattle.compile.specs.Call.{compile-call}
 use Rattle.compile.specs.Meaning.{compiled-means}
 
 -- alphabet, text, costs, columns; the path that is read, or none, and its price. Or alphabet, text; the form that it compiles to.

@@ -14,6 +14,7 @@ use Rattle.refusal.specs.declared.Refusal.the-variants.{NoReading}
 use Rattle.refusal.specs.declared.Checked.the-variants.{Passed, Refused}
 use Rattle.refusal.specs.Verdict.{passed, refused, first-refusal}
 use Rattle.refusal.specs.Report.{Report, turned-away, filling}
+use Rattle.answers.specs.Decoded.{read}
 use Rattle.ctc.specs.Collapse.{collapse}
 use Rattle.ctc.specs.Spread.{spread, Shortest, spread-is-shortest}
 use Rattle.automaton.specs.Form.{lettersOf}
@@ -23,9 +24,10 @@ use Rattle.reading.specs.Reading.{Rival, Outcome}
 use Rattle.expression.specs.Grammar.{WordsOf}
 use Rattle.compile.specs.Call.{compile-call}
 use Rattle.compile.specs.Meaning.{Means, compiled-means}
-use Rattle.decode.specs.Checks.{needed, matrix-checks}
-use Rattle.decode.specs.Promise.{Lent, rooms, read, outcome-report, path-of, word-of, Answers}
-use Rattle.reader.specs.Promise.{characters, Reads}
+use Rattle.decode_checks.specs.Checks.{needed, matrix-checks}
+use Rattle.decode_phases.specs.Answers.{Lent, rooms, outcome-report, path-of, word-of, Answers}
+use Rattle.spelling.specs.Spelling.{characters}
+use Rattle.read_text.specs.Promise.{Reads}
 
 -- what Read hands back: a rival, its price the path's own, no rival cheaper, each of equal price not before it by labels; the path, and
 -- its collapse as characters, in the lent memory

@@ -1,6 +1,6 @@
 -- What is asked of a reading (demand 3), for any set of words: the best of all rivals, or none where there is no rival.
 -- Assumes nothing.
--- Used by Choice, Columns and Exhaustive; in decode, kavurehy, layout, reader and trellis.
+-- Used by Choice, Columns and Exhaustive; in 7 other crates.
 use Prim.Native.Nat.{ℕ, zero, suc, _+_, _≤_, _<_}
 use mathlib.Core.Path.{_≡_, refl, sym, ap, _∙_}
 use mathlib.Core.Option.{Option, some, none}

@@ -1,5 +1,5 @@
 -- The number of each row of document 01's table "What is turned away". Assumes nothing.
--- Used by the contracts, the proofs and Report; in compile, expression, form, layout, print and reader.
+-- Used by the contracts, the proofs and Report; in 8 other crates.
 use Prim.Native.Nat.{ℕ}
 use Rattle.refusal.specs.declared.Refusal.{Refusal}
 use Rattle.refusal.specs.declared.Refusal.the-variants.{Alphabet, TextLength, TextByte, MisplacedSign, Depth, Count, Bracket, Foreign, Letters}

@@ -1,12 +1,13 @@
 -- What `scan` promises: it answers the sheet that the input is, or that it is none, and stores the sheet's costs. Assumes nothing.
--- Used by the contracts, Parts and Whole; in layout.
-use mathlib.Core.Path.{_≡_}
+-- Used by the contracts and Whole; in layout.
+use mathlib.Core.Path.{_≡_, refl}
 use mathlib.Core.Option.{Option, some, none}
 use mathlib.Core.List.{List}
 use Prim.Native.Nat.{ℕ}
+use native.Mathlib.Omega.{arith}
 use lib.ListN.{length}
 use Rattle.lists.specs.Written.{written}
-use Rattle.scan.specs.Sheet.{Sheet, sheetOf, matrixOf}
+use Rattle.sheet_text.specs.Sheet.{Sheet, sheetOf, matrixOf}
 use Rattle.scan.specs.declared.Scanned.{Scanned}
 use Rattle.scan.specs.declared.Scanned.the-variants as scanned
 
@@ -21,3 +22,16 @@ pub record Scans (input before after : List ℕ) (r : Scanned) : Type 0 where
   pub answer : r ≡ answerOf (sheetOf input)
   pub costs : (S : Sheet) → sheetOf input ≡ some S → after ≡ written (matrixOf S .costs) before
   pub size : length after ≡ length before
+
+-- an answer that is a sheet tells that there is one, and these of its parts
+pub record Answered (o : Option Sheet) (alphabet text width count : ℕ) : Type 0 where
+  pub sheet : Sheet
+  pub is : o ≡ some sheet
+  pub is-alphabet : alphabet ≡ length (sheet .alphabet)
+  pub is-text : text ≡ length (sheet .text)
+  pub is-width : width ≡ matrixOf sheet .width
+  pub is-count : count ≡ matrixOf sheet .count
+
+pub answered : (o : Option Sheet) (a t w n : ℕ) → scanned.Sheet a t w n ≡ answerOf o → Answered o a t w n
+answered none a t w n e = let z : _≡_ {A = ℕ} 0 1 = cc in absurd (omega arith)
+answered (some S) a t w n e = record { sheet = S; is = refl; is-alphabet = cc; is-text = cc; is-width = cc; is-count = cc }

@@ -1,10 +1,2 @@
-pub mod Sheet
-pub mod Examples
 pub mod Answers
-pub mod Parts
-pub mod Rows
-pub mod Places
-pub mod Digits
-pub mod Storing
-pub mod Matrices
 pub mod Whole

@@ -1,5 +1,5 @@
-// Prints answers and lists on standard output, for the programs that run vectors. What is written is compared with the program's
-// stored output; no contract can speak of it.
+// Prints answers and lists on standard output. What is written is compared with the stored output; no contract can
+// speak of it.
 use libc::STDOUT_FILENO;
 use refusal::Counted;
 use refusal::Refusal;
@@ -37,6 +37,16 @@ pub fn words(list: &[u32]) {
     while i < list.len() {
         word(list[i]);
         i += 1;
+    }
+}
+
+// The last n words of a list, or all.
+pub fn last_words(list: &[u32], n: usize) {
+    if n < list.len() {
+        let at = list.len() - n;
+        words(&list[at..]);
+    } else {
+        words(list);
     }
 }
 

@@ -1,5 +1,5 @@
 -- The whole table, filled from the last row to the first. Assumes nothing.
--- Used by the contracts and the proofs; in decode.
+-- Used by the contracts and the proofs; in decode_phases.
 use Prim.Native.Nat.{ℕ, _+_, _*_, _-_, _<_, _≤_}
 use mathlib.Core.Path.{_≡_, refl, subst, _∙_}
 use mathlib.Core.Logic.{_⊎_, inl, inr}
@@ -15,9 +15,10 @@ use Rattle.automaton.specs.Valid.{Valid}
 use Rattle.trellis.specs.CostToGo.{CostToGo}
 use Rattle.trellis.specs.Extended.{extended}
 use Rattle.trellis.specs.Table.{Row, Table}
-pub use Rattle.table.specs.Column.{states}
-use Rattle.table.specs.Column.{Bounded}
-use Rattle.table.specs.Rows.{RowFilled, LastFilled}
+use Rattle.offers.specs.Column.{Bounded}
+pub use Rattle.row.specs.Letters.{states}
+use Rattle.row.specs.Rows.{RowFilled}
+use Rattle.table.specs.Last.{LastFilled}
 
 -- the matrix has the form's width and as many costs as it says, and the memory has room for a table whose rows are `stride` apart
 pub record Sized (f : List ℕ) (M : Matrix) (work : List ℕ) (stride : ℕ) : Type 0 where

@@ -1,5 +1,2 @@
-pub mod Offers
-pub mod Column
-pub mod Letters
-pub mod Rows
+pub mod Last
 pub mod Fill

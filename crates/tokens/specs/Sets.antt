@@ -19,11 +19,12 @@ use Rattle.expression.specs.Text.{Reads, found, fault, then, first-of}
 use Rattle.expression.specs.Letters.{labelsOf, letterCount}
 use Rattle.expression.specs.Sense.{few}
 use Rattle.expression.specs.Sets.{special, alone, escaped, bracket, a-set, labelled-set}
-use Rattle.tokens.specs.declared.End.the-variants as end
+use Rattle.characters.specs.Place.{place, place-drop, byte-within, fourth}
+use Rattle.bracket.specs.declared.End.the-variants as end
+use Rattle.bracket.specs.Answers.{endOf, is-found, setOf}
+use Rattle.bracket.specs.Brackets.{bracketAt}
 use Rattle.tokens.specs.declared.Part.the-variants as part
-use Rattle.tokens.specs.Place.{place, place-drop, byte-within, fourth}
-use Rattle.tokens.specs.Answers.{endOf, partOf, set-tree, is-found, setOf, SetAt, setAt}
-use Rattle.tokens.specs.Brackets.{bracketAt}
+use Rattle.tokens.specs.Answers.{partOf, set-tree, SetAt, setAt}
 
 -- a byte alone is in its set
 member-alone : (b x : ℕ) → eqb b x ≡ member (alone b) x

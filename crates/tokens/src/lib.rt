@@ -1,76 +1,26 @@
-// What stands at a place of an expression's text (document 01, "Expression text"): a set, that is an ordinary character, `.` or a
-// bracket; or a repetition. Each answer is that of crate `expression`'s definition on the text from that place on. The text may have
-// any bytes.
-pub mod bracket; // bracket.rt: brackets
-pub mod count; // count.rt: repetitions
-
+// What stands at a place of an expression's text (document 01, "Expression text"), where it is a set: an ordinary character, `.` or a
+// bracket. Each answer is that of crate `expression`'s definition on the text from that place on. The text may have any bytes.
+use bracket::End;
 use bracket::bracket_end;
 use bracket::bracket_has;
+use characters::few;
+use characters::one_if;
+use characters::one_of;
+use characters::peek;
 use refusal::Refusal;
 ghost use mathlib.Core.Path.{_≡_};
-ghost use mathlib.Core.Bool.{cond};
 ghost use Prim.Native.Nat.{_+_, _<_};
-ghost use lib.ListN.{length, getD, drop};
+ghost use lib.ListN.{length, drop};
 ghost use Rattle.expression.specs.Tree.{member as memberOf};
 ghost use Rattle.expression.specs.Letters.{labelsOf};
-ghost use Rattle.expression.specs.Text.{one-of};
 ghost use Rattle.expression.specs.Sets.{escaped, a-set};
-ghost use Rattle.expression.specs.Sense.{few as fewOf};
-ghost use Rattle.tokens.specs.Place.{until};
-ghost use Rattle.tokens.specs.Answers.{endOf, partOf, set-tree, SetAt, setAt};
-
-// Where a set ends, or why it is turned away.
-pub enum End {
-    At(usize),
-    Refused(Refusal),
-}
+ghost use Rattle.bracket.specs.Answers.{endOf};
+ghost use Rattle.tokens.specs.Answers.{partOf, set-tree, SetAt, setAt};
 
 // A part of the text: where it ends, and how many letters it opens into, counted up to 128; or why it is turned away.
 pub enum Part {
     Read(usize, usize),
     Refused(Refusal),
-}
-
-// A repetition: at least and at most so many, or so many and more; then where it ends. Or why it is turned away.
-pub enum Repeats {
-    Between(usize, usize, usize),
-    Onward(usize, usize),
-    Refused(Refusal),
-}
-
-// The byte at a place, or 0 past the end.
-pub fn peek(text: &[u8], at: usize) -> u8
-    ensures { λ r. ⌜ r ≡ getD (now (text .entry)) at 0 ⌝ }
-{
-    if at < text.len() { text[at] } else { 0 }
-}
-
-// Is the byte one of these signs?
-pub fn one_of(signs: &[u8], b: u8) -> bool
-    ensures { λ r. ⌜ r ≡ one-of (now (signs .entry)) b ⌝ }
-{
-    let mut i = 0;
-    while i < signs.len() {
-        if b == signs[i] {
-            return true;
-        }
-        i += 1;
-    }
-    false
-}
-
-// Where the first such sign stands from a place on; past the end if there is none.
-fn find(text: &[u8], from: usize, sign: u8) -> usize
-    ensures { λ r. ⌜ r ≡ from + until sign (drop from (now (text .entry))) ⌝ }
-{
-    let mut i = from;
-    while i < text.len() {
-        if text[i] == sign {
-            return i;
-        }
-        i += 1;
-    }
-    i
 }
 
 // Where the escaped character ends whose `\` stands here.
@@ -137,19 +87,6 @@ fn labels(alphabet: &[u8], text: &[u8], at: usize) -> usize
         i += 1;
     }
     n
-}
-
-fn one_if(t: bool) -> usize
-    ensures { λ r. ⌜ r ≡ cond t 1 0 ⌝ }
-{
-    if t { 1 } else { 0 }
-}
-
-// A number up to 128.
-pub fn few(n: usize) -> usize
-    ensures { λ r. ⌜ r ≡ fewOf n ⌝ }
-{
-    if n < 128 { n } else { 128 }
 }
 
 // The set that begins here, as a part of the text: 8 if the alphabet has none of its labels.

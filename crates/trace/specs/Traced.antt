@@ -1,6 +1,6 @@
 -- The whole trace: what it relies on, what it promises of the path memory, and where it stands before each column.
 -- Assumes nothing.
--- Used by the contracts and the proofs; in decode.
+-- Used by the contracts and the proofs; in decode_phases.
 use Prim.Native.Nat.{ℕ, _+_, _*_, _-_, _≤_, _<_}
 use mathlib.Core.Path.{_≡_, refl, sym, ap, ap₂, _∙_, subst}
 use mathlib.Core.Bool.{true, false}
@@ -22,9 +22,9 @@ use Rattle.trellis.specs.Trace.{BestFrom, Tracing, tracing-start, tracing-more,
 use Rattle.trellis.specs.Extended.{extended, step-within}
 use Rattle.trellis.specs.Reached.{entering, Reached, Kept, Picked, picked-chosen, next-row, some-kept}
 use Rattle.trellis.specs.Table.{Table}
-use Rattle.trace.specs.declared.Front.{Front}
-use Rattle.trace.specs.Steps.{Within, entering-high}
-use Rattle.trace.specs.Column.{Sized, KeptOf, SomeKept, Taken}
+use Rattle.steps.specs.Steps.{Within, entering-high}
+use Rattle.column.specs.declared.Front.{Front}
+use Rattle.column.specs.Column.{Sized, KeptOf, SomeKept, Taken}
 
 -- what the trace relies on: a valid form, a matrix of its width, and the table of costs to go, by which there is a way from state 0
 pub record Ready (f : List ℕ) (M : Matrix) (work : List ℕ) (base stride : ℕ) : Type 0 where

@@ -1,23 +1,14 @@
 // The best path, traced forward through the table of costs to go (document 01, "Extended states and decoding"): the set of all
 // equally cheap states is taken on column by column, by the lowest label that keeps to the price.
-mod column;
-mod steps;
-
+use column::Front;
 use column::advance;
-use form::letters;
 use form::starts;
+use form_words::letters;
 ghost use Prim.Native.Nat.{_≤_};
 ghost use lib.ListN.{length};
 ghost use Rattle.automaton.specs.Form.{view};
 ghost use Rattle.reading.specs.Matrix.{matrix};
 ghost use Rattle.trace.specs.Traced.{Ready, Traced};
-
-// Where the trace stands: the label of the last column, what is left to pay, and the states that share it.
-struct Front {
-    label: u8,
-    left: u32,
-    set: [bool; 255],
-}
 
 // Writes the best path, one label for each column. The row of column t begins at base + t * stride of the work memory.
 pub fn trace(

@@ -1,6 +1,6 @@
 -- The costs to go of an automaton's extended states, row by row: what the code computes for the states of one letter, by candidates that
 -- are found once a column. Assumes nothing.
--- Used in table.
+-- Used in capped, offers, row and table.
 use Prim.Native.Nat.{ℕ, _+_, _*_, _-_, _≤_, min}
 use mathlib.Core.Path.{_≡_, refl, sym, ap, ap₂, _∙_}
 use mathlib.Core.Bool.{Bool, true, false}

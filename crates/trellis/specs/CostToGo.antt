@@ -1,6 +1,6 @@
 -- The cost to go from a state: the least price of all ways from it over the columns that are left, TOP where none is below. The last
 -- row, and each row from the next. Assumes nothing.
--- Used by 6 files of specs/; in decode, table and trace.
+-- Used by 6 files of specs/; in decode_phases, row, table and trace.
 use Prim.Native.Nat.{ℕ, _+_}
 use mathlib.Core.Path.{_≡_, refl, sym}
 use mathlib.Core.List.{List, [], _∷_}

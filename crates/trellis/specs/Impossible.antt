@@ -1,6 +1,6 @@
 -- One mark for the impossible: a price that no path of usable costs reaches. A sum that stops at it takes a cost above it, hence a
 -- barred one, as impossible. Assumes nothing.
--- Used by 6 files of specs/; in decode, table and trace.
+-- Used by 6 files of specs/; in capped, column, decode_phases, offers, row and trace.
 use Prim.Native.Nat.{ℕ, _+_, _*_, _≤_, _<_, min}
 use mathlib.Core.Path.{_≡_, refl}
 use mathlib.Core.List.{List, [], _∷_}

@@ -1,6 +1,6 @@
 -- One column of the trace through extended states: the states that a step from the set leads to, those of them that keep to the price,
 -- and the lowest label among these. Assumes nothing.
--- Used in trace.
+-- Used in column, steps and trace.
 use Prim.Native.Nat.{ℕ, _+_, _*_, _-_, _/_, _%_, _≤_}
 use mathlib.Core.Path.{_≡_, refl, sym, ap, _∙_, subst}
 use mathlib.Core.Bool.{true, cond}

@@ -3,9 +3,9 @@ use mathlib.Core.Path.{sym, _∙_, subst}
 use lib.ListN.{length}
 use denote.Ref.{now}
 use Rattle.refusal.specs.Report.{reported, Fills, fills-refused}
+use Rattle.alphabet.specs.Tests.{text-alphabet}
 use Rattle.compile.specs.Call.{compile-call}
 use Rattle.compile.specs.Steps.{call-refused, call-passed}
-use Rattle.compile.specs.Tests.{text-alphabet}
 use borrow.Author.Needs.{needs}
 use Rattle.compile.proofs.compile.Statement.{statement}
 use Rattle.compile.proofs.compile.Tie as tie

@@ -35,16 +35,17 @@ use denote.Triple.Spec.{Meets, tripleOf}
 use denote.Triple.Table.{entered, cited}
 use denote.Triple.Walked.{says}
 use denote.Triple.Clauses.{ensured, Lasts, lasts}
+use Rattle.answers.specs.Decoded.{reported}
 use Rattle.reading.specs.Matrix.{matrix, Matrix as Value}
 use Rattle.decode.specs.View.{value}
-use Rattle.decode.specs.Promise.{Decodes, reported}
+use Rattle.decode.specs.Promise.{Decodes}
 use Rattle.decode.specs.declared.Matrix.{Matrix}
-use Rattle.decode.specs.declared.Decoded.{Decoded}
+use Rattle.answers.specs.declared.Decoded.{Decoded}
 use Rattle.decode.proofs.PassedOn.{After, ends, passed-meets}
 use Rattle.decode.proofs.Matrix as T
 use Rattle.decode.proofs.Matrix.Laws as T′
-use Rattle.decode.proofs.Decoded as S
-use Rattle.decode.proofs.Decoded.Laws as S′
+use Rattle.answers.proofs.Decoded as S
+use Rattle.answers.proofs.Decoded.Laws as S′
 use Rattle.decode.proofs.matrix_of as maker
 use Rattle.decode.proofs.matrix_of.Symbol as maker-def
 use Rattle.decode.proofs.matrix_of.Symbol.{name as #maker}

@@ -34,16 +34,17 @@ use denote.Triple.Spec.{Meets, tripleOf}
 use denote.Triple.Table.{entered, cited}
 use denote.Triple.Walked.{says}
 use denote.Triple.Clauses.{ensured, Lasts, lasts}
+use Rattle.answers.specs.Decoded.{reported}
 use Rattle.decode.specs.View.{value}
-use Rattle.decode.specs.Promise.{Decodes, reported}
+use Rattle.decode.specs.Promise.{Decodes}
 use Rattle.decode.specs.declared.Matrix.{Matrix}
-use Rattle.decode.specs.declared.Decoded.{Decoded}
+use Rattle.answers.specs.declared.Decoded.{Decoded}
 use Rattle.decode.proofs.PassedOn.{After, ends, passed-meets}
 use Rattle.decode.proofs.View.{field-types, fields, machine, apart, typed}
 use Rattle.decode.proofs.Matrix as T
 use Rattle.decode.proofs.Matrix.Laws as T′
-use Rattle.decode.proofs.Decoded as S
-use Rattle.decode.proofs.Decoded.Laws as S′
+use Rattle.answers.proofs.Decoded as S
+use Rattle.answers.proofs.Decoded.Laws as S′
 use Rattle.decode.proofs.decode_parts as callee
 use Rattle.decode.proofs.decode_parts.Symbol as callee-def
 use Rattle.decode.proofs.decode_parts.Symbol.{name as #callee}

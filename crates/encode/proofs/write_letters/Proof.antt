@@ -8,9 +8,8 @@ use lib.ListN.{length, take}
 use borrow.Author.Needs.{needs}
 use denote.Ref.{now}
 use Rattle.lists.specs.Written.{Filling, filling-from, filling-more, filling-room, filling-length, filling-stored-all}
-use Rattle.encode.specs.Parts.{letterBy, lettersBy}
+use Rattle.encode.specs.Parts.{letterBy, lettersBy, letters-first}
 use Rattle.lists.specs.Remaining.{from, map-here, map-past}
-use Rattle.encode.specs.Turns.{letters-first}
 use Rattle.encode.proofs.write_letters.Statement.{statement}
 use Rattle.encode.proofs.write_letters.Tie as tie
 

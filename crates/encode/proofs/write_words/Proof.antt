@@ -6,8 +6,9 @@ use lib.ListN.{length-set}
 use borrow.Author.Needs.{needs}
 use denote.Ref.{now}
 use Rattle.automaton.specs.Form.{encode}
+use Rattle.arc_words.specs.Rows.{arcsBy}
 use Rattle.encode.specs.Arrays.{arrayed}
-use Rattle.encode.specs.Parts.{lettersBy, arcsBy, arrayed-words}
+use Rattle.encode.specs.Parts.{lettersBy, arrayed-words}
 use Rattle.encode.specs.Whole.{length-words, letters-room, arcs-room, all-written}
 use Rattle.encode.proofs.write_words.Statement.{statement}
 use Rattle.encode.proofs.write_words.Tie as tie

@@ -5,10 +5,11 @@ use native.Mathlib.Omega.{arith}
 use denote.Ref.{now}
 use borrow.Author.Tests.{not-true, not-false}
 use Rattle.refusal.specs.Verdict.{passed}
+use Rattle.answers.specs.Judgement.{Judgement, report}
 use Rattle.labels.specs.Calls.{label-fault}
 use Rattle.automaton.specs.Form.{validForm}
 use Rattle.automaton.specs.Valid.{valid-at}
-use Rattle.form.specs.Judge.{Judgement, report, judged, judged-invalid, judged-no-word, judged-word}
+use Rattle.form.specs.Judge.{judged, judged-invalid, judged-no-word, judged-word}
 use borrow.Author.Needs.{needs}
 use Rattle.form.proofs.judge.Statement.{statement}
 use Rattle.form.proofs.judge.Tie as tie

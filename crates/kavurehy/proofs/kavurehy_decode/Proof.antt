@@ -1,8 +1,9 @@
 -- `kavurehy::kavurehy_decode` meets its contract. Assumes nothing.
 use borrow.Author.Needs.{needs}
 use denote.Ref.{now}
+use Rattle.answers.specs.Decoded.{reported}
 use Rattle.reading.specs.Matrix.{matrix}
-use Rattle.decode.specs.Promise.{Lent, reported}
+use Rattle.decode_phases.specs.Answers.{Lent}
 use Rattle.kavurehy.specs.Bounds.{decode-fits}
 use Rattle.kavurehy.proofs.kavurehy_decode.Statement.{statement}
 use Rattle.kavurehy.proofs.kavurehy_decode.Tie as tie

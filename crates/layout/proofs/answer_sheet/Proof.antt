@@ -11,8 +11,9 @@ use borrow.Author.Needs.{needs}
 use Rattle.reading.specs.Matrix.{matrix}
 use Rattle.scan.specs.Answers.{Scans}
 use Rattle.print.specs.Lines.{refusal-line}
-use Rattle.layout.specs.Answer.{PrintsReading, Prints}
-use Rattle.layout.specs.Promise.{answers, answers-as}
+use Rattle.read_print.specs.Answer.{PrintsReading}
+use Rattle.read_print.specs.Promise.{answers, answers-as}
+use Rattle.layout.specs.Answer.{Prints}
 use Rattle.layout.specs.Sheets.{Laid, laid-out, no-sheet}
 use Rattle.layout.proofs.answer_sheet.Statement.{statement}
 use Rattle.layout.proofs.answer_sheet.Tie as tie

@@ -6,8 +6,11 @@ use native.Mathlib.Omega.{arith}
 use lib.ListN.{length}
 use denote.Ref.{now}
 use borrow.Author.Needs.{needs}
-use Rattle.print.specs.Lines.{decimal, spaced, line, reading-lines}
-use Rattle.print.specs.Pieces.{front-room, back-room, both-stored, reading-short, stored-wrote}
+use Rattle.numerals.specs.Numerals.{decimal}
+use Rattle.numerals.specs.Pieces.{front-room, back-room, both-stored}
+use Rattle.path_text.specs.Labels.{spaced}
+use Rattle.print.specs.Lines.{line, reading-lines}
+use Rattle.print.specs.Lengths.{reading-short, stored-wrote}
 use Rattle.print.proofs.print_reading.Statement.{statement}
 use Rattle.print.proofs.print_reading.Tie as tie
 

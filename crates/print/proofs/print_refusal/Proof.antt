@@ -8,8 +8,10 @@ use denote.Ref.{now}
 use borrow.Author.Needs.{needs}
 use Rattle.expression.specs.Bytes.{bytes}
 use Rattle.refusal.specs.Number.{numberOf}
-use Rattle.print.specs.Lines.{decimal, line, refusal-line}
-use Rattle.print.specs.Pieces.{back-room, both-stored, refusal-short, stored-wrote}
+use Rattle.numerals.specs.Numerals.{decimal}
+use Rattle.numerals.specs.Pieces.{back-room, both-stored}
+use Rattle.print.specs.Lines.{line, refusal-line}
+use Rattle.print.specs.Lengths.{refusal-short, stored-wrote}
 use Rattle.print.proofs.print_refusal.Statement.{statement}
 use Rattle.print.proofs.print_refusal.Tie as tie
 

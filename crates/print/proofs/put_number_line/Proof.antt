@@ -4,8 +4,9 @@ use mathlib.Core.List.{[], _∷_}
 use native.Mathlib.Omega.{arith}
 use denote.Ref.{now}
 use borrow.Author.Needs.{needs}
-use Rattle.print.specs.Lines.{decimal, line}
-use Rattle.print.specs.Pieces.{front-room, back-room, both-stored}
+use Rattle.numerals.specs.Numerals.{decimal}
+use Rattle.numerals.specs.Pieces.{front-room, back-room, both-stored}
+use Rattle.print.specs.Lines.{line}
 use Rattle.print.proofs.put_number_line.Statement.{statement}
 use Rattle.print.proofs.put_number_line.Tie as tie
 

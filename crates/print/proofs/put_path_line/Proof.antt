@@ -4,8 +4,9 @@ use mathlib.Core.List.{[], _∷_}
 use native.Mathlib.Omega.{arith}
 use denote.Ref.{now}
 use borrow.Author.Needs.{needs}
-use Rattle.print.specs.Lines.{spaced, line}
-use Rattle.print.specs.Pieces.{front-room, back-room, both-stored}
+use Rattle.numerals.specs.Pieces.{front-room, back-room, both-stored}
+use Rattle.path_text.specs.Labels.{spaced}
+use Rattle.print.specs.Lines.{line}
 use Rattle.print.proofs.put_path_line.Statement.{statement}
 use Rattle.print.proofs.put_path_line.Tie as tie
 

@@ -4,8 +4,8 @@ use mathlib.Core.List.{[], _∷_}
 use native.Mathlib.Omega.{arith}
 use denote.Ref.{now}
 use borrow.Author.Needs.{needs}
+use Rattle.numerals.specs.Pieces.{front-room, back-room, both-stored}
 use Rattle.print.specs.Lines.{line}
-use Rattle.print.specs.Pieces.{front-room, back-room, both-stored}
 use Rattle.print.proofs.put_word_line.Statement.{statement}
 use Rattle.print.proofs.put_word_line.Tie as tie
 

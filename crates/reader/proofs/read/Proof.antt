@@ -35,6 +35,7 @@ use denote.Triple.Spec.{Meets, tripleOf}
 use denote.Triple.Table.{entered, cited}
 use denote.Triple.Walked.{says}
 use denote.Triple.Clauses.{ensured, Lasts, lasts}
+use Rattle.answers.specs.Reading.{reported}
 use Rattle.reading.specs.Matrix.{matrix, Matrix as Value}
 use Rattle.decode.specs.View.{value}
 use Rattle.decode.specs.declared.Matrix.{Matrix}
@@ -45,10 +46,10 @@ use Rattle.decode.proofs.matrix_of as maker
 use Rattle.decode.proofs.matrix_of.Symbol as maker-def
 use Rattle.decode.proofs.matrix_of.Symbol.{name as #maker}
 use Rattle.decode.proofs.matrix_of.Met as maker-thm
-use Rattle.reader.specs.Promise.{Reads, reported}
-use Rattle.reader.specs.declared.Reading.{Reading}
-use Rattle.reader.proofs.Reading as S
-use Rattle.reader.proofs.Reading.Laws as S′
+use Rattle.read_text.specs.Promise.{Reads}
+use Rattle.answers.specs.declared.Reading.{Reading}
+use Rattle.answers.proofs.Reading as S
+use Rattle.answers.proofs.Reading.Laws as S′
 use Rattle.reader.proofs.read_matrix as callee
 use Rattle.reader.proofs.read_matrix.Symbol as callee-def
 use Rattle.reader.proofs.read_matrix.Symbol.{name as #callee}

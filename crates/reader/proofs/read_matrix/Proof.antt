@@ -34,20 +34,21 @@ use denote.Triple.Spec.{Meets, tripleOf}
 use denote.Triple.Table.{entered, cited}
 use denote.Triple.Walked.{says}
 use denote.Triple.Clauses.{ensured, Lasts, lasts}
+use Rattle.answers.specs.Reading.{reported}
 use Rattle.decode.specs.View.{value}
 use Rattle.decode.specs.declared.Matrix.{Matrix}
 use Rattle.decode.proofs.PassedOn.{After, ends, passed-meets}
 use Rattle.decode.proofs.View.{field-types, fields, machine, apart, typed}
 use Rattle.decode.proofs.Matrix as T
 use Rattle.decode.proofs.Matrix.Laws as T′
-use Rattle.reader.specs.Promise.{Reads, reported}
-use Rattle.reader.specs.declared.Reading.{Reading}
-use Rattle.reader.proofs.Reading as S
-use Rattle.reader.proofs.Reading.Laws as S′
-use Rattle.reader.proofs.read_parts as callee
-use Rattle.reader.proofs.read_parts.Symbol as callee-def
-use Rattle.reader.proofs.read_parts.Symbol.{name as #callee}
-use Rattle.reader.proofs.read_parts.Met as callee-thm
+use Rattle.read_text.specs.Promise.{Reads}
+use Rattle.answers.specs.declared.Reading.{Reading}
+use Rattle.answers.proofs.Reading as S
+use Rattle.answers.proofs.Reading.Laws as S′
+use Rattle.read_text.proofs.read_parts as callee
+use Rattle.read_text.proofs.read_parts.Symbol as callee-def
+use Rattle.read_text.proofs.read_parts.Symbol.{name as #callee}
+use Rattle.read_text.proofs.read_parts.Met as callee-thm
 use Rattle.reader.proofs.read_matrix.Key.{name as #caller}
 use Rattle.reader.proofs.read_matrix as caller
 use Rattle.reader.proofs.read_matrix.Statement as stated
@@ -156,4 +157,4 @@ read-matrix-spec 𝓤 H 𝓜 𝓖 𝓡 =
     entered 𝓤 H (tripleOf 𝓤 H (𝓖 .A) caller.signature (caller.spec 𝓤 H (𝓖 .A) (𝓜 .mem) (𝓡 .run)))
     (tables 𝓤 H 𝓜 𝓡 code.env .C) (tables 𝓤 H 𝓜 𝓡 code.env .Λ) #caller code.function (code.unfolded 𝓤 H 𝓜 𝓡)
     (meets 𝓤 H (𝓖 .A) (givenOf 𝓤 H 𝓜 𝓖) (𝓜 .mem) (𝓡 .run) (tablesOf 𝓤 H 𝓜 (tables 𝓤 H 𝓜 𝓡 code.env))
-    (cited 𝓤 H (Callee 𝓤 H (𝓖 .A) (𝓜 .mem) (𝓡 .run)) 𝓜 𝓡 code.env #callee callee-def.routine code.calls-reader·read-parts (callee-thm.met 𝓤 H 𝓜 𝓖 𝓡)))
+    (cited 𝓤 H (Callee 𝓤 H (𝓖 .A) (𝓜 .mem) (𝓡 .run)) 𝓜 𝓡 code.env #callee callee-def.routine code.calls-read-text·read-parts (callee-thm.met 𝓤 H 𝓜 𝓖 𝓡)))

@@ -5,7 +5,7 @@ use native.Mathlib.Omega.{arith}
 use lib.ListN.{length}
 use denote.Ref.{now}
 use Rattle.automaton.specs.Form.{lettersOf}
-use Rattle.table.specs.Rows.{LastBelow, last-none, last-more, last-filled}
+use Rattle.table.specs.Last.{LastBelow, last-none, last-more, last-filled}
 use Rattle.table.proofs.fill_last.Statement.{statement}
 use Rattle.table.proofs.fill_last.Tie as tie
 

@@ -5,7 +5,7 @@ use lib.ListN.{getD}
 use denote.Ref.{now}
 use borrow.Author.Needs.{needs}
 use Rattle.expression.specs.Read.{m-branch}
-use Rattle.tokens.specs.Place.{byte-is}
+use Rattle.characters.specs.Place.{byte-is}
 use Rattle.build.specs.Made.{reading, branch-found}
 use Rattle.build.specs.BranchTurns.{branch-room, alternation-found, alternation-room, alternation-returns-branch, alternation-returns-choice}
 use Prim.Native.Nat.{ℕ, _-_}

@@ -4,7 +4,7 @@ use native.Mathlib.Omega.{arith}
 use lib.ListN.{getD}
 use denote.Ref.{now}
 use borrow.Author.Needs.{needs}
-use Rattle.tokens.specs.Place.{byte-is}
+use Rattle.characters.specs.Place.{byte-is}
 use Rattle.build.specs.PieceTurns.{set-found, set-room, deep, content-found, content-within, content-room, group-returns-set, group-returns-content}
 use Prim.Native.Nat.{ℕ, _-_}
 use Rattle.build.proofs.group.Reads as group

@@ -16,14 +16,14 @@ use Rattle.build.proofs.+alternation+branch+group+piece.Lts-group as gr
 use Rattle.build.proofs.piece.Reads as piece
 use Rattle.build.proofs.piece.Kinds as piece-kinds
 use Rattle.build.proofs.+alternation+branch+group+piece.Lts-piece as piece-lts
-use Rattle.build.proofs.parts.again.Reads as again-reads
-use Rattle.build.proofs.parts.choice.Reads as choice-reads
-use Rattle.build.proofs.parts.joint.Reads as joint-reads
-use Rattle.build.proofs.parts.perhaps.Reads as perhaps-reads
-use Rattle.build.proofs.token.copies_at.Reads as copies-at-reads
-use Rattle.build.proofs.token.set.Reads as set-reads
-use Rattle.parse.proofs.is_end.Reads as is-end-reads
-use Rattle.tokens.proofs.peek.Reads as peek-reads
+use Rattle.parts.proofs.again.Reads as again-reads
+use Rattle.parts.proofs.choice.Reads as choice-reads
+use Rattle.parts.proofs.joint.Reads as joint-reads
+use Rattle.parts.proofs.perhaps.Reads as perhaps-reads
+use Rattle.letters.proofs.copies_at.Reads as copies-at-reads
+use Rattle.letters.proofs.set.Reads as set-reads
+use Rattle.counting.proofs.is_end.Reads as is-end-reads
+use Rattle.characters.proofs.peek.Reads as peek-reads
 
 abbrev pub μ-alternation : Measures 4 alternation-kinds.ps ℕ
 μ-alternation κs a = 512 * (length (a .1 .0 .now) - a .1 .1 .0) + 258

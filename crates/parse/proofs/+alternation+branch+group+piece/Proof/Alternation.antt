@@ -5,8 +5,9 @@ use native.Mathlib.Omega.{arith}
 use denote.Ref.{now}
 use borrow.Author.Needs.{needs}
 use Rattle.expression.specs.Read.{m-branch}
-use Rattle.tokens.specs.Place.{byte-is}
-use Rattle.parse.specs.Parts.{add, Found, part-found}
+use Rattle.characters.specs.Place.{byte-is}
+use Rattle.counting.specs.Parts.{add}
+use Rattle.parse.specs.Parts.{Found, part-found}
 use Rattle.parse.specs.Cycle.{alternation-refused, alternation-alone, alternation-more}
 use Rattle.parse.proofs.alternation.Reads as alternation
 use Rattle.parse.proofs.+alternation+branch+group+piece.Lts-alternation as alternation-lts

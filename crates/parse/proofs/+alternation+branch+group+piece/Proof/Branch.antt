@@ -5,7 +5,8 @@ use native.Mathlib.Omega.{arith}
 use denote.Ref.{now}
 use borrow.Author.Needs.{needs}
 use Rattle.expression.specs.Read.{m-piece}
-use Rattle.parse.specs.Parts.{add, Found, part-found}
+use Rattle.counting.specs.Parts.{add}
+use Rattle.parse.specs.Parts.{Found, part-found}
 use Rattle.parse.specs.Cycle.{branch-refused, branch-last, branch-more}
 use Rattle.parse.proofs.branch.Reads as branch
 use Rattle.parse.proofs.+alternation+branch+group+piece.Lts-branch as branch-lts

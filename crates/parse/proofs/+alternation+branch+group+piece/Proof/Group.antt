@@ -4,8 +4,8 @@ use Prim.Native.Nat.{ℕ, _-_}
 use native.Mathlib.Omega.{arith}
 use denote.Ref.{now}
 use borrow.Author.Needs.{needs}
-use Rattle.tokens.specs.Place.{byte-is}
-use Rattle.parse.specs.Parts.{closed}
+use Rattle.characters.specs.Place.{byte-is}
+use Rattle.counting.specs.Parts.{closed}
 use Rattle.parse.specs.Cycle.{group-set, group-deep, group-closed}
 use Rattle.parse.proofs.group.Reads as group
 use Rattle.parse.proofs.+alternation+branch+group+piece.Lts-group as group-lts

@@ -16,13 +16,13 @@ use Rattle.parse.proofs.+alternation+branch+group+piece.Lts-group as gr
 use Rattle.parse.proofs.piece.Reads as piece
 use Rattle.parse.proofs.piece.Kinds as piece-kinds
 use Rattle.parse.proofs.+alternation+branch+group+piece.Lts-piece as piece-lts
-use Rattle.parse.proofs.added.Reads as added-reads
-use Rattle.parse.proofs.closed.Reads as closed-reads
-use Rattle.parse.proofs.is_end.Reads as is-end-reads
-use Rattle.parse.proofs.is_repeated.Reads as is-repeated-reads
-use Rattle.parse.proofs.repeated.Reads as repeated-reads
-use Rattle.tokens.proofs.count.repetition.Reads as repetition-reads
-use Rattle.tokens.proofs.peek.Reads as peek-reads
+use Rattle.counting.proofs.added.Reads as added-reads
+use Rattle.counting.proofs.closed.Reads as closed-reads
+use Rattle.counting.proofs.is_end.Reads as is-end-reads
+use Rattle.counting.proofs.is_repeated.Reads as is-repeated-reads
+use Rattle.counting.proofs.repeated.Reads as repeated-reads
+use Rattle.repetition.proofs.repetition.Reads as repetition-reads
+use Rattle.characters.proofs.peek.Reads as peek-reads
 use Rattle.tokens.proofs.set.Reads as set-reads
 
 abbrev pub μ-alternation : Measures 2 alternation-kinds.ps ℕ

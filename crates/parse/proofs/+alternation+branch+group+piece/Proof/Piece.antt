@@ -4,7 +4,8 @@ use Prim.Native.Nat.{ℕ, _-_}
 use denote.Ref.{now}
 use borrow.Author.Needs.{needs}
 use Rattle.expression.specs.Read.{m-group}
-use Rattle.parse.specs.Parts.{repeated, Found, part-found}
+use Rattle.counting.specs.Parts.{repeated}
+use Rattle.parse.specs.Parts.{Found, part-found}
 use Rattle.parse.specs.Cycle.{piece-refused, piece-plain, piece-repeated}
 use Rattle.parse.proofs.piece.Reads as piece
 use Rattle.parse.proofs.+alternation+branch+group+piece.Lts-piece as piece-lts

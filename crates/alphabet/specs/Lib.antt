@@ -1,0 +1,3 @@
+pub mod Alphabet
+pub mod Tests
+pub mod Turns

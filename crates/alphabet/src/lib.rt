@@ -1,0 +1,75 @@
+// Is a list an alphabet, is a list a text? (document 01, "Expression text"). They are told from other lists before the text is read.
+use labels::all_in_range;
+use refusal::Checked;
+use refusal::Refusal;
+ghost use mathlib.Core.Path.{_≡_};
+ghost use lib.ListN.{drop};
+ghost use lib.Dec.{eqb};
+ghost use Rattle.lists.specs.Among.{any};
+ghost use Rattle.refusal.specs.Verdict.{first-refusal};
+ghost use Rattle.alphabet.specs.Alphabet.{distinct, is-alphabet, text-checks};
+
+// Does the byte stand in the list, from an index on?
+fn comes_again(list: &[u8], from: usize, b: u8) -> bool
+    ensures { λ r. ⌜ r ≡ any (eqb b) (drop from (now (list .entry))) ⌝ }
+{
+    let mut i = from;
+    while i < list.len() {
+        if b == list[i] {
+            return true;
+        }
+        i += 1;
+    }
+    false
+}
+
+// Is no byte there twice?
+fn are_distinct(list: &[u8]) -> bool
+    ensures { λ r. ⌜ r ≡ distinct (now (list .entry)) ⌝ }
+{
+    let mut i: usize = 0;
+    while i < list.len() {
+        if comes_again(list, i + 1, list[i]) {
+            return false;
+        }
+        i += 1;
+    }
+    true
+}
+
+// 1 to 95 distinct bytes, each 32 to 126?
+fn is_alphabet(list: &[u8]) -> bool
+    ensures { λ r. ⌜ r ≡ is-alphabet (now (list .entry)) ⌝ }
+{
+    let n = list.len();
+    if n < 1 {
+        return false;
+    }
+    if 95 < n {
+        return false;
+    }
+    if !all_in_range(32, 126, list) {
+        return false;
+    }
+    are_distinct(list)
+}
+
+// Rows 1, 2 and 3.
+pub fn check_text(alphabet: &[u8], text: &[u8]) -> Checked
+    ensures { λ r. ⌜ r ≡ first-refusal (text-checks (now (alphabet .entry)) (now (text .entry))) ⌝ }
+{
+    if !is_alphabet(alphabet) {
+        return Checked::Refused(Refusal::Alphabet);
+    }
+    let n = text.len();
+    if n < 1 {
+        return Checked::Refused(Refusal::TextLength);
+    }
+    if 255 < n {
+        return Checked::Refused(Refusal::TextLength);
+    }
+    if !all_in_range(32, 126, text) {
+        return Checked::Refused(Refusal::TextByte);
+    }
+    Checked::Passed
+}

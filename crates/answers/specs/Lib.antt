@@ -1,0 +1,4 @@
+pub mod Judgement
+pub mod Decoded
+pub mod Reading
+pub mod Handed

@@ -1,0 +1,216 @@
+-- What the functions that store costs answer, and what a column line more makes of it. Each speaks of the columns that the rest of the
+-- input holds from a place on, and of the memory from a place on. Assumes nothing.
+-- Used by the contracts, the proofs and Matrices.
+use mathlib.Core.Path.{_≡_, refl, sym, ap, _∙_}
+use mathlib.Core.Option.{Option, some, none}
+use mathlib.Core.List.{List, [], _∷_, flatten}
+use mathlib.Core.Bool.{Bool, true, false, cond}
+use Prim.Native.Nat.{ℕ, _+_, _-_, _<_, _≤_}
+use native.Mathlib.Omega.{arith}
+use native.Mathlib.Numerals.{add-one}
+use lib.ListN.{length, getD, drop, set, length-append, length-drop}
+use lib.Seq.{sets}
+use lib.Dec.{eqb}
+use borrow.Author.Tests.{eq-eqb, ne-eqb, eqb-true}
+use Rattle.lists.specs.Each.{all, drop-all}
+use Rattle.lists.specs.Order.{and-left, and-right, and-both}
+use Rattle.lists.specs.Written.{Stored, stored-then}
+use Rattle.sheet_text.specs.Sheet.{both}
+use Rattle.sheet_text.specs.Rows.{rows, rows-end, rows-some, beside, put}
+use Rattle.digits.specs.Digits.{ReadCost}
+use Rattle.digits.specs.declared.Cost.the-variants as cost
+use Rattle.columns.specs.declared.Column.{Column}
+use Rattle.columns.specs.declared.Column.the-variants as column
+use Rattle.columns.specs.declared.Columns.{Columns}
+use Rattle.columns.specs.declared.Columns.the-variants as columns
+
+-- One column line.
+
+-- the first column of the rest goes to the places from m up to f, and the rest behind its line begins at e
+pub record OneColumn (input : List ℕ) (at m : ℕ) (before after : List ℕ) (e f : ℕ) : Type 0 where
+  pub costs : List ℕ
+  pub is : rows (drop at input) ≡ both (some costs) (rows (drop e input))
+  pub stored : Stored costs m before after f
+  pub from : at < e
+  pub within : e ≤ length input
+  pub some-cost : m < f
+  pub room : f ≤ 16384
+
+abbrev pub StoredColumn : List ℕ → ℕ → ℕ → List ℕ → List ℕ → Column → Type 0
+StoredColumn input at m before after (column.Ends e f) = OneColumn input at m before after e f
+StoredColumn input at m before after column.Bad =
+    (c : List ℕ) (cs : List (List ℕ)) → rows (drop at input) ≡ some (c ∷ cs) → 16384 < m + length c
+
+beside-some : (v : ℕ) (c : List ℕ) (o : Option (List (List ℕ))) → beside (some v) (both (some c) o) ≡ both (some (v ∷ c)) o
+unfolding beside both
+beside-some v c none = refl
+beside-some v c (some cs) = refl
+
+beside-back :
+    (v : ℕ) (o : Option (List (List ℕ))) (c : List ℕ) (cs : List (List ℕ)) → beside (some v) o ≡ some (c ∷ cs)
+    → (d : List ℕ) × (o ≡ some (d ∷ cs)) × (c ≡ v ∷ d)
+unfolding beside
+beside-back v none c cs e = let z : _≡_ {A = ℕ} 0 1 = cc in absurd (omega arith)
+beside-back v (some []) c cs e = let z : _≡_ {A = ℕ} 0 1 = cc in absurd (omega arith)
+beside-back v (some (d ∷ ds)) c cs e = let q : ds ≡ cs = cc in (d, ap (λ x. some (d ∷ x)) q, cc)
+
+put-space : (x : Option ℕ) (b : ℕ) (o : Option (List (List ℕ))) → (b ≡ 10 → ⊥) → put x b o ≡ beside x o
+put-space x b o n = rw (ne-eqb b 10 n)
+
+put-newline : (v b : ℕ) (o : Option (List (List ℕ))) → b ≡ 10 → put (some v) b o ≡ both (some (v ∷ [])) o
+unfolding both
+put-newline v b o e = rw (eq-eqb b 10 e)
+
+-- the column that a cost begins has that cost
+put-some :
+    (v b : ℕ) (o : Option (List (List ℕ))) (c : List ℕ) (cs : List (List ℕ)) → put (some v) b o ≡ some (c ∷ cs) → 0 < length c
+unfolding both beside
+put-some v b o c cs = by (eqb b 10) o
+  where
+    by :
+        (t : Bool) (o : Option (List (List ℕ))) → cond t (both (both (some v) (some [])) o) (beside (some v) o) ≡ some (c ∷ cs) → 0 < length c
+    by true none e = let z : _≡_ {A = ℕ} 0 1 = cc in absurd (omega arith)
+    by true (some ds) e = let q : c ≡ v ∷ [] = cc in let l = ap length q in omega arith
+    by false none e = let z : _≡_ {A = ℕ} 0 1 = cc in absurd (omega arith)
+    by false (some []) e = let z : _≡_ {A = ℕ} 0 1 = cc in absurd (omega arith)
+    by false (some (d ∷ ds)) e = let q : c ≡ v ∷ d = cc in let l = ap length q in omega arith
+
+module _ (input : List ℕ) (at m : ℕ) (before : List ℕ) where
+  pub column-bad : (after : List ℕ) → ReadCost input at cost.Not → StoredColumn input at m before after column.Bad
+  column-bad after n c cs e = absurd (n c cs e)
+
+  module _ (v e : ℕ) (h : ReadCost input at (cost.Is v e)) where
+    pub column-full : (after : List ℕ) → m ≡ 16384 → StoredColumn input at m before after column.Bad
+    column-full after l c cs q = let n = put-some v (getD input e 0) (rows (drop (e + 1) input)) c cs (sym (h .2) ∙ q) in omega arith
+
+    pub column-last : m < 16384 → getD input e 0 ≡ 10 → StoredColumn input at m before (set before m v) (column.Ends (e + 1) (m + 1))
+    column-last l b =
+        let s = h .0 in
+        let k = h .1 in
+        record {
+          costs = v ∷ [];
+          is = h .2 ∙ put-newline v (getD input e 0) (rows (drop (e + 1) input)) b;
+          stored = record { next = refl; memory = refl };
+          from = omega arith;
+          within = omega arith;
+          some-cost = omega arith;
+          room = omega arith;
+        }
+
+    pub column-more :
+        (after : List ℕ) (r : Column) → (getD input e 0 ≡ 10 → ⊥) → StoredColumn input (e + 1) (m + 1) (set before m v) after r
+        → StoredColumn input at m before after r
+    column-more after (column.Ends f g) b s =
+        let l = h .0 in
+        let k = s .from in
+        let o = s .some-cost in
+        let size = s .stored .next in
+        record {
+          costs = v ∷ s .costs;
+          is =
+              h .2
+              ∙ put-space (some v) (getD input e 0) (rows (drop (e + 1) input)) b
+              ∙ ap (beside (some v)) (s .is)
+              ∙ beside-some v (s .costs) (rows (drop f input));
+          stored = record { next = omega arith; memory = s .stored .memory ∙ ap (λ k. sets (set before m v) k (s .costs)) (add-one m) };
+          from = omega arith;
+          within = s .within;
+          some-cost = omega arith;
+          room = s .room;
+        }
+    column-more after column.Bad b s =
+        λ c cs q.
+        let o = rows (drop (e + 1) input) in
+        let k = beside-back v o c cs (sym (put-space (some v) (getD input e 0) o b) ∙ sym (h .2) ∙ q) in
+        let l = s (k .0) cs (k .1) in
+        let n = ap length (k .2) in
+        omega arith
+
+-- All column lines from a place on, each with w costs; m costs and n columns stand in front.
+
+abbrev pub wide : ℕ → List (List ℕ) → Bool
+wide w cs = all (λ d. eqb (length d) w) cs
+
+pub record SomeColumns (w : ℕ) (input : List ℕ) (at m n : ℕ) (before after : List ℕ) (count : ℕ) : Type 0 where
+  pub columns : List (List ℕ)
+  pub are : rows (drop at input) ≡ some columns
+  pub equal : wide w columns ≡ true
+  pub counted : count ≡ n + length columns
+  pub stored : Stored (flatten columns) m before after (m + length (flatten columns))
+  pub room : m + length (flatten columns) ≤ 16384
+
+abbrev pub StoredColumns : ℕ → List ℕ → ℕ → ℕ → ℕ → List ℕ → List ℕ → Columns → Type 0
+StoredColumns w input at m n before after (columns.Count count) = SomeColumns w input at m n before after count
+StoredColumns w input at m n before after columns.Bad =
+    (cs : List (List ℕ)) → rows (drop at input) ≡ some cs → wide w cs ≡ true → 16384 < m + length (flatten cs)
+
+-- the columns are those behind the first, and it
+pub both-back :
+    (c : List ℕ) (o : Option (List (List ℕ))) (cs : List (List ℕ)) → both (some c) o ≡ some cs
+    → (ds : List (List ℕ)) × (o ≡ some ds) × (cs ≡ c ∷ ds)
+unfolding both
+both-back c none cs e = let z : _≡_ {A = ℕ} 0 1 = cc in absurd (omega arith)
+both-back c (some ds) cs e = (ds, refl, cc)
+
+pub flatten-more : (c : List ℕ) (cs ds : List (List ℕ)) → cs ≡ c ∷ ds → length (flatten cs) ≡ length c + length (flatten ds)
+unfolding flatten
+flatten-more c cs ds e = ap (λ x. length (flatten x)) e ∙ length-append c (flatten ds)
+
+module _ (w : ℕ) (input : List ℕ) (at m n : ℕ) (before : List ℕ) where
+  pub columns-end : length input ≤ at → m ≤ 16384 → StoredColumns w input at m n before before (columns.Count n)
+  unfolding all flatten
+  columns-end l k =
+      record {
+        columns = [];
+        are = ap rows (drop-all input at l) ∙ rows-end;
+        equal = refl;
+        counted = omega arith;
+        stored = record { next = refl; memory = refl };
+        room = omega arith;
+      }
+
+  pub columns-bad :
+      (middle after : List ℕ) → at < length input → StoredColumn input at m before middle column.Bad
+      → StoredColumns w input at m n before after columns.Bad
+  columns-bad middle after l h [] e q = absurd (rows-some (drop at input) (let k = length-drop at input in omega arith) e)
+  columns-bad middle after l h (c ∷ cs) e q = let k = h c cs e in let s = flatten-more c (c ∷ cs) cs refl in omega arith
+
+  module _ (middle : List ℕ) (e f : ℕ) (h : StoredColumn input at m before middle (column.Ends e f)) where
+    size : f ≡ m + length (h .costs)
+    size = h .stored .next
+
+    pub columns-unequal : (after : List ℕ) → (f - m ≡ w → ⊥) → StoredColumns w input at m n before after columns.Bad
+    unfolding all
+    columns-unequal after d cs q t =
+        let k = both-back (h .costs) (rows (drop e input)) cs (sym (h .is) ∙ q) in
+        let u : wide w (h .costs ∷ k .0) ≡ true = rw (k .2) at t in
+        let v = eqb-true (length (h .costs)) w (and-left (eqb (length (h .costs)) w) (wide w (k .0)) u) in
+        let s = size in
+        absurd (d (omega arith))
+
+    pub columns-more :
+        (after : List ℕ) (r : Columns) → f - m ≡ w → StoredColumns w input e f (n + 1) middle after r
+        → StoredColumns w input at m n before after r
+    unfolding all flatten both
+    columns-more after (columns.Count count) d s =
+        let z = size in
+        let k = s .counted in
+        let r = s .room in
+        let l = length-append (h .costs) (flatten (s .columns)) in
+        let t = stored-then (h .stored) (s .stored) in
+        record {
+          columns = h .costs ∷ s .columns;
+          are = h .is ∙ ap (both (some (h .costs))) (s .are);
+          equal = and-both (eqb (length (h .costs)) w) (wide w (s .columns)) (eq-eqb (length (h .costs)) w (omega arith)) (s .equal);
+          counted = omega arith;
+          stored = record { next = refl; memory = t .memory };
+          room = omega arith;
+        }
+    columns-more after columns.Bad d s =
+        λ cs q t.
+        let k = both-back (h .costs) (rows (drop e input)) cs (sym (h .is) ∙ q) in
+        let u : wide w (h .costs ∷ k .0) ≡ true = rw (k .2) at t in
+        let l = s (k .0) (k .1) (and-right (eqb (length (h .costs)) w) (wide w (k .0)) u) in
+        let z = size in
+        let y = flatten-more (h .costs) cs (k .0) (k .2) in
+        omega arith

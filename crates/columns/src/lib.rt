@@ -1,0 +1,87 @@
+// The column lines of a sheet (document 01, "Confidences and the sheet program"): their costs into lent memory, their width and count.
+use digits::Cost;
+use digits::read_cost;
+ghost use Prim.Native.Nat.{_≤_};
+ghost use lib.ListN.{length};
+ghost use Rattle.columns.specs.Storing.{StoredColumn, StoredColumns};
+ghost use Rattle.columns.specs.Matrices.{StoredMatrix};
+
+// The place behind a column line, and how many costs are stored with its own.
+enum Column {
+    Ends(usize, usize),
+    Bad,
+}
+
+// How many columns there are.
+enum Columns {
+    Count(usize),
+    Bad,
+}
+
+// Width and count of the matrix.
+pub enum Body {
+    Matrix(usize, usize),
+    Bad,
+}
+
+// Stores the costs of the column line that begins here, from place m on.
+fn store_column(input: &[u8], at: usize, costs: &mut [u32], m: usize) -> Column
+    requires { ⌜ (at ≤ length (now input)) × (m ≤ 16384) × (16384 ≤ length (now costs)) ⌝ }
+    ensures { λ r. ⌜ StoredColumn (now (input .entry)) at m (now (costs .entry)) (now (costs .exit)) r ⌝ }
+{
+    let mut i = at;
+    let mut n = m;
+    loop {
+        let Cost::Is(v, end) = read_cost(input, i) else {
+            return Column::Bad;
+        };
+        if n == 16384 {
+            return Column::Bad;
+        }
+        costs[n] = v;
+        n += 1;
+        i = end + 1;
+        if input[end] == 10 {
+            return Column::Ends(i, n);
+        }
+    }
+}
+
+// Stores the column lines behind the first, which is stored already, with as many costs.
+fn store_columns(input: &[u8], at: usize, costs: &mut [u32], width: usize) -> Columns
+    requires { ⌜ (at ≤ length (now input)) × (width ≤ 16384) × (16384 ≤ length (now costs)) ⌝ }
+    ensures { λ r. ⌜ StoredColumns width (now (input .entry)) at width 1 (now (costs .entry)) (now (costs .exit)) r ⌝ }
+{
+    let mut i = at;
+    let mut m = width;
+    let mut n = 1;
+    while i < input.len() {
+        let Column::Ends(end, filled) = store_column(input, i, costs, m) else {
+            return Columns::Bad;
+        };
+        if filled - m != width {
+            return Columns::Bad;
+        }
+        i = end;
+        m = filled;
+        n += 1;
+    }
+    Columns::Count(n)
+}
+
+// Stores all column lines; where there is none the width is `other`.
+pub fn store_matrix(input: &[u8], at: usize, costs: &mut [u32], other: usize) -> Body
+    requires { ⌜ (at ≤ length (now input)) × (16384 ≤ length (now costs)) ⌝ }
+    ensures { λ r. ⌜ StoredMatrix other (now (input .entry)) at (now (costs .entry)) (now (costs .exit)) r ⌝ }
+{
+    if at == input.len() {
+        return Body::Matrix(other, 0);
+    }
+    let Column::Ends(end, width) = store_column(input, at, costs, 0) else {
+        return Body::Bad;
+    };
+    let Columns::Count(n) = store_columns(input, end, costs, width) else {
+        return Body::Bad;
+    };
+    Body::Matrix(width, n)
+}

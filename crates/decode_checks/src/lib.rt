@@ -1,0 +1,70 @@
+// The checks that Decode and Read make of the matrix and of the memory lent, in their order (document 01, "What is turned away",
+// rows 12 to 15).
+use refusal::Checked;
+use refusal::Refusal;
+ghost use mathlib.Core.Path.{_≡_};
+ghost use Prim.Native.Nat.{_≤_};
+ghost use Rattle.lists.specs.Each.{all};
+ghost use Rattle.refusal.specs.Verdict.{first-refusal};
+ghost use Rattle.reading.specs.Matrix.{matrix};
+ghost use Rattle.decode_checks.specs.Checks.{passes, matrix-fault, matrix-checks};
+
+// Is no cost over 1,000,000?
+fn all_pass(costs: &[u32]) -> bool
+    ensures { λ r. ⌜ r ≡ all passes (now (costs .entry)) ⌝ }
+{
+    let mut i: usize = 0;
+    while i < costs.len() {
+        if 1000000 < costs[i] {
+            return false;
+        }
+        i += 1;
+    }
+    true
+}
+
+// Is the matrix turned away by its size, for an alphabet of k characters? (Row 12; no product overflows.)
+fn has_fault(k: usize, costs: &[u32], width: usize, count: usize) -> bool
+    requires { ⌜ k ≤ 95 ⌝ }
+    ensures { λ r. ⌜ r ≡ matrix-fault k (matrix (now (costs .entry)) width count) ⌝ }
+{
+    if 255 < count {
+        return true;
+    }
+    if width != k + 1 {
+        return true;
+    }
+    costs.len() != count * width
+}
+
+// Rows 12 to 15, for a form of l letters over k characters.
+pub fn check_matrix(
+    k: usize,
+    l: usize,
+    costs: &[u32],
+    width: usize,
+    count: usize,
+    path: usize,
+    word: usize,
+    work: usize,
+) -> Checked
+    requires { ⌜ (k ≤ 95) × (l ≤ 127) ⌝ }
+    ensures { λ r. ⌜ r ≡ first-refusal (matrix-checks k l (matrix (now (costs .entry)) width count) (record { path = path; word = word; work = work })) ⌝ }
+{
+    if has_fault(k, costs, width, count) {
+        return Checked::Refused(Refusal::Matrix);
+    }
+    if !all_pass(costs) {
+        return Checked::Refused(Refusal::Cost);
+    }
+    if path < count {
+        return Checked::Refused(Refusal::OutputMemory);
+    }
+    if word < count {
+        return Checked::Refused(Refusal::OutputMemory);
+    }
+    if work < (count + 1) * (2 * l + 1) {
+        return Checked::Refused(Refusal::Work);
+    }
+    Checked::Passed
+}

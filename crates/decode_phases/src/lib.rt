@@ -1,0 +1,34 @@
+// Decode past its checks: the table of costs to go is filled, and the best path traced through it (document 01, "Extended states and
+// decoding").
+use answers::Decoded;
+use form_words::letters;
+use refusal::Refusal;
+ghost use Rattle.answers.specs.Decoded.{reported};
+ghost use Rattle.automaton.specs.Form.{alphabetOf, lettersOf};
+ghost use Rattle.automaton.specs.Valid.{Valid};
+ghost use Rattle.reading.specs.Matrix.{matrix};
+ghost use Rattle.decode_checks.specs.Passing.{Fits};
+ghost use Rattle.decode_phases.specs.Answers.{rooms, DecodeAnswers};
+
+// Past the checks: the costs to go, and the best path traced through them.
+pub fn decode_valid(
+    form: &[u32],
+    costs: &[u32],
+    width: usize,
+    count: usize,
+    path: &mut [u8],
+    word: &mut [u8],
+    work: &mut [u32],
+) -> Decoded
+    requires { ⌜ Valid (now form) × Fits (alphabetOf (now form)) (lettersOf (now form)) (matrix (now costs) width count) (rooms (record { path = now path; word = now word; work = now work })) ⌝ }
+    ensures { λ r. ⌜ DecodeAnswers (now (form .entry)) (matrix (now (costs .entry)) width count) (record { path = now (path .entry); word = now (word .entry); work = now (work .entry) }) (record { path = now (path .exit); word = now (word .exit); work = now (work .exit) }) (reported r) ⌝ }
+{
+    let stride = 2 * letters(form) + 1;
+    let price = table::fill(form, costs, width, count, work);
+    if table::TOP <= price {
+        return Decoded::Refused(Refusal::NoReading);
+    }
+    trace::trace(form, costs, width, count, work, 0, stride, path);
+    let length = collapse::write_collapse(&path[..count], word);
+    Decoded::Path { price, length }
+}

@@ -1,0 +1,71 @@
+-- The part of an input from one place up to another, and where a line ends. Assumes nothing.
+-- Used by the contracts, the proofs and Digits; in scan.
+use mathlib.Core.Path.{_≡_, sym, ap, _∙_}
+use mathlib.Core.List.{List, [], _∷_, _++_}
+use Prim.Native.Nat.{ℕ, suc, _+_, _-_, _<_, _≤_}
+use native.Mathlib.Omega.{arith}
+use lib.ListN.{length, getD, take, drop, take-append-drop, length-drop}
+use lib.Seq.{take-suc, drop-drop, getD-drop, length-take-le}
+use Rattle.lists.specs.Each.{each-append}
+use Rattle.sheet_text.specs.Rows.{Free}
+
+abbrev pub part : ℕ → ℕ → List ℕ → List ℕ
+part at i input = take (i - at) (drop at input)
+
+module _ (input : List ℕ) (at i : ℕ) (from : at ≤ i) where
+  back : at + (i - at) ≡ i
+  back = omega arith
+
+  pub part-length : i ≤ length input → length (part at i input) ≡ i - at
+  part-length l = let n = length-drop at input in length-take-le (i - at) (drop at input) (omega arith)
+
+  -- the rest behind the part
+  pub part-rest : drop at input ≡ part at i input ++ drop i input
+  part-rest =
+      sym (take-append-drop (i - at) (drop at input))
+      ∙ ap (λ r. part at i input ++ r) (drop-drop (i - at) at input ∙ ap (λ k. drop k input) back)
+
+  -- one byte more
+  pub part-more : i < length input → part at (i + 1) input ≡ part at i input ++ (getD input i 0 ∷ [])
+  part-more l =
+      let n = length-drop at input in
+      let k : i + 1 - at ≡ suc (i - at) = omega arith in
+      ap (λ j. take j (drop at input)) k
+      ∙ take-suc (drop at input) (i - at) 0 (omega arith)
+      ∙ ap (λ b. part at i input ++ (b ∷ [])) (getD-drop at input (i - at) 0 ∙ ap (λ j. getD input j 0) back)
+
+pub part-none : (input : List ℕ) (at : ℕ) → part at at input ≡ []
+part-none input at = let k : at - at ≡ 0 = omega arith in ap (λ j. take j (drop at input)) k
+
+-- the line that begins at a place goes up to e: there its newline stands, or the input ends
+pub record LineEnd (input : List ℕ) (at e : ℕ) : Type 0 where
+  pub from : at ≤ e
+  pub within : e ≤ length input
+  pub line : Free 10 (part at e input)
+  pub newline : e < length input → getD input e 0 ≡ 10
+
+-- at a loop's i no newline was met
+pub record NoNewline (input : List ℕ) (at i : ℕ) : Type 0 where
+  pub from : at ≤ i
+  pub within : i ≤ length input
+  pub line : Free 10 (part at i input)
+
+module _ (input : List ℕ) (at : ℕ) where
+  pub newline-none : at ≤ length input → NoNewline input at at
+  newline-none l = record { from = omega arith; within = l; line = rw (part-none input at) tt }
+
+  module _ (i : ℕ) (h : NoNewline input at i) where
+    pub newline-here : i < length input → getD input i 0 ≡ 10 → LineEnd input at i
+    newline-here l e = record { from = h .from; within = h .within; line = h .line; newline = λ k. e }
+
+    pub newline-more : i < length input → (getD input i 0 ≡ 10 → ⊥) → NoNewline input at (i + 1)
+    newline-more l e =
+        let f = h .from in
+        record {
+          from = omega arith;
+          within = omega arith;
+          line = rw (part-more input at i f l) (each-append (λ b. b ≡ 10 → ⊥) (part at i input) (getD input i 0 ∷ []) (h .line) (e, tt));
+        }
+
+    pub newline-end : length input ≤ i → LineEnd input at i
+    newline-end l = record { from = h .from; within = h .within; line = h .line; newline = λ k. absurd (omega arith) }

@@ -1,0 +1,150 @@
+// The fields of a line of text, which have tabs between them, and the numbers in a field, for the program that runs vectors.
+ghost use Prim.Native.Nat.{_≤_};
+ghost use lib.ListN.{length};
+
+// Where the next such byte stands from `at` on, or the end.
+pub fn next(input: &[u8], at: usize, b: u8) -> usize
+    requires { ⌜ at ≤ length (now input) ⌝ }
+    ensures { λ r. ⌜ (at ≤ r) × (r ≤ length (now (input .entry))) ⌝ }
+{
+    let mut i = at;
+    while i < input.len() {
+        if input[i] == b {
+            return i;
+        }
+        i += 1;
+    }
+    i
+}
+
+// The byte that a line begins with.
+pub fn first(line: &[u8]) -> u8 {
+    if line.len() == 0 {
+        return 0;
+    }
+    line[0]
+}
+
+// Where field k begins: behind the k-th tab, or at the end.
+fn start(line: &[u8], k: usize) -> usize
+    ensures { λ r. ⌜ r ≤ length (now (line .entry)) ⌝ }
+{
+    let mut at = 0;
+    let mut i = 0;
+    while i < k {
+        at = next(line, at, 9);
+        if at == line.len() {
+            return at;
+        }
+        at += 1;
+        i += 1;
+    }
+    at
+}
+
+// Field k of a line.
+pub fn field(line: &[u8], k: usize) -> &[u8] {
+    let a = start(line, k);
+    let e = next(line, a, 9);
+    &line[a..e]
+}
+
+// A number as a size.
+fn wide(x: u32) -> usize {
+    x as usize
+}
+
+// The number with one more digit; none behind a space.
+fn longer(v: u32, hexadecimal: bool, b: u8) -> u32 {
+    let w = v % 268435456;
+    let d = (b % 16) as u32;
+    if b == 32 {
+        return 0;
+    }
+    if !hexadecimal {
+        return 10 * w + d;
+    }
+    if 64 < b {
+        return 16 * w + (d + 9) % 16;
+    }
+    16 * w + d
+}
+
+// The list with one number more, if the number ends here and there is room.
+fn push(list: &mut [u32], n: usize, v: u32, b: u8) -> usize
+    requires { ⌜ n ≤ length (now list) ⌝ }
+    ensures { λ r. ⌜ r ≤ length (now (list .exit)) ⌝ }
+{
+    if b != 32 {
+        return n;
+    }
+    if n == list.len() {
+        return n;
+    }
+    list[n] = v;
+    n + 1
+}
+
+// The numbers of a field go into `list`; how many there are.
+pub fn numbers(field: &[u8], hexadecimal: bool, list: &mut [u32]) -> usize
+    ensures { λ r. ⌜ r ≤ length (now (list .exit)) ⌝ }
+{
+    let mut i = 0;
+    let mut n = 0;
+    let mut v = 0;
+    while i < field.len() {
+        n = push(list, n, v, field[i]);
+        v = longer(v, hexadecimal, field[i]);
+        i += 1;
+    }
+    if i == 0 {
+        return 0;
+    }
+    push(list, n, v, 32)
+}
+
+// One number; a field that begins with `-` is the largest there is.
+pub fn size(field: &[u8]) -> usize {
+    if first(field) == 45 {
+        return 18446744073709551615;
+    }
+    let mut list = [0u32; 1];
+    numbers(field, false, &mut list);
+    wide(list[0])
+}
+
+// So many places of memory, at most `most`.
+pub fn room(field: &[u8], most: usize) -> usize
+    ensures { λ r. ⌜ r ≤ most ⌝ }
+{
+    let n = size(field);
+    if n < most {
+        return n;
+    }
+    most
+}
+
+// The first n numbers as bytes; how many found room.
+fn narrow(list: &[u32], n: usize, bytes: &mut [u8]) -> usize
+    requires { ⌜ n ≤ length (now list) ⌝ }
+    ensures { λ r. ⌜ r ≤ length (now (bytes .exit)) ⌝ }
+{
+    let mut i = 0;
+    while i < n {
+        if i == bytes.len() {
+            return i;
+        }
+        bytes[i] = (list[i] % 256) as u8;
+        i += 1;
+    }
+    i
+}
+
+// The numbers of a field as bytes, at most 256; how many there are.
+pub fn labels(field: &[u8], bytes: &mut [u8]) -> usize
+    ensures { λ r. ⌜ r ≤ length (now (bytes .exit)) ⌝ }
+{
+    let mut list = [0u32; 256];
+    let n = numbers(field, false, &mut list);
+    narrow(&list, n, bytes)
+}

@@ -1,0 +1,112 @@
+// The check of a form (document 01, "Opening and the compiled form"): one pass over the list.
+use form_words::letters;
+ghost use mathlib.Core.Path.{_≡_};
+ghost use mathlib.Core.Bool.{_&&_};
+ghost use Rattle.lists.specs.Each.{all};
+ghost use Rattle.lists.specs.Ranges.{in-range};
+ghost use Rattle.automaton.specs.Form.{isHead, isLetter, isArc, ordered, validForm};
+
+fn in_range(low: u32, high: u32, n: u32) -> bool
+    ensures { λ r. ⌜ r ≡ in-range low high n ⌝ }
+{
+    if n < low {
+        return false;
+    }
+    n <= high
+}
+
+fn is_head(w: u32) -> bool
+    ensures { λ r. ⌜ r ≡ isHead w ⌝ }
+{
+    let l = w % 256;
+    let k = w / 65536 % 256;
+    if w != 268435456 + k * 65536 + w / 256 % 2 * 256 + l {
+        return false;
+    }
+    if !in_range(1, 127, l) {
+        return false;
+    }
+    in_range(1, 95, k)
+}
+
+// A letter over an alphabet of k?
+fn is_letter(k: u32, w: u32) -> bool
+    ensures { λ r. ⌜ r ≡ isLetter k w ⌝ }
+{
+    let x = w % 256;
+    if w != 536870912 + w / 512 % 2 * 512 + w / 256 % 2 * 256 + x {
+        return false;
+    }
+    in_range(1, k, x)
+}
+
+// An arc between two of l letters?
+fn is_arc(l: u32, w: u32) -> bool
+    ensures { λ r. ⌜ r ≡ isArc l w ⌝ }
+{
+    let i = w / 256 % 256;
+    let j = w % 256;
+    if w != 805306368 + i * 256 + j {
+        return false;
+    }
+    if !in_range(1, l, i) {
+        return false;
+    }
+    in_range(1, l, j)
+}
+
+fn are_letters(k: u32, words: &[u32]) -> bool
+    ensures { λ r. ⌜ r ≡ all (isLetter k) (now (words .entry)) ⌝ }
+{
+    let mut n = 0;
+    while n < words.len() {
+        if !is_letter(k, words[n]) {
+            return false;
+        }
+        n += 1;
+    }
+    true
+}
+
+// Are the words arcs, in order?
+fn are_arcs(l: u32, words: &[u32]) -> bool
+    ensures { λ r. ⌜ r ≡ (all (isArc l) (now (words .entry)) && ordered (now (words .entry))) ⌝ }
+{
+    let mut last: u32 = 0;
+    let mut n = 0;
+    while n < words.len() {
+        let w = words[n];
+        if !is_arc(l, w) {
+            return false;
+        }
+        if w <= last {
+            return false;
+        }
+        last = w;
+        n += 1;
+    }
+    true
+}
+
+// Is the list a valid form?
+pub fn valid(form: &[u32]) -> bool
+    ensures { λ r. ⌜ r ≡ validForm (now (form .entry)) ⌝ }
+{
+    if form.len() == 0 {
+        return false;
+    }
+    let head = form[0];
+    if !is_head(head) {
+        return false;
+    }
+    let l = letters(form);
+    if form.len() <= l {
+        return false;
+    }
+    let first = 1;
+    let past = l + 1;
+    if !are_letters(head / 65536 % 256, &form[first..past]) {
+        return false;
+    }
+    are_arcs(head % 256, &form[past..])
+}

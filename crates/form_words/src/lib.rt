@@ -1,0 +1,70 @@
+// The words of a compiled form (document 01, "Opening and the compiled form"): their fields, and what they say of its automaton.
+ghost use mathlib.Core.Path.{_≡_};
+ghost use Prim.Native.Nat.{_<_, _≤_};
+ghost use lib.ListN.{length, getD};
+ghost use Rattle.automaton.specs.Form.{source as sourceOf, target as targetOf, lettersOf, alphabetOf, labelOf, followOf, endsOf};
+
+fn wide(x: u32) -> usize
+    ensures { λ r. ⌜ r ≡ x ⌝ }
+{
+    x as usize
+}
+
+// L, the number of letters.
+pub fn letters(form: &[u32]) -> usize
+    requires { ⌜ 0 < length (now form) ⌝ }
+    ensures { λ r. ⌜ r ≡ lettersOf (now (form .entry)) ⌝ }
+{
+    wide(form[0] % 256)
+}
+
+// K, the size of the alphabet.
+pub fn alphabet(form: &[u32]) -> usize
+    requires { ⌜ 0 < length (now form) ⌝ }
+    ensures { λ r. ⌜ r ≡ alphabetOf (now (form .entry)) ⌝ }
+{
+    wide(form[0] / 65536 % 256)
+}
+
+// The label of letter j.
+pub fn label(form: &[u32], j: usize) -> usize
+    requires { ⌜ j < length (now form) ⌝ }
+    ensures { λ r. ⌜ r ≡ labelOf (now (form .entry)) j ⌝ }
+{
+    wide(form[j] % 256)
+}
+
+// May letter j be first?
+pub fn may_be_first(form: &[u32], j: usize) -> bool
+    requires { ⌜ (1 ≤ j) × (j ≤ lettersOf (now form)) × (lettersOf (now form) < length (now form)) ⌝ }
+    ensures { λ r. ⌜ r ≡ followOf (now (form .entry)) 0 j ⌝ }
+{
+    form[j] / 256 % 2 == 1
+}
+
+// May a word end behind letter i, or be empty if i is 0?
+pub fn may_end(form: &[u32], i: usize) -> bool
+    requires { ⌜ (i ≤ lettersOf (now form)) × (lettersOf (now form) < length (now form)) ⌝ }
+    ensures { λ r. ⌜ r ≡ endsOf (now (form .entry)) i ⌝ }
+{
+    if i == 0 {
+        return form[0] / 256 % 2 == 1;
+    }
+    form[i] / 512 % 2 == 1
+}
+
+// The source of the arc word at n.
+pub fn source(form: &[u32], n: usize) -> usize
+    requires { ⌜ n < length (now form) ⌝ }
+    ensures { λ r. ⌜ r ≡ sourceOf (getD (now (form .entry)) n 0) ⌝ }
+{
+    wide(form[n] / 256 % 256)
+}
+
+// The target of the arc word at n.
+pub fn target(form: &[u32], n: usize) -> usize
+    requires { ⌜ n < length (now form) ⌝ }
+    ensures { λ r. ⌜ r ≡ targetOf (getD (now (form .entry)) n 0) ⌝ }
+{
+    wide(form[n] % 256)
+}

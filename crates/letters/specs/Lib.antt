@@ -1,0 +1,5 @@
+pub mod Found
+pub mod Copies
+pub mod Shows
+pub mod Letters
+pub mod Tokens

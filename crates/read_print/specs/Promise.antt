@@ -1,0 +1,45 @@
+-- What the call asks and promises of lent memory. Assumes nothing.
+-- Used by the contracts, the proofs and Steps; in layout.
+use Prim.Native.Nat.{ℕ, _≤_}
+use mathlib.Core.Path.{_≡_, sym, ap, _∙_}
+use mathlib.Core.List.{List}
+use native.Mathlib.Omega.{arith}
+use lib.ListN.{length, take}
+use Rattle.lists.specs.Written.{Wrote, take-written, written-fits}
+use Rattle.decode_phases.specs.Answers.{Lent}
+use Rattle.read_print.specs.Answer.{form-room}
+
+-- The memory that the program lends Read.
+pub record Sized (form : List ℕ) (lent : Lent) : Type 0 where
+  pub words : length form ≡ form-room
+  pub path : length (lent .path) ≡ 255
+  pub word : length (lent .word) ≡ 255
+  pub work : length (lent .work) ≡ 16384
+
+-- Bytes of which `Printed` holds stand in front of the output memory, and nothing else of it is changed; the answer is their number.
+pub record Answers (Printed : List ℕ → Type 0) (out out′ : List ℕ) (answer : ℕ) : Type 0 where
+  pub bytes : List ℕ
+  pub is : Printed bytes
+  pub wrote : Wrote bytes out out′ answer
+  -- the answer counts bytes at the start of the memory
+  pub within : answer ≤ length out′
+  pub counted : answer ≡ length (take answer out′)
+
+module _ (Printed : List ℕ → Type 0) (bytes out out′ : List ℕ) (answer : ℕ) where
+  pub answers : Printed bytes → Wrote bytes out out′ answer → Answers Printed out out′ answer
+  answers is wrote =
+      let e = wrote .count in
+      record {
+        bytes = bytes;
+        is = is;
+        wrote = wrote;
+        within = omega (arith, ap length (wrote .memory), written-fits bytes out);
+        counted = e ∙ ap length (sym (ap (take answer) (wrote .memory) ∙ take-written bytes out answer e));
+      }
+
+-- what is printed, said in other words
+pub answers-as :
+    (P Q : List ℕ → Type 0) (out out′ : List ℕ) (answer : ℕ) → ((bytes : List ℕ) → P bytes → Q bytes) → Answers P out out′ answer
+    → Answers Q out out′ answer
+answers-as P Q out out′ answer f a =
+    record { bytes = a .bytes; is = f (a .bytes) (a .is); wrote = a .wrote; within = a .within; counted = a .counted }

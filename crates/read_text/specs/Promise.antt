@@ -1,0 +1,39 @@
+-- What Read promises: demand 3, by the expression's words. Assumes nothing.
+-- Used by the contracts and Steps; in kavurehy, read_print and reader.
+use Prim.Native.Nat.{ℕ}
+use mathlib.Core.Path.{_≡_}
+use mathlib.Core.List.{List}
+use lib.ListN.{length}
+use Rattle.lists.specs.Written.{written}
+use Rattle.refusal.specs.Verdict.{Verdict, passed, refused, first-refusal}
+use Rattle.refusal.specs.Report.{Report, turned-away, filling}
+use Rattle.automaton.specs.Form.{lettersOf}
+use Rattle.reading.specs.Matrix.{Matrix}
+use Rattle.expression.specs.Grammar.{WordsOf}
+use Rattle.decode_checks.specs.Checks.{needed, matrix-checks}
+use Rattle.decode_phases.specs.Answers.{Lent, rooms, Answers, Checks}
+use Rattle.compile.specs.Call.{compile-call}
+use Rattle.spelling.specs.Spelling.{characters}
+use Rattle.read_word.specs.Words.{ReadsAccepted}
+
+-- Past Compile, with the form f: rows 12 to 15, or the outcome for the words of the text, the word written as characters. What 'past the
+-- checks with memory enough' means: no refusal but 16 applies.
+abbrev pub ReadsForm : (A s f : List ℕ) (M : Matrix) (before after : Lent) (answer : Report) → Type 0
+ReadsForm A s f M before after answer =
+    Checks (first-refusal (matrix-checks (length A) (lettersOf f) M (rooms before)))
+    (Answers (WordsOf A s) (characters A) (length f) M (needed (M .count) (lettersOf f))) before after answer
+
+-- the same by the words that the form accepts
+abbrev pub ChecksForm : (A f : List ℕ) (M : Matrix) (before after : Lent) (answer : Report) → Type 0
+ChecksForm A f M before after answer =
+    Checks (first-refusal (matrix-checks (length A) (lettersOf f) M (rooms before))) (ReadsAccepted A f M) before after answer
+
+-- By what Compile makes of the alphabet and the text: its refusal with all memory as it was, or the reading.
+abbrev pub ReadsBy : Verdict (List ℕ) → (A s : List ℕ) (M : Matrix) (before after : Lent) (answer : Report) → Type 0
+ReadsBy (refused n) A s M before after answer = (answer ≡ turned-away n) × (after ≡ before)
+ReadsBy (passed f) A s M before after answer = ReadsForm A s f M before after answer
+
+-- Read's promise. The form memory is as Compile leaves it.
+pub record Reads (A s : List ℕ) (M : Matrix) (form form′ : List ℕ) (before after : Lent) (answer : Report) : Type 0 where
+  pub memory : form′ ≡ written (filling (compile-call A s (length form))) form
+  pub reads : ReadsBy (compile-call A s (length form)) A s M before after answer

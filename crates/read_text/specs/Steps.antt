@@ -1,0 +1,94 @@
+-- From what a form reads to what Read promises: the form's words are those of the text. Assumes nothing.
+-- Used by the proofs.
+use Prim.Native.Nat.{ℕ, _≤_}
+use mathlib.Core.Path.{_≡_, refl, sym, ap, _∙_}
+use mathlib.Core.List.{List}
+use native.Mathlib.Omega.{arith}
+use lib.ListN.{length, take}
+use Rattle.lists.specs.Written.{written, take-written, written-fits}
+use Rattle.refusal.specs.declared.Refusal.{Refusal}
+use Rattle.refusal.specs.declared.Checked.{Checked}
+use Rattle.refusal.specs.declared.Checked.the-variants.{Passed, Refused}
+use Rattle.refusal.specs.Verdict.{Verdict, passed, refused, first-refusal}
+use Rattle.refusal.specs.Report.{Report, turned-away, counted, report, filling, Fills}
+use Rattle.automaton.specs.Automaton.{Accepts}
+use Rattle.automaton.specs.Form.{view, lettersOf}
+use Rattle.reading.specs.Matrix.{Matrix}
+use Rattle.reading.specs.Reading.{outcome-same}
+use Rattle.expression.specs.Grammar.{WordsOf}
+use Rattle.compile.specs.Call.{compile-call}
+use Rattle.compile.specs.Meaning.{Means, compiled-means}
+use Rattle.decode_checks.specs.Checks.{needed, matrix-checks}
+use Rattle.decode_phases.specs.Answers.{Lent, rooms, Answers, Checks}
+use Rattle.spelling.specs.Spelling.{characters}
+use Rattle.read_word.specs.Words.{ReadsAccepted, number-some}
+use Rattle.read_text.specs.Promise.{ChecksForm, Reads}
+
+-- the words that the form accepts are those of the text
+pub read-words :
+    (A s f : List ℕ) (M : Matrix) (before after : Lent) (answer : Report) → Means A s f → ReadsAccepted A f M before after answer
+    → Answers (WordsOf A s) (characters A) (length f) M (needed (M .count) (lettersOf f)) before after answer
+read-words A s f M before after answer m a =
+    record {
+      outcome = a .outcome;
+      is = outcome-same M (Accepts (view f)) (WordsOf A s) (λ w. m .words w .0) (λ w. m .words w .1) (a .outcome) (a .is);
+      answered = a .answered;
+      path = a .path;
+      word = a .word;
+      work = a .work;
+      size = a .size;
+    }
+
+-- Read by the form that Compile wrote.
+checked-words :
+    (A s f : List ℕ) (M : Matrix) (c : Checked) (before after : Lent) (answer : Report) → Means A s f → Checks c (ReadsAccepted A f M) before after answer
+    → Checks c (Answers (WordsOf A s) (characters A) (length f) M (needed (M .count) (lettersOf f))) before after answer
+checked-words A s f M (Refused n) before after answer m h = h
+checked-words A s f M Passed before after answer m h = read-words A s f M before after answer m h
+
+-- the form that was compiled, by what Compile reports
+pub record Compiled (A s form after : List ℕ) (n : ℕ) : Type 0 where
+  pub words : List ℕ
+  pub call : compile-call A s (length form) ≡ passed words
+  pub count : n ≡ length words
+  pub memory : after ≡ written words form
+
+module _ (A s form after : List ℕ) where
+  pub compiled : (n : ℕ) → Fills (compile-call A s (length form)) (counted n) form after → Compiled A s form after n
+  compiled n h = by (compile-call A s (length form)) refl (h .answered) (h .memory)
+    where
+      by :
+          (v : Verdict (List ℕ)) → compile-call A s (length form) ≡ v → counted n ≡ report v → after ≡ written (filling v) form
+          → Compiled A s form after n
+      by (refused m) e r w = absurd (let q = ap (λ (x : Report). x .number) r in let k = number-some m in omega arith)
+      by (passed f) e r w = record { words = f; call = e; count = ap (λ (x : Report). x .filled) r; memory = w }
+
+  -- refused by Compile
+  pub reads-refused :
+      (M : Matrix) (lent : Lent) (n : Refusal) → Fills (compile-call A s (length form)) (turned-away n) form after
+      → Reads A s M form after lent lent (turned-away n)
+  reads-refused M lent n h = by (compile-call A s (length form)) refl (h .answered)
+    where
+      by : (v : Verdict (List ℕ)) → compile-call A s (length form) ≡ v → turned-away n ≡ report v → Reads A s M form after lent lent (turned-away n)
+      by (refused m) e r = record { memory = h .memory; reads = rw e (r, refl) }
+      by (passed f) e r = absurd (let q = ap (λ (x : Report). x .number) r in let k = number-some n in omega arith)
+
+  module _ (n : ℕ) (c : Compiled A s form after n) where
+    pub compiled-fits : n ≤ length after
+    compiled-fits = let e = ap length (c .memory) in let k = c .count in omega (arith, written-fits (c .words) form)
+
+    pub compiled-form : take n after ≡ c .words
+    compiled-form = ap (take n) (c .memory) ∙ take-written (c .words) form n (c .count)
+
+    pub compiled-text : Means A s (c .words)
+    compiled-text = compiled-means A s (length form) (c .words) (c .call)
+
+    pub reads-form :
+        (M : Matrix) (lent lent′ : Lent) (answer : Report) → ChecksForm A (c .words) M lent lent′ answer → Reads A s M form after lent lent′ answer
+    reads-form M lent lent′ answer h =
+        record {
+          memory = c .memory ∙ sym (ap (λ v. written (filling v) form) (c .call));
+          reads =
+              rw (c .call)
+              (checked-words A s (c .words) M (first-refusal (matrix-checks (length A) (lettersOf (c .words)) M (rooms lent))) lent lent′ answer compiled-text h);
+        }

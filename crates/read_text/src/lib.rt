@@ -1,0 +1,68 @@
+// From an alphabet, the text of an expression and a matrix by its parts to what is read: Compile, the checks, and what its form reads
+// (document 01, demand 3).
+use answers::Reading;
+use decode_checks::check_matrix;
+use form_words::letters;
+use read_word::read_valid;
+use refusal::Checked;
+use refusal::Counted;
+ghost use mathlib.Core.Path.{_≡_};
+ghost use lib.ListN.{length};
+ghost use Rattle.answers.specs.Reading.{reported};
+ghost use Rattle.automaton.specs.Form.{alphabetOf};
+ghost use Rattle.automaton.specs.Valid.{Valid};
+ghost use Rattle.reading.specs.Matrix.{matrix};
+ghost use Rattle.read_text.specs.Promise.{ChecksForm, Reads};
+
+// Rows 12 to 15, and then what a compiled form reads.
+fn read_form(
+    alphabet: &[u8],
+    form: &[u32],
+    costs: &[u32],
+    width: usize,
+    count: usize,
+    path: &mut [u8],
+    word: &mut [u8],
+    work: &mut [u32],
+) -> Reading
+    requires { ⌜ Valid (now form) × (alphabetOf (now form) ≡ length (now alphabet)) ⌝ }
+    ensures { λ r. ⌜ ChecksForm (now (alphabet .entry)) (now (form .entry)) (matrix (now (costs .entry)) width count) (record { path = now (path .entry); word = now (word .entry); work = now (work .entry) }) (record { path = now (path .exit); word = now (word .exit); work = now (work .exit) }) (reported r) ⌝ }
+{
+    let k = alphabet.len();
+    let l = letters(form);
+    match check_matrix(
+        k,
+        l,
+        costs,
+        width,
+        count,
+        path.len(),
+        word.len(),
+        work.len(),
+    ) {
+        Checked::Refused(r) => Reading::Refused(r),
+        Checked::Passed => read_valid(alphabet, form, costs, width, count, path, word, work),
+    }
+}
+
+// The work of Read: Compile's refusal, or what the form that it wrote reads.
+pub fn read_parts(
+    alphabet: &[u8],
+    text: &[u8],
+    costs: &[u32],
+    width: usize,
+    count: usize,
+    form: &mut [u32],
+    path: &mut [u8],
+    word: &mut [u8],
+    work: &mut [u32],
+) -> Reading
+    ensures { λ r. ⌜ Reads (now (alphabet .entry)) (now (text .entry)) (matrix (now (costs .entry)) width count) (now (form .entry)) (now (form .exit)) (record { path = now (path .entry); word = now (word .entry); work = now (work .entry) }) (record { path = now (path .exit); word = now (word .exit); work = now (work .exit) }) (reported r) ⌝ }
+{
+    match compile::compile(alphabet, text, form) {
+        Counted::Refused(r) => Reading::Refused(r),
+        Counted::Filled(n) => {
+            read_form(alphabet, &form[..n], costs, width, count, path, word, work)
+        }
+    }
+}

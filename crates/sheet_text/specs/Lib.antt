@@ -1,0 +1,5 @@
+pub mod Sheet
+pub mod Examples
+pub mod Rows
+pub mod Limits
+pub mod Parts

@@ -1,0 +1,278 @@
+-- The columns that the rest of a sheet holds, from any place on: what the rest's first line or first number makes of them.
+-- Assumes nothing.
+-- Used by Limits and Parts; in columns, digits and scan.
+use mathlib.Core.Path.{_≡_, refl, sym, ap, _∙_}
+use mathlib.Core.Option.{Option, some, none}
+use mathlib.Core.List.{List, [], _∷_, _++_, append-assoc, append-nil}
+use mathlib.Core.Bool.{Bool, true, false, cond}
+use mathlib.Core.Logic.{_⊎_, inl, inr, ⊎-elim}
+use Prim.Native.Nat.{ℕ, _+_, _<_}
+use native.Mathlib.Omega.{arith}
+use lib.ListN.{length}
+use lib.Dec.{eqb}
+use borrow.Author.Tests.{ne-eqb, eq-eqb}
+use Rattle.lists.specs.Each.{Each, each-append}
+use Rattle.lists.specs.Order.{eq-or-ne}
+use Rattle.sheet_text.specs.Sheet.{onto, pieces, both, every, closed, linesOf, costOf, columnOf}
+
+-- no byte is the separator c
+abbrev pub Free : ℕ → List ℕ → Type 0
+Free c p = Each (λ b. b ≡ c → ⊥) p
+
+-- Pieces.
+
+-- every text has a first piece
+record Some (c : ℕ) (s : List ℕ) : Type 0 where
+  first : List ℕ
+  others : List (List ℕ)
+  is : pieces c s ≡ first ∷ others
+
+onto-some : (b : ℕ) (ps : List (List ℕ)) → (q : List ℕ) × (qs : List (List ℕ)) × (onto b ps ≡ q ∷ qs)
+unfolding onto
+onto-some b [] = (b ∷ [], [], refl)
+onto-some b (p ∷ ps) = (b ∷ p, ps, refl)
+
+some-piece : (c : ℕ) (s : List ℕ) → Some c s
+unfolding pieces
+some-piece c [] = record { first = []; others = []; is = refl }
+some-piece c (b ∷ s) = by (eqb b c) refl
+  where
+    by : (t : Bool) → eqb b c ≡ t → Some c (b ∷ s)
+    by true e = record { first = []; others = pieces c s; is = rw e }
+    by false e = let o = onto-some b (pieces c s) in record { first = o .0; others = o .1; is = rw e (o .2) }
+
+-- a part without separators in front of pieces
+unfoldable ahead : List ℕ → List (List ℕ) → List (List ℕ)
+ahead p [] = p ∷ []
+ahead p (q ∷ qs) = (p ++ q) ∷ qs
+
+ahead-onto : (b : ℕ) (p : List ℕ) (ps : List (List ℕ)) → onto b (ahead p ps) ≡ ahead (b ∷ p) ps
+unfolding ahead onto
+ahead-onto b p [] = refl
+ahead-onto b p (q ∷ qs) = refl
+
+pieces-ahead : (c : ℕ) (p s : List ℕ) → Free c p → pieces c (p ++ s) ≡ ahead p (pieces c s)
+unfolding ahead pieces
+pieces-ahead c [] s f = by (some-piece c s)
+  where
+    by : Some c s → pieces c s ≡ ahead [] (pieces c s)
+    by o = rw (o .is)
+pieces-ahead c (b ∷ p) s f = rw (ne-eqb b c (f .0), pieces-ahead c p s (f .1)) (ahead-onto b p (pieces c s))
+
+-- a piece that ends here
+pieces-end : (c : ℕ) (p s : List ℕ) → Free c p → pieces c (p ++ (c ∷ s)) ≡ p ∷ pieces c s
+unfolding ahead pieces
+pieces-end c p s f = pieces-ahead c p (c ∷ s) f ∙ rw (eq-eqb c c refl, append-nil)
+
+-- Lines.
+
+closed-more : (p : List ℕ) (c : ℕ) (s : List ℕ) → closed (p ∷ pieces c s) ≡ both (some p) (closed (pieces c s))
+unfolding closed
+closed-more p c s = let o = some-piece c s in rw (o .is)
+
+-- the first line ends here
+pub lines-end : (p s : List ℕ) → Free 10 p → linesOf (p ++ (10 ∷ s)) ≡ both (some p) (linesOf s)
+lines-end p s f = ap closed (pieces-end 10 p s f) ∙ closed-more p 10 s
+
+-- a text that begins with a part of a line
+unfoldable longer : List ℕ → Option (List (List ℕ)) → Option (List (List ℕ))
+longer p none = none
+longer p (some []) = none
+longer p (some (l ∷ ls)) = some ((p ++ l) ∷ ls)
+
+longer-both : (p q : List ℕ) (o : Option (List (List ℕ))) → both (some (p ++ q)) o ≡ longer p (both (some q) o)
+unfolding longer both
+longer-both p q none = refl
+longer-both p q (some ls) = refl
+
+closed-ahead : (a : ℕ) (p : List ℕ) (ps : List (List ℕ)) → closed (ahead (a ∷ p) ps) ≡ longer (a ∷ p) (closed ps)
+unfolding closed ahead longer
+closed-ahead a p [] = refl
+closed-ahead a p ([] ∷ []) = refl
+closed-ahead a p ((b ∷ q) ∷ []) = refl
+closed-ahead a p (q ∷ (r ∷ ps)) = longer-both (a ∷ p) q (closed (r ∷ ps))
+
+lines-longer : (a : ℕ) (p s : List ℕ) → Free 10 (a ∷ p) → linesOf ((a ∷ p) ++ s) ≡ longer (a ∷ p) (linesOf s)
+lines-longer a p s f = ap closed (pieces-ahead 10 (a ∷ p) s f) ∙ closed-ahead a p (pieces 10 s)
+
+-- a last line without its newline
+pub lines-open : (p : List ℕ) → 0 < length p → Free 10 p → linesOf p ≡ none
+unfolding longer closed pieces
+lines-open [] l f = absurd (omega arith)
+lines-open (a ∷ p) l f = ap linesOf (sym (append-nil (a ∷ p))) ∙ lines-longer a p [] f
+
+pub lines-none : linesOf [] ≡ some []
+unfolding closed pieces
+lines-none = refl
+
+-- a text whose lines are known begins with the first of them
+pub record FirstLine (s l : List ℕ) (ls : List (List ℕ)) : Type 0 where
+  pub behind : List ℕ
+  pub splits : s ≡ l ++ (10 ∷ behind)
+  pub others : linesOf behind ≡ some ls
+
+pub lines-back : (s l : List ℕ) (ls : List (List ℕ)) → linesOf s ≡ some (l ∷ ls) → FirstLine s l ls
+unfolding longer both
+lines-back [] l ls e = let n = lines-none in let z : _≡_ {A = ℕ} 0 1 = cc in absurd (omega arith)
+lines-back (b ∷ s) l ls e =
+    ⊎-elim (λ q. ends (linesOf s) refl q (sym (ap (λ a. linesOf (a ∷ s)) q ∙ lines-end [] s tt) ∙ e))
+    (λ q. goes-on (linesOf s) (lines-back s) (sym (lines-longer b [] s (q, tt)) ∙ e)) (eq-or-ne b 10)
+  where
+    ends : (o : Option (List (List ℕ))) → linesOf s ≡ o → b ≡ 10 → both (some []) o ≡ some (l ∷ ls) → FirstLine (b ∷ s) l ls
+    ends none p q h = let z : _≡_ {A = ℕ} 0 1 = cc in absurd (omega arith)
+    ends (some ms) p q h =
+        let k : [] ≡ l = cc in
+        let m : ms ≡ ls = cc in
+        record { behind = s; splits = ap (λ a. a ∷ s) q ∙ ap (λ x. x ++ (10 ∷ s)) k; others = p ∙ ap some m }
+
+    goes-on :
+        (o : Option (List (List ℕ))) → ((m : List ℕ) (ms : List (List ℕ)) → o ≡ some (m ∷ ms) → FirstLine s m ms)
+        → longer (b ∷ []) o ≡ some (l ∷ ls) → FirstLine (b ∷ s) l ls
+    goes-on none ih h = let z : _≡_ {A = ℕ} 0 1 = cc in absurd (omega arith)
+    goes-on (some []) ih h = let z : _≡_ {A = ℕ} 0 1 = cc in absurd (omega arith)
+    goes-on (some (m ∷ ms)) ih h =
+        let k : b ∷ m ≡ l = cc in
+        let n : ms ≡ ls = cc in
+        let f = ih m ms refl in
+        record {
+          behind = f .behind;
+          splits = ap (λ x. b ∷ x) (f .splits) ∙ ap (λ x. x ++ (10 ∷ f .behind)) k;
+          others = f .others ∙ ap some n;
+        }
+
+-- Columns.
+
+unfoldable pub columnsOf : Option (List (List ℕ)) → Option (List (List ℕ))
+columnsOf none = none
+columnsOf (some ls) = every columnOf ls
+
+-- the columns of a sheet's rest
+abbrev pub rows : List ℕ → Option (List (List ℕ))
+rows s = columnsOf (linesOf s)
+
+-- a cost in front of the first column
+unfoldable pub beside : Option ℕ → Option (List (List ℕ)) → Option (List (List ℕ))
+beside none o = none
+beside (some v) none = none
+beside (some v) (some []) = none
+beside (some v) (some (c ∷ cs)) = some ((v ∷ c) ∷ cs)
+
+both-none : {A : Type 0} (x : Option A) → both x none ≡ none
+unfolding both
+both-none none = refl
+both-none (some a) = refl
+
+pub rows-end : rows [] ≡ some []
+unfolding columnsOf closed pieces every
+rows-end = refl
+
+-- the first column ends with this line
+pub rows-line : (p s : List ℕ) → Free 10 p → rows (p ++ (10 ∷ s)) ≡ both (columnOf p) (rows s)
+unfolding columnsOf both every
+rows-line p s f = ap columnsOf (lines-end p s f) ∙ by (linesOf s)
+  where
+    by : (o : Option (List (List ℕ))) → columnsOf (both (some p) o) ≡ both (columnOf p) (columnsOf o)
+    by none = sym (both-none (columnOf p))
+    by (some ls) = refl
+
+-- the line that a cost alone is
+pub column-one : (p : List ℕ) → Free 32 p → columnOf p ≡ both (costOf p) (some [])
+unfolding columnOf every ahead pieces
+column-one p f = ap (every costOf) (ap (pieces 32) (sym (append-nil p)) ∙ pieces-ahead 32 p [] f ∙ ap (λ q. q ∷ []) (append-nil p))
+
+-- a line's first cost ends here
+column-more : (p l : List ℕ) → Free 32 p → columnOf (p ++ (32 ∷ l)) ≡ both (costOf p) (columnOf l)
+unfolding columnOf every
+column-more p l f = ap (every costOf) (pieces-end 32 p l f)
+
+beside-both : (x : Option ℕ) (y : Option (List ℕ)) (z : Option (List (List ℕ))) → both (both x y) z ≡ beside x (both y z)
+unfolding both beside
+beside-both none y z = refl
+beside-both (some v) none z = refl
+beside-both (some v) (some c) none = refl
+beside-both (some v) (some c) (some cs) = refl
+
+beside-none : (x : Option ℕ) → beside x none ≡ none
+unfolding beside
+beside-none none = refl
+beside-none (some v) = refl
+
+beside-nothing : (x : Option ℕ) → beside x (some []) ≡ none
+unfolding beside
+beside-nothing none = refl
+beside-nothing (some v) = refl
+
+free-snoc : (p : List ℕ) → Free 10 p → Free 10 (p ++ (32 ∷ []))
+free-snoc p f = each-append (λ b. b ≡ 10 → ⊥) p (32 ∷ []) f (λ e. omega arith, tt)
+
+-- a space stands behind the first cost
+pub rows-space : (p s : List ℕ) → Free 10 p → Free 32 p → rows (p ++ (32 ∷ s)) ≡ beside (costOf p) (rows s)
+unfolding columnsOf longer every
+rows-space p s f g =
+    ap columnsOf (ap linesOf (sym (append-assoc p (32 ∷ []) s)) ∙ front p f) ∙ by (linesOf s)
+  where
+    front : (p : List ℕ) → Free 10 p → linesOf ((p ++ (32 ∷ [])) ++ s) ≡ longer (p ++ (32 ∷ [])) (linesOf s)
+    front [] f = lines-longer 32 [] s (free-snoc [] f)
+    front (a ∷ p) f = lines-longer a (p ++ (32 ∷ [])) s (free-snoc (a ∷ p) f)
+
+    by : (o : Option (List (List ℕ))) → columnsOf (longer (p ++ (32 ∷ [])) o) ≡ beside (costOf p) (columnsOf o)
+    by none = sym (beside-none (costOf p))
+    by (some []) = sym (beside-nothing (costOf p))
+    by (some (l ∷ ls)) =
+        ap (λ q. both (columnOf q) (every columnOf ls)) (append-assoc p (32 ∷ []) l)
+        ∙ ap (λ q. both q (every columnOf ls)) (column-more p l g)
+        ∙ beside-both (costOf p) (columnOf l) (every columnOf ls)
+
+-- no cost begins with the part that is read
+pub rows-unread :
+    (p s : List ℕ) → 0 < length p → Free 10 p → Free 32 p → ((t : List ℕ) → costOf (p ++ t) ≡ none) → rows (p ++ s) ≡ none
+unfolding columnsOf longer every both columnOf ahead
+rows-unread [] s l f g n = absurd (omega arith)
+rows-unread (a ∷ p) s l f g n = ap columnsOf (lines-longer a p s f) ∙ by (linesOf s)
+  where
+    column : (l : List ℕ) → columnOf ((a ∷ p) ++ l) ≡ none
+    column l = let o = some-piece 32 l in ap (every costOf) (pieces-ahead 32 (a ∷ p) l g) ∙ rw (o .is, n (o .first))
+
+    by : (o : Option (List (List ℕ))) → columnsOf (longer (a ∷ p) o) ≡ none
+    by none = refl
+    by (some []) = refl
+    by (some (l ∷ ls)) = ap (λ c. both c (every columnOf ls)) (column l)
+
+-- what a cost makes of the columns behind its separator b
+abbrev pub put : Option ℕ → ℕ → Option (List (List ℕ)) → Option (List (List ℕ))
+put x b o = cond (eqb b 10) (both (both x (some [])) o) (beside x o)
+
+pub put-none : (b : ℕ) (o : Option (List (List ℕ))) → put none b o ≡ none
+unfolding both beside
+put-none b o = by (eqb b 10)
+  where
+    by : (t : Bool) → cond t (both (both none (some [])) o) (beside none o) ≡ none
+    by true = refl
+    by false = refl
+
+pub rows-put :
+    (p : List ℕ) (b : ℕ) (s : List ℕ) → Free 10 p → Free 32 p → (b ≡ 32) ⊎ (b ≡ 10) → rows (p ++ (b ∷ s)) ≡ put (costOf p) b (rows s)
+rows-put p b s f g (inl e) = rw e (rows-space p s f g)
+rows-put p b s f g (inr e) = rw e (rows-line p s f ∙ ap (λ c. both c (rows s)) (column-one p g))
+
+-- a rest that is not empty has a column, or none are read
+both-some : {A : Type 0} (x : Option A) (o : Option (List A)) → both x o ≡ some [] → ⊥
+unfolding both
+both-some none o e = let z : _≡_ {A = ℕ} 0 1 = cc in omega arith
+both-some (some a) none e = let z : _≡_ {A = ℕ} 0 1 = cc in omega arith
+both-some (some a) (some bs) e = let z : _≡_ {A = ℕ} 0 1 = cc in omega arith
+
+pub rows-some : (s : List ℕ) → 0 < length s → rows s ≡ some [] → ⊥
+unfolding columnsOf longer every
+rows-some [] l e = absurd (omega arith)
+rows-some (b ∷ s) l e =
+    ⊎-elim (λ q. both-some (columnOf []) (rows s) (sym (line q) ∙ e))
+    (λ q. by (linesOf s) (sym (ap columnsOf (lines-longer b [] s (q, tt))) ∙ e)) (eq-or-ne b 10)
+  where
+    line : b ≡ 10 → rows (b ∷ s) ≡ both (columnOf []) (rows s)
+    line q = ap (λ a. rows (a ∷ s)) q ∙ rows-line [] s tt
+
+    by : (o : Option (List (List ℕ))) → columnsOf (longer (b ∷ []) o) ≡ some [] → ⊥
+    by none e = let z : _≡_ {A = ℕ} 0 1 = cc in omega arith
+    by (some []) e = let z : _≡_ {A = ℕ} 0 1 = cc in omega arith
+    by (some (l ∷ ls)) e = both-some (columnOf (b ∷ l)) (every columnOf ls) e

@@ -1,0 +1,1 @@
+// The text of a sheet, as definitions and laws: see specs/.

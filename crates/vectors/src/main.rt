@@ -1,0 +1,74 @@
+// Runs the calls on the lines of standard input: document 01's examples, edges, damaged forms, each refusal. A line has a letter for
+// what is to be done and its fields, each behind a tab; lists are numbers with a space between. Lent memory is filled with 9 beforehand
+// and printed afterwards.
+//
+//   C K PATH ROOM           Collapse                       S K WORD ROOM   Spread
+//   P CONFIDENCES ROOM      the costs of confidences
+//   E ALPHABET TEXT         Compile, with memory for ten words and then for every form; that form is the one of the lines behind it
+//   F WORDS                 these words, in hexadecimal, are the form of the lines behind it
+//   N COUNT                 the form ends behind so many words
+//   J NAME WORD             Judge                          T WORD          Judge of the form with each of its bits turned
+//   D NAME COSTS WIDTH COLUMNS PATH-ROOM WORD-ROOM WORK-ROOM UNUSED          Decode; UNUSED work words are printed
+//   R ALPHABET TEXT COSTS WIDTH COLUMNS PATH-ROOM WORD-ROOM WORK-ROOM        Read
+mod calls;
+mod forms;
+mod matrices;
+
+use libc::STDIN_FILENO;
+
+// Runs a call.
+fn run(call: u8, line: &[u8], form: &mut [u32]) {
+    if call == 67 {
+        calls::collapse(line);
+    } else if call == 83 {
+        calls::spread(line);
+    } else if call == 80 {
+        calls::costs(line);
+    } else if call == 74 {
+        forms::judge(line, form);
+    } else if call == 84 {
+        forms::turn(line, form);
+    } else if call == 68 {
+        matrices::decode(line, form);
+    } else if call == 82 {
+        matrices::read(line);
+    }
+}
+
+// Does what the line says; how many words the form has for the lines behind it.
+fn one(line: &[u8], form: &mut [u32], words: usize) -> usize {
+    let call = fields::first(line);
+    if call == 69 {
+        return forms::compile(fields::field(line, 1), fields::field(line, 2), form);
+    }
+    if call == 70 {
+        return fields::numbers(fields::field(line, 1), true, form);
+    }
+    if call == 78 {
+        return fields::size(fields::field(line, 1));
+    }
+    if words <= form.len() {
+        run(call, line, &mut form[..words]);
+    }
+    words
+}
+
+fn all(input: &[u8], form: &mut [u32]) {
+    let mut at = 0;
+    let mut words = 0;
+    while at < input.len() {
+        let end = fields::next(input, at, 10);
+        words = one(&input[at..end], form, words);
+        if end == input.len() {
+            return;
+        }
+        at = end + 1;
+    }
+}
+
+fn main() {
+    let mut input = [0u8; 32768];
+    let n = io::read_full(STDIN_FILENO, &mut input);
+    let mut form = [9u32; 16258];
+    all(&input[..n], &mut form);
+}
