@@ -1,31 +1,23 @@
 // Collapse, Spread and the costs of confidences.
 
-fn collapse_lent(k: usize, path: &[u8], word: &mut [u8]) {
-    let answer = collapse::collapse(k, path, word);
-    show::filled_bytes(b"collapse", path, answer, word);
+fn labels_lent(collapse: bool, k: usize, given: &[u8], memory: &mut [u8]) {
+    if collapse {
+        let answer = collapse::collapse(k, given, memory);
+        show::filled_bytes(b"collapse", given, answer, memory);
+    } else {
+        let answer = spread::spread(k, given, memory);
+        show::filled_bytes(b"spread", given, answer, memory);
+    }
 }
 
-pub fn collapse(line: &[u8]) {
-    let mut path = [0u8; 256];
-    let mut word = [9u8; 512];
+// Collapse, or Spread.
+pub fn labels(line: &[u8], collapse: bool) {
+    let mut given = [0u8; 256];
+    let mut memory = [9u8; 512];
     let k = fields::size(fields::field(line, 1));
-    let n = fields::labels(fields::field(line, 2), &mut path);
+    let n = fields::labels(fields::field(line, 2), &mut given);
     let room = fields::room(fields::field(line, 3), 512);
-    collapse_lent(k, &path[..n], &mut word[..room]);
-}
-
-fn spread_lent(k: usize, word: &[u8], path: &mut [u8]) {
-    let answer = spread::spread(k, word, path);
-    show::filled_bytes(b"spread", word, answer, path);
-}
-
-pub fn spread(line: &[u8]) {
-    let mut word = [0u8; 256];
-    let mut path = [9u8; 512];
-    let k = fields::size(fields::field(line, 1));
-    let n = fields::labels(fields::field(line, 2), &mut word);
-    let room = fields::room(fields::field(line, 3), 512);
-    spread_lent(k, &word[..n], &mut path[..room]);
+    labels_lent(collapse, k, &given[..n], &mut memory[..room]);
 }
 
 fn costs_lent(confidences: &[u8], costs: &mut [u32]) {

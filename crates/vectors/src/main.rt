@@ -8,8 +8,8 @@
 //   F WORDS                 these words, in hexadecimal, are the form of the lines behind it
 //   N COUNT                 the form ends behind so many words
 //   J NAME WORD             Judge                          T WORD          Judge of the form with each of its bits turned
-//   D NAME COSTS WIDTH COLUMNS PATH-ROOM WORD-ROOM WORK-ROOM UNUSED          Decode; UNUSED work words are printed
-//   R ALPHABET TEXT COSTS WIDTH COLUMNS PATH-ROOM WORD-ROOM WORK-ROOM        Read
+//   D NAME COSTS WIDTH COLUMNS PATH-ROOM WORD-ROOM WORK-ROOM LAST            Decode; the LAST work words are printed
+//   R TEXT COSTS WIDTH COLUMNS PATH-ROOM WORD-ROOM WORK-ROOM LAST ALPHABET   Read
 mod calls;
 mod forms;
 mod matrices;
@@ -18,20 +18,16 @@ use libc::STDIN_FILENO;
 
 // Runs a call.
 fn run(call: u8, line: &[u8], form: &mut [u32]) {
-    if call == 67 {
-        calls::collapse(line);
-    } else if call == 83 {
-        calls::spread(line);
+    if call == 67 || call == 83 {
+        calls::labels(line, call == 67);
     } else if call == 80 {
         calls::costs(line);
     } else if call == 74 {
         forms::judge(line, form);
     } else if call == 84 {
         forms::turn(line, form);
-    } else if call == 68 {
-        matrices::decode(line, form);
-    } else if call == 82 {
-        matrices::read(line);
+    } else if call == 68 || call == 82 {
+        matrices::run(line, call == 82, form);
     }
 }
 

@@ -32,17 +32,20 @@ fn say_reading(answer: Reading) {
     }
 }
 
-// The lent path and word memory.
-fn say_memory(path: &[u8], word: &[u8]) {
+// The lent path, word and work memory.
+fn say_memory(line: &[u8], path: &[u8], word: &[u8], work: &[u32]) {
     show::text(b" |");
     show::bytes(path);
     show::text(b" |");
     show::bytes(word);
+    show::text(b" |");
+    show::last_words(work, fields::size(fields::field(line, 8)));
+    show::text(b"\n");
 }
 
-fn decode_lent(
-    line: &[u8],
+fn decode(
     form: &[u32],
+    line: &[u8],
     costs: &[u32],
     path: &mut [u8],
     word: &mut [u8],
@@ -50,15 +53,48 @@ fn decode_lent(
 ) {
     let width = fields::size(fields::field(line, 3));
     let columns = fields::size(fields::field(line, 4));
-    show::text(fields::field(line, 1));
     say_decoded(decode::decode(form, costs, width, columns, path, word, work));
-    say_memory(path, word);
-    show::text(b" |");
-    show::last_words(work, fields::size(fields::field(line, 8)));
-    show::text(b"\n");
+    say_memory(line, path, word, work);
 }
 
-pub fn decode(line: &[u8], form: &[u32]) {
+// With memory for a form of 300 words.
+fn read(line: &[u8], costs: &[u32], path: &mut [u8], word: &mut [u8], work: &mut [u32]) {
+    let mut form = [9u32; 300];
+    let width = fields::size(fields::field(line, 3));
+    let columns = fields::size(fields::field(line, 4));
+    say_reading(reader::read(
+        fields::field(line, 9),
+        fields::field(line, 1),
+        costs,
+        width,
+        columns,
+        &mut form,
+        path,
+        word,
+        work,
+    ));
+    say_memory(line, path, word, work);
+}
+
+fn lent(
+    reads: bool,
+    form: &[u32],
+    line: &[u8],
+    costs: &[u32],
+    path: &mut [u8],
+    word: &mut [u8],
+    work: &mut [u32],
+) {
+    show::text(fields::field(line, 1));
+    if reads {
+        read(line, costs, path, word, work);
+    } else {
+        decode(form, line, costs, path, word, work);
+    }
+}
+
+// Read, or Decode with this form.
+pub fn run(line: &[u8], reads: bool, form: &[u32]) {
     let mut costs = [0u32; 768];
     let mut path = [9u8; 256];
     let mut word = [9u8; 256];
@@ -67,58 +103,11 @@ pub fn decode(line: &[u8], form: &[u32]) {
     let p = fields::room(fields::field(line, 5), 256);
     let w = fields::room(fields::field(line, 6), 256);
     let k = fields::room(fields::field(line, 7), 65281);
-    decode_lent(
-        line,
+    lent(
+        reads,
         form,
-        &costs[..n],
-        &mut path[..p],
-        &mut word[..w],
-        &mut work[..k],
-    );
-}
-
-fn read_lent(
-    line: &[u8],
-    costs: &[u32],
-    form: &mut [u32],
-    path: &mut [u8],
-    word: &mut [u8],
-    work: &mut [u32],
-) {
-    let alphabet = fields::field(line, 1);
-    let text = fields::field(line, 2);
-    let width = fields::size(fields::field(line, 4));
-    let columns = fields::size(fields::field(line, 5));
-    show::text(text);
-    say_reading(reader::read(
-        alphabet,
-        text,
-        costs,
-        width,
-        columns,
-        form,
-        path,
-        word,
-        work,
-    ));
-    say_memory(path, word);
-    show::text(b"\n");
-}
-
-pub fn read(line: &[u8]) {
-    let mut costs = [0u32; 768];
-    let mut form = [9u32; 300];
-    let mut path = [9u8; 256];
-    let mut word = [9u8; 256];
-    let mut work = [9u32; 256];
-    let n = fields::numbers(fields::field(line, 3), false, &mut costs);
-    let p = fields::room(fields::field(line, 6), 256);
-    let w = fields::room(fields::field(line, 7), 256);
-    let k = fields::room(fields::field(line, 8), 256);
-    read_lent(
         line,
         &costs[..n],
-        &mut form,
         &mut path[..p],
         &mut word[..w],
         &mut work[..k],

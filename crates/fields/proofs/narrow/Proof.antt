@@ -1,9 +1,8 @@
 -- `fields::narrow` stays within its lists and ends. Assumes nothing.
-use mathlib.Core.Path.{_≡_, sym}
+use mathlib.Core.Path.{_≡_}
 use Prim.Native.Nat.{_≤_, _-_}
 use native.Mathlib.Omega.{arith}
 use lib.ListN.{length, length-set}
-use lib.Seq.{length-take-le}
 use borrow.Author.Needs.{needs}
 use Rattle.fields.proofs.narrow.Statement.{statement}
 use Rattle.fields.proofs.narrow.Tie as tie

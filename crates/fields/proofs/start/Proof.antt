@@ -1,9 +1,6 @@
 -- `fields::start` stays within its list and ends. Assumes nothing.
-use mathlib.Core.Path.{_≡_, sym}
 use Prim.Native.Nat.{_≤_, _-_}
-use native.Mathlib.Omega.{arith}
-use lib.ListN.{length, length-set}
-use lib.Seq.{length-take-le}
+use lib.ListN.{length}
 use borrow.Author.Needs.{needs}
 use Rattle.fields.proofs.start.Statement.{statement}
 use Rattle.fields.proofs.start.Tie as tie

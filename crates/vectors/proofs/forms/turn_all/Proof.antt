@@ -1,9 +1,7 @@
 -- `vectors::forms::turn_all` stays within its list and ends. Assumes nothing.
-use mathlib.Core.Path.{_≡_, sym}
-use Prim.Native.Nat.{_≤_, _-_}
-use native.Mathlib.Omega.{arith}
-use lib.ListN.{length, length-set}
-use lib.Seq.{length-take-le}
+use mathlib.Core.Path.{_≡_}
+use Prim.Native.Nat.{_-_}
+use lib.ListN.{length}
 use borrow.Author.Needs.{needs}
 use Rattle.vectors.proofs.forms.turn_all.Statement.{statement}
 use Rattle.vectors.proofs.forms.turn_all.Tie as tie

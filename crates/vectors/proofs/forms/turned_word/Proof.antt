@@ -1,7 +1,6 @@
 -- `vectors::forms::turned_word` is safe: there are 32 bits. Assumes nothing.
 use mathlib.Core.Path.{_≡_}
 use Prim.Native.Nat.{_≤_, _-_}
-use native.Mathlib.Omega.{arith}
 use lib.ListN.{length}
 use borrow.Author.Needs.{needs}
 use Rattle.vectors.proofs.forms.turned_word.Statement.{statement}

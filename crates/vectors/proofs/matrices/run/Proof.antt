@@ -1,10 +1,10 @@
--- `vectors::matrices::decode` lends parts that are within their lists. Assumes nothing.
+-- `vectors::matrices::run` lends parts that are within their lists. Assumes nothing.
 use mathlib.Core.Path.{sym}
 use native.Mathlib.Omega.{arith}
 use lib.Seq.{length-take-le}
 use borrow.Author.Needs.{needs}
-use Rattle.vectors.proofs.matrices.decode.Statement.{statement}
-use Rattle.vectors.proofs.matrices.decode.Tie as tie
+use Rattle.vectors.proofs.matrices.run.Statement.{statement}
+use Rattle.vectors.proofs.matrices.run.Tie as tie
 
 field-requires : tie.Need-field-requires
 field-requires c κs = search needs
@@ -36,35 +36,35 @@ room-requires-3 c κs = search needs
 array-share-prefix-costs : tie.Need-array-share-prefix-costs
 array-share-prefix-costs c = search needs
 
-slice-aggregate-decode-lent : tie.Need-slice-aggregate-decode-lent
-slice-aggregate-decode-lent c = sym (length-take-le _ _ (omega arith))
+slice-aggregate-lent : tie.Need-slice-aggregate-lent
+slice-aggregate-lent c = sym (length-take-le _ _ (omega arith))
 
 array-borrow-prefix-path : tie.Need-array-borrow-prefix-path
 array-borrow-prefix-path c = search needs
 
-slice-aggregate-decode-lent-2 : tie.Need-slice-aggregate-decode-lent-2
-slice-aggregate-decode-lent-2 c = sym (length-take-le _ _ (omega arith))
+slice-aggregate-lent-2 : tie.Need-slice-aggregate-lent-2
+slice-aggregate-lent-2 c = sym (length-take-le _ _ (omega arith))
 
 array-borrow-prefix-word : tie.Need-array-borrow-prefix-word
 array-borrow-prefix-word c = search needs
 
-slice-aggregate-decode-lent-3 : tie.Need-slice-aggregate-decode-lent-3
-slice-aggregate-decode-lent-3 c = sym (length-take-le _ _ (omega arith))
+slice-aggregate-lent-3 : tie.Need-slice-aggregate-lent-3
+slice-aggregate-lent-3 c = sym (length-take-le _ _ (omega arith))
 
 array-borrow-prefix-work : tie.Need-array-borrow-prefix-work
 array-borrow-prefix-work c = search needs
 
-slice-aggregate-decode-lent-4 : tie.Need-slice-aggregate-decode-lent-4
-slice-aggregate-decode-lent-4 c = sym (length-take-le _ _ (omega arith))
+slice-aggregate-lent-4 : tie.Need-slice-aggregate-lent-4
+slice-aggregate-lent-4 c = sym (length-take-le _ _ (omega arith))
 
-decode-lent-requires : tie.Need-decode-lent-requires
-decode-lent-requires c κs = search needs
+lent-requires : tie.Need-lent-requires
+lent-requires c κs = search needs
 
 returns : tie.Need-returns
 returns c = search needs
 
-pub decode-spec : {M : Type 1} → statement M
-decode-spec =
+pub run-spec : {M : Type 1} → statement M
+run-spec =
     tie.close
     (tie.spec
     field-requires
@@ -77,12 +77,12 @@ decode-spec =
     field-requires-4
     room-requires-3
     array-share-prefix-costs
-    slice-aggregate-decode-lent
+    slice-aggregate-lent
     array-borrow-prefix-path
-    slice-aggregate-decode-lent-2
+    slice-aggregate-lent-2
     array-borrow-prefix-word
-    slice-aggregate-decode-lent-3
+    slice-aggregate-lent-3
     array-borrow-prefix-work
-    slice-aggregate-decode-lent-4
-    decode-lent-requires
+    slice-aggregate-lent-4
+    lent-requires
     returns)
