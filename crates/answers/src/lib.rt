@@ -85,7 +85,7 @@ pub fn hand_judgement(answer: Judged, accepted: &mut [u32; 1]) -> u32
 }
 
 // Hands back Decode's answer.
-pub fn hand_price(answer: Decoded, counts: &mut [u32; 2]) -> u32
+pub fn hand_decoded(answer: Decoded, counts: &mut [u32; 2]) -> u32
     requires { ⌜ decoded answer .filled < 2 ^ 32 ⌝ }
     ensures { λ r. ⌜ Hands price-and-length (decoded answer) (now (counts .exit)) r ⌝ }
 {

@@ -1,8 +1,8 @@
 // The calls exported for C and Rust, and nothing else. A list is passed as a pointer and a length; each call answers 0 or the number
 // of the refusal, and hands its counts back through an array, zeros at a refusal.
+use answers::hand_decoded;
 use answers::hand_judgement;
 use answers::hand_length;
-use answers::hand_price;
 use answers::hand_reading;
 use refusal::Counted;
 use refusal::number;
@@ -75,7 +75,7 @@ pub extern "C" fn kavurehy_decode(
 ) -> u32
     ensures { λ r. ⌜ DecodesCounted (now (form .entry)) (matrix (now (costs .entry)) width columns) (record { path = now (path .entry); word = now (word .entry); work = now (work .entry) }) (record { path = now (path .exit); word = now (word .exit); work = now (work .exit) }) (now (counts .exit)) r ⌝ }
 {
-    hand_price(
+    hand_decoded(
         decode::decode(form, costs, width, columns, path, word, work),
         counts,
     )

@@ -11,8 +11,8 @@ use Rattle.kavurehy.proofs.kavurehy_decode.Tie as tie
 decode-requires : tie.Need-decode-requires
 decode-requires c κs = search needs
 
-hand-price-requires : tie.Need-hand-price-requires
-hand-price-requires c κs =
+hand-decoded-requires : tie.Need-hand-decoded-requires
+hand-decoded-requires c κs =
     let a = c .before .before .before .before .before .before .before .before .before .before .before .before .before .before .before .before .args in
     let d = c .before .before .before .before .before .before .before .decode in
     let before : Lent = record { path = now (a .path); word = now (a .word); work = now (a .work) } in
@@ -31,4 +31,4 @@ returns : tie.Need-returns
 returns c = search needs
 
 pub kavurehy-decode-spec : {M : Type 1} → statement M
-kavurehy-decode-spec = tie.close (tie.spec decode-requires hand-price-requires same-length same-length-2 same-length-3 returns)
+kavurehy-decode-spec = tie.close (tie.spec decode-requires hand-decoded-requires same-length same-length-2 same-length-3 returns)

@@ -1,10 +1,10 @@
--- `answers::hand_price` meets its contract. Assumes nothing.
+-- `answers::hand_decoded` meets its contract. Assumes nothing.
 use mathlib.Core.Path.{ap, _∙_}
 use borrow.Author.Needs.{needs}
 use Rattle.answers.specs.Decoded.{reported}
 use Rattle.answers.specs.Handed.{price-and-length, hands-as}
-use Rattle.answers.proofs.hand_price.Statement.{statement}
-use Rattle.answers.proofs.hand_price.Tie as tie
+use Rattle.answers.proofs.hand_decoded.Statement.{statement}
+use Rattle.answers.proofs.hand_decoded.Tie as tie
 
 enum-known-answer : tie.Need-enum-known-answer
 enum-known-answer c = search needs
@@ -29,6 +29,6 @@ returns-2 c =
     let given = c .give-two2 .ensures in
     hands-as price-and-length (ap reported (c .before .before .before .before .answer2 .given .1)) (given .0, given .1 ∙ c .before .number .ensures)
 
-pub hand-price-spec : {M : Type 1} → statement M
-hand-price-spec =
+pub hand-decoded-spec : {M : Type 1} → statement M
+hand-decoded-spec =
     tie.close (tie.spec enum-known-answer give-two-requires enum-known-answer-2 number-requires give-two-requires-2 returns returns-2)
