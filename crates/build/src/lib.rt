@@ -127,7 +127,7 @@ fn group(
 // The whole text, with at most 16 groups open together.
 pub fn build(alphabet: &[u8], text: &[u8], labels: &mut [u8], follow: &mut [[bool; 127]]) -> Built
     requires { ⌜ Buildable (now alphabet) (now text) (now labels) (now follow) ⌝ }
-    ensures { λ r. ⌜ BuildsWhole (now (alphabet .entry)) (now (text .entry)) (now (labels .entry)) (now (labels .exit)) (now (follow .exit)) r ⌝ }
+    ensures { λ r. ⌜ BuildsWhole (now (alphabet .entry)) (now (text .entry)) (now (labels .entry)) (now (labels .exit)) (now (follow .entry)) (now (follow .exit)) r ⌝ }
 {
     alternation(alphabet, text, 0, 16, 0, labels, follow)
 }

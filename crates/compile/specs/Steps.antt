@@ -119,7 +119,7 @@ module _ (A s : List ℕ) (c : Compilable A s) where
 
   -- what is written of the arrays is the form of the text's automaton
   pub told-call :
-      (room : ℕ) {old new : List ℕ} {follow : List (List Bool)} {x : Built} → BuildsWhole A s old new follow x
+      (room : ℕ) {old new : List ℕ} {before follow : List (List Bool)} {x : Built} → BuildsWhole A s old new before follow x
       → form-call (length A) (arrayed (x .letters) (x .nullable) new (x .first) (x .last) follow) room ≡ form-call (length A) (automatonOf A (treeOfText A s)) room
   unfolding form-call
   told-call room {old} {new} {follow} {x} b =
