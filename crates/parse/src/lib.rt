@@ -8,7 +8,6 @@ use counting::is_end;
 use counting::is_repeated;
 use counting::repeated;
 use refusal::Refusal;
-use repetition::Repeats;
 use repetition::repetition;
 use tokens::Part;
 use tokens::set;
