@@ -15,10 +15,10 @@ ghost use mathlib.Core.Path.{_≡_};
 ghost use lib.ListN.{drop};
 ghost use Rattle.expression.specs.Read.{read, m-alternation, m-branch, m-piece, m-group};
 ghost use Rattle.tokens.specs.Answers.{partOf};
-ghost use Rattle.parse.specs.Checked.{checked};
+ghost use Rattle.parse.specs.Parsed.{parsed};
 
 // The letters of an expression, counted up to 128, or why it is turned away.
-pub enum Checked {
+pub enum Parsed {
     Letters(usize),
     Refused(Refusal),
 }
@@ -82,16 +82,16 @@ pub fn group(alphabet: &[u8], text: &[u8], at: usize, room: usize) -> Part
 }
 
 // The whole text, with at most 16 groups open together.
-pub fn expression(alphabet: &[u8], text: &[u8]) -> Checked
-    ensures { λ r. ⌜ r ≡ checked (now (alphabet .entry)) (now (text .entry)) ⌝ }
+pub fn expression(alphabet: &[u8], text: &[u8]) -> Parsed
+    ensures { λ r. ⌜ r ≡ parsed (now (alphabet .entry)) (now (text .entry)) ⌝ }
 {
     match alternation(alphabet, text, 0, 16) {
-        Part::Refused(x) => Checked::Refused(x),
+        Part::Refused(x) => Parsed::Refused(x),
         Part::Read(e, n) => {
             if e < text.len() {
-                return Checked::Refused(Refusal::MisplacedSign);
+                return Parsed::Refused(Refusal::MisplacedSign);
             }
-            Checked::Letters(n)
+            Parsed::Letters(n)
         }
     }
 }
