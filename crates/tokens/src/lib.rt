@@ -13,7 +13,7 @@ ghost use Prim.Native.Nat.{_+_, _<_};
 ghost use lib.ListN.{length, drop};
 ghost use Rattle.expression.specs.Tree.{member as memberOf};
 ghost use Rattle.expression.specs.Letters.{labelsOf};
-ghost use Rattle.expression.specs.Sets.{escaped, a-set};
+ghost use Rattle.expression.specs.Sets.{special, escaped, a-set};
 ghost use Rattle.bracket.specs.Answers.{endOf};
 ghost use Rattle.tokens.specs.Answers.{partOf, set-tree, SetAt, setAt};
 
@@ -23,12 +23,19 @@ pub enum Part {
     Refused(Refusal),
 }
 
+// Is the byte a sign that is ordinary behind a `\` alone?
+fn is_special(b: u8) -> bool
+    ensures { λ r. ⌜ r ≡ special b ⌝ }
+{
+    one_of(b"^.[$()|*+?{\\", b)
+}
+
 // Where the escaped character ends whose `\` stands here.
 fn escape_end(text: &[u8], at: usize) -> End
     requires { ⌜ at < length (now text) ⌝ }
     ensures { λ r. ⌜ r ≡ endOf (now (text .entry)) (escaped (drop at (now (text .entry))) (drop (at + 1) (now (text .entry)))) ⌝ }
 {
-    if one_of(b"^.[$()|*+?{\\", peek(text, at + 1)) {
+    if is_special(peek(text, at + 1)) {
         return End::At(at + 2);
     }
     End::Refused(Refusal::MisplacedSign)
@@ -51,7 +58,7 @@ pub fn set_end(text: &[u8], at: usize) -> End
     if b == 91 {
         return bracket_end(text, at);
     }
-    if one_of(b"^.[$()|*+?{\\", b) {
+    if is_special(b) {
         return End::Refused(Refusal::MisplacedSign);
     }
     End::At(at + 1)
