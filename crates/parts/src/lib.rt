@@ -1,9 +1,10 @@
 // Parts of an automaton put together: sets of letters united, arcs added (document 01, "Opening and the compiled form"). The letter of
 // number i stands at index i - 1.
+use relation::either;
 use relation::link;
 use relation::merge;
 ghost use mathlib.Core.Path.{_≡_};
-ghost use mathlib.Core.Bool.{_&&_, _||_};
+ghost use mathlib.Core.Bool.{_&&_};
 ghost use Prim.Native.Nat.{_≤_};
 ghost use lib.ListN.{length};
 ghost use Rattle.parts.specs.Together.{Merged, Chosen, Joined, Looped, Spared};
@@ -22,12 +23,6 @@ fn both(a: bool, b: bool) -> bool
     ensures { λ r. ⌜ r ≡ (a && b) ⌝ }
 {
     if a { b } else { false }
-}
-
-fn either(a: bool, b: bool) -> bool
-    ensures { λ r. ⌜ r ≡ (a || b) ⌝ }
-{
-    if a { true } else { b }
 }
 
 // The letters of a, and those of b too where `on` says so.
