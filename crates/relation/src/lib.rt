@@ -13,7 +13,7 @@ pub fn either(a: bool, b: bool) -> bool
 }
 
 // The set a becomes its union with the set b.
-pub fn merge(a: &mut [bool], b: &[bool])
+pub fn unite(a: &mut [bool], b: &[bool])
     requires { ⌜ length (now b) ≤ length (now a) ⌝ }
     ensures { λ _. ⌜ Union (now (a .entry)) (now (b .entry)) (now (a .exit)) ⌝ }
 {
@@ -32,7 +32,7 @@ pub fn link(follow: &mut [[bool; 127]], from: &[bool], to: &[bool])
     let mut i: usize = 0;
     while i < from.len() {
         if from[i] {
-            merge(&mut follow[i], to);
+            unite(&mut follow[i], to);
         }
         i += 1;
     }
