@@ -35,7 +35,7 @@ fn alternation(
 {
     let a = branch(alphabet, text, at, room, letters, labels, follow);
     let e = a.end;
-    if peek(text, e) != 124 {
+    if peek(text, e) != b'|' {
         return a;
     }
     let b = alternation(alphabet, text, e + 1, room, a.letters, labels, follow);
@@ -116,7 +116,7 @@ fn group(
     requires { ⌜ Room (now alphabet) (openedAt (now alphabet) (now text) m-group room at) letters (now labels) (now follow) ⌝ }
     ensures { λ r. ⌜ Builds letters (openedAt (now (alphabet .entry)) (now (text .entry)) m-group room at) (endAt (now (alphabet .entry)) (now (text .entry)) m-group room at) (now (follow .entry)) (now (follow .exit)) (now (labels .entry)) (now (labels .exit)) r ⌝ }
 {
-    if peek(text, at) != 40 {
+    if peek(text, at) != b'(' {
         return set(alphabet, text, at, letters, labels);
     }
     let a = alternation(alphabet, text, at + 1, room - 1, letters, labels, follow);

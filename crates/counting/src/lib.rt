@@ -83,7 +83,7 @@ pub fn closed(text: &[u8], content: Part) -> Part
     match content {
         Part::Refused(x) => Part::Refused(x),
         Part::Read(e, n) => {
-            if peek(text, e) == 41 {
+            if peek(text, e) == b')' {
                 return Part::Read(e + 1, n);
             }
             Part::Refused(Refusal::MisplacedSign)

@@ -30,7 +30,7 @@ pub fn alternation(alphabet: &[u8], text: &[u8], at: usize, room: usize) -> Part
     match branch(alphabet, text, at, room) {
         Part::Refused(x) => Part::Refused(x),
         Part::Read(e, n) => {
-            if peek(text, e) != 124 {
+            if peek(text, e) != b'|' {
                 return Part::Read(e, n);
             }
             added(n, alternation(alphabet, text, e + 1, room))
@@ -72,7 +72,7 @@ pub fn piece(alphabet: &[u8], text: &[u8], at: usize, room: usize) -> Part
 pub fn group(alphabet: &[u8], text: &[u8], at: usize, room: usize) -> Part
     ensures { λ r. ⌜ r ≡ partOf (now (alphabet .entry)) (now (text .entry)) (read (now (alphabet .entry)) m-group room (drop at (now (text .entry)))) ⌝ }
 {
-    if peek(text, at) != 40 {
+    if peek(text, at) != b'(' {
         return set(alphabet, text, at);
     }
     if room == 0 {

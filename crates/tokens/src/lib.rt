@@ -49,13 +49,13 @@ pub fn set_end(text: &[u8], at: usize) -> End
         return End::Refused(Refusal::MisplacedSign);
     }
     let b = text[at];
-    if b == 92 {
+    if b == b'\\' {
         return escape_end(text, at);
     }
-    if b == 46 {
+    if b == b'.' {
         return End::At(at + 1);
     }
-    if b == 91 {
+    if b == b'[' {
         return bracket_end(text, at);
     }
     if is_special(b) {
@@ -70,13 +70,13 @@ pub fn member(text: &[u8], at: usize, b: u8) -> bool
     ensures { λ r. ⌜ r ≡ memberOf (setAt (now (text .entry)) at) b ⌝ }
 {
     let c = peek(text, at);
-    if c == 92 {
+    if c == b'\\' {
         return peek(text, at + 1) == b;
     }
-    if c == 46 {
+    if c == b'.' {
         return true;
     }
-    if c == 91 {
+    if c == b'[' {
         return bracket_has(text, at, b);
     }
     c == b
