@@ -1,7 +1,6 @@
-// Builds the position automaton of an expression's text as arrays (document 01, "Opening and the compiled form"): the labels of the
-// letters, the follow relation as one row a letter, and which letters may be first and last. The letter of number i stands at index i - 1.
-// Alternation, branch, piece and group call each other over a text that reads; a repeated piece is gone through once for each copy. At
-// each call the unread text falls, or stays and the next closer part or the next copy is asked for.
+// Builds the position automaton of a text that reads, as arrays (document 01, "Opening and the compiled form"): the label of each letter,
+// its row of the follow relation, and whether it may be first and last. The letter of number i stands at index i - 1. At each call of
+// alternation, branch, piece and group the unread text falls, or stays and the next closer part or the next copy is asked for.
 use characters::peek;
 use counting::is_end;
 use letters::copies_at;
