@@ -3,7 +3,7 @@
 use bracket::End;
 use bracket::bracket_end;
 use bracket::bracket_has;
-use characters::few;
+use characters::capped_at_128;
 use characters::one_if;
 use characters::one_of;
 use characters::peek;
@@ -107,7 +107,7 @@ pub fn set(alphabet: &[u8], text: &[u8], at: usize) -> Part
             if n == 0 {
                 return Part::Refused(Refusal::Foreign);
             }
-            Part::Read(e, few(n))
+            Part::Read(e, capped_at_128(n))
         }
     }
 }
