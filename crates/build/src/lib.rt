@@ -8,6 +8,7 @@ use letters::set;
 use parts::Built;
 use parts::again;
 use parts::choice;
+use parts::ended;
 use parts::joint;
 use parts::perhaps;
 ghost use Prim.Native.Nat.{_<_};
@@ -120,7 +121,7 @@ fn group(
     }
     let a = alternation(alphabet, text, at + 1, room - 1, letters, labels, follow);
     let e = a.end;
-    perhaps(a, false, e + 1)
+    ended(a, e + 1)
 }
 
 // The whole text, with at most 16 groups open together.

@@ -56,3 +56,7 @@ pub record Spared (a : Built) (spare : Bool) (e : ℕ) (x : Built) : Type 0 wher
   pub nullable : x .nullable ≡ (spare || a .nullable)
   pub first : x .first ≡ a .first
   pub last : x .last ≡ a .last
+
+-- a itself; it ends at e
+abbrev pub Ended : Built → ℕ → Built → Type 0
+Ended a e x = Spared a false e x

@@ -7,7 +7,7 @@ ghost use mathlib.Core.Path.{_≡_};
 ghost use mathlib.Core.Bool.{_&&_};
 ghost use Prim.Native.Nat.{_≤_};
 ghost use lib.ListN.{length};
-ghost use Rattle.parts.specs.Together.{United, Chosen, Joined, Looped, Spared};
+ghost use Rattle.parts.specs.Together.{United, Chosen, Joined, Looped, Spared, Ended};
 
 // A part that was built: where it ends in the text; how many letters there are up to its end; whether it has the empty word; and which
 // letters may be first in it, and last.
@@ -99,6 +99,21 @@ pub fn perhaps(a: Built, spare: bool, end: usize) -> Built
         end,
         letters: a.letters,
         nullable: either(spare, a.nullable),
+        first,
+        last,
+    }
+}
+
+// The part itself; it ends there.
+pub fn ended(a: Built, end: usize) -> Built
+    ensures { λ r. ⌜ Ended a end r ⌝ }
+{
+    let first = a.first;
+    let last = a.last;
+    Built {
+        end,
+        letters: a.letters,
+        nullable: a.nullable,
         first,
         last,
     }
