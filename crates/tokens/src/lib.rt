@@ -23,7 +23,7 @@ pub enum Part {
     Refused(Refusal),
 }
 
-// Is the byte a sign that is ordinary behind a `\` alone?
+// Is the byte a sign that is ordinary only behind a `\`?
 fn is_special(b: u8) -> bool
     ensures { λ r. ⌜ r ≡ special b ⌝ }
 {
