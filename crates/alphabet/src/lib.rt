@@ -1,4 +1,4 @@
-// Is a list an alphabet, is a list a text? (document 01, "Expression text"). They are told from other lists before the text is read.
+// Is a list an alphabet (document 01, "Alphabet, labels, paths"), and is a list a text ("Expression text")? Refusals 1 to 3.
 use labels::all_in_range;
 use refusal::Checked;
 use refusal::Refusal;

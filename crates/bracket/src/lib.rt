@@ -23,7 +23,7 @@ fn opening(text: &[u8], at: usize) -> usize
     requires { ⌜ at < length (now text) ⌝ }
     ensures { λ r. ⌜ r ≡ opened (now (text .entry)) at ⌝ }
 {
-    if peek(text, at + 1) == 94 {
+    if peek(text, at + 1) == b'^' {
         return at + 2;
     }
     at + 1
@@ -34,10 +34,10 @@ fn closing(text: &[u8], first: usize) -> usize
     requires { ⌜ first ≤ length (now text) ⌝ }
     ensures { λ r. ⌜ r ≡ closingOf (now (text .entry)) first ⌝ }
 {
-    if peek(text, first) == 93 {
-        return find(text, first + 1, 93);
+    if peek(text, first) == b']' {
+        return find(text, first + 1, b']');
     }
-    find(text, first, 93)
+    find(text, first, b']')
 }
 
 // Where the bracket ends that begins here.

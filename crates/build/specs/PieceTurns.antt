@@ -19,7 +19,7 @@ use Rattle.positions.specs.Letters.{any-of-labels}
 use Rattle.characters.specs.Place.{place}
 use Rattle.bracket.specs.Answers.{is-found}
 use Rattle.tokens.specs.Answers.{SetAt, setAt}
-use Rattle.parts.specs.Together.{Joined, Looped, Spared}
+use Rattle.parts.specs.Together.{Joined, Looped, Spared, Ended}
 use Rattle.parts.specs.declared.Built.{Built}
 use Rattle.letters.specs.Found.{treeOf, counted}
 use Rattle.letters.specs.Copies.{leastOf, isOnward, copiesBy}
@@ -166,7 +166,7 @@ module _ (A text : List ℕ) where
       pub group-returns-content :
           {g : List (List Bool)} {new : List ℕ} {a x : Built}
           → Builds n (openedAt A text m-alternation (d - 1) (at + 1)) (endAt A text m-alternation (d - 1) (at + 1)) f g old new a
-          → Spared a false (a .end + 1) x → Builds n (openedAt A text m-group d at) (endAt A text m-group d at) f g old new x
+          → Ended a (a .end + 1) x → Builds n (openedAt A text m-group d at) (endAt A text m-group d at) f g old new x
       unfolding spared
       group-returns-content {g} {new} {a} {x} u s =
           let b = builds-spared u false s in

@@ -12,7 +12,7 @@ use Rattle.relation.specs.Sets.{member, arc, Linked}
 use Rattle.positions.specs.Opened.{Opened, joining, alternation, labels}
 use Rattle.positions.specs.Numbered.{Positions, joint, choice, again, numbered}
 use Rattle.positions.specs.Equations.{Same}
-use Rattle.parts.specs.Together.{Merged, Chosen, Joined, Looped, Spared}
+use Rattle.parts.specs.Together.{United, Chosen, Joined, Looped, Spared}
 use Rattle.parts.specs.declared.Built.{Built}
 use Rattle.letters.specs.Shows.{Shows, Builds}
 use Rattle.build.specs.Copies.{spared, looped, Alike}
@@ -44,7 +44,7 @@ module _ (f g : List (List Bool)) where
           ∙ or-assoc (arc f i j) (p .follow (suc i) (suc j)) (q .follow (suc i) (suc j))
 
       shows-choice : Chosen a b x → Shows (choice p q) x f h
-      unfolding Merged
+      unfolding United
       shows-choice o =
           record {
             nullable = o .nullable ∙ ap₂ _||_ (u .nullable) (v .nullable);
@@ -55,7 +55,7 @@ module _ (f g : List (List Bool)) where
           }
 
       shows-joint : (k : List (List Bool)) → Joined a b x h k → Shows (joint p q) x f k
-      unfolding Merged
+      unfolding United
       shows-joint k o =
           record {
             nullable = o .nullable ∙ ap₂ _&&_ (u .nullable) (v .nullable);

@@ -14,12 +14,13 @@ use Rattle.expression.specs.Read.{m-alternation, read, whole, expressionOf}
 use Rattle.positions.specs.Opened.{Opened, opened, labels}
 use Rattle.positions.specs.Numbered.{numbered, positionAutomaton, automatonOf}
 use Rattle.positions.specs.Letters.{opened-letters}
+use Rattle.characters.specs.Place.{place}
 use Rattle.arc_words.specs.Rows.{has}
 use Rattle.encode.specs.Parts.{Tells}
 use Rattle.bracket.specs.Answers.{is-found}
 use Rattle.parts.specs.declared.Built.{Built}
 use Rattle.letters.specs.Found.{restOf, treeOf, not-found, then-first, then-is}
-use Rattle.letters.specs.Shows.{Builds}
+use Rattle.letters.specs.Shows.{Shows, Builds}
 use Rattle.letters.specs.Letters.{none-marked}
 use Rattle.build.specs.Shown.{Room}
 use Rattle.build.specs.Places.{PartAt, treeAt, openedAt, endAt}
@@ -38,12 +39,14 @@ pub record Buildable (A text marks : List ℕ) (follow : List (List Bool)) : Typ
   pub rows : 127 ≤ length follow
   pub clear : (i j : ℕ) → arc follow i j ≡ false
 
--- the text was built: as many letters as its tree has, their labels in the first places of the lent list and nothing else there, and the
--- arrays tell the automaton of the tree
-pub record BuildsWhole (A text old new : List ℕ) (follow : List (List Bool)) (x : Built) : Type 0 where
+-- the text was built up to its end: as many letters as its tree has, their labels in the first places of the lent list and nothing else
+-- there, the arrays show the positions of the tree and nothing else, and so they tell the automaton of the tree
+pub record BuildsWhole (A text old new : List ℕ) (before after : List (List Bool)) (x : Built) : Type 0 where
+  pub ends : x .end ≡ length text
   pub counts : x .letters ≡ letterCount A (treeOfText A text)
   pub stored : Stored (labels (opened A (treeOfText A text))) 0 old new (x .letters)
-  pub tells : Tells (automatonOf A (treeOfText A text)) (x .nullable) new (x .first) (x .last) follow
+  pub shows : Shows (numbered 1 (opened A (treeOfText A text))) x before after
+  pub tells : Tells (automatonOf A (treeOfText A text)) (x .nullable) new (x .first) (x .last) after
 
 -- a new follow relation has no arc
 pub no-arc : (n m i j : ℕ) → arc (replicate n (replicate m false)) i j ≡ false
@@ -87,6 +90,11 @@ module _ (A text : List ℕ) where
   whole-tree t [] h = refl
   whole-tree t (b ∷ s) h = not-found h
 
+  whole-end : (t : Tree) (s : List ℕ) → is-found (whole t s) ≡ true → place text s ≡ length text
+  unfolding whole
+  whole-end t [] h = omega arith
+  whole-end t (b ∷ s) h = not-found h
+
   module _ {marks : List ℕ} {f : List (List Bool)} (o : Buildable A text marks f) where
     pub text-found : PartAt A text m-alternation 16 0
     unfolding expressionOf
@@ -98,6 +106,13 @@ module _ (A text : List ℕ) where
         let x = read A m-alternation 16 text in
         let e = then-is whole (set (only [])) x text-found in
         ap treeOf e ∙ whole-tree (treeOf x) (restOf x) (ap is-found (sym e) ∙ o .reads)
+
+    all-read : endAt A text m-alternation 16 0 ≡ length text
+    unfolding expressionOf
+    all-read =
+        let x = read A m-alternation 16 text in
+        let e = then-is whole (set (only [])) x text-found in
+        whole-end (treeOf x) (restOf x) (ap is-found (sym e) ∙ o .reads)
 
     all-letters : length (labels (openedAt A text m-alternation 16 0)) ≡ letterCount A (treeOfText A text)
     all-letters =
@@ -112,14 +127,16 @@ module _ (A text : List ℕ) where
 
     pub build-returns :
         {g : List (List Bool)} {new : List ℕ} {x : Built}
-        → Builds 0 (openedAt A text m-alternation 16 0) (endAt A text m-alternation 16 0) f g marks new x → BuildsWhole A text marks new g x
+        → Builds 0 (openedAt A text m-alternation 16 0) (endAt A text m-alternation 16 0) f g marks new x → BuildsWhole A text marks new f g x
     build-returns {g} {new} {x} b =
         let l = all-letters in
         let k = o .few in
         let w = o .labelled in
         let n = b .stored .next in
         record {
+          ends = b .ends ∙ all-read;
           counts = omega arith;
           stored = rw same-tree (b .stored);
+          shows = rw same-tree (b .shows);
           tells = rw same-tree (told (openedAt A text m-alternation 16 0) (endAt A text m-alternation 16 0) f g marks new x b (omega arith) (o .clear));
         }

@@ -1,7 +1,6 @@
-// Builds the position automaton of an expression's text as arrays (document 01, "Opening and the compiled form"): the labels of the
-// letters, the follow relation as one row a letter, and which letters may be first and last. The letter of number i stands at index i - 1.
-// Alternation, branch, piece and group call each other over a text that reads; a repeated piece is gone through once for each copy. At
-// each call the unread text falls, or stays and the next closer part or the next copy is asked for.
+// Builds the position automaton of a text that reads, as arrays (document 01, "Opening and the compiled form"): the label of each letter,
+// its row of the follow relation, and whether it may be first and last. The letter of number i stands at index i - 1. At each call of
+// alternation, branch, piece and group the unread text falls, or stays and the next closer part or the next copy is asked for.
 use characters::peek;
 use counting::is_end;
 use letters::copies_at;
@@ -9,6 +8,7 @@ use letters::set;
 use parts::Built;
 use parts::again;
 use parts::choice;
+use parts::ended;
 use parts::joint;
 use parts::perhaps;
 ghost use Prim.Native.Nat.{_<_};
@@ -35,7 +35,7 @@ fn alternation(
 {
     let a = branch(alphabet, text, at, room, letters, labels, follow);
     let e = a.end;
-    if peek(text, e) != 124 {
+    if peek(text, e) != b'|' {
         return a;
     }
     let b = alternation(alphabet, text, e + 1, room, a.letters, labels, follow);
@@ -116,18 +116,18 @@ fn group(
     requires { ⌜ Room (now alphabet) (openedAt (now alphabet) (now text) m-group room at) letters (now labels) (now follow) ⌝ }
     ensures { λ r. ⌜ Builds letters (openedAt (now (alphabet .entry)) (now (text .entry)) m-group room at) (endAt (now (alphabet .entry)) (now (text .entry)) m-group room at) (now (follow .entry)) (now (follow .exit)) (now (labels .entry)) (now (labels .exit)) r ⌝ }
 {
-    if peek(text, at) != 40 {
+    if peek(text, at) != b'(' {
         return set(alphabet, text, at, letters, labels);
     }
     let a = alternation(alphabet, text, at + 1, room - 1, letters, labels, follow);
     let e = a.end;
-    perhaps(a, false, e + 1)
+    ended(a, e + 1)
 }
 
 // The whole text, with at most 16 groups open together.
 pub fn build(alphabet: &[u8], text: &[u8], labels: &mut [u8], follow: &mut [[bool; 127]]) -> Built
     requires { ⌜ Buildable (now alphabet) (now text) (now labels) (now follow) ⌝ }
-    ensures { λ r. ⌜ BuildsWhole (now (alphabet .entry)) (now (text .entry)) (now (labels .entry)) (now (labels .exit)) (now (follow .exit)) r ⌝ }
+    ensures { λ r. ⌜ BuildsWhole (now (alphabet .entry)) (now (text .entry)) (now (labels .entry)) (now (labels .exit)) (now (follow .entry)) (now (follow .exit)) r ⌝ }
 {
     alternation(alphabet, text, 0, 16, 0, labels, follow)
 }

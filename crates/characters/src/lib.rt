@@ -5,7 +5,7 @@ ghost use mathlib.Core.Bool.{cond};
 ghost use Prim.Native.Nat.{_+_};
 ghost use lib.ListN.{getD, drop};
 ghost use Rattle.expression.specs.Text.{one-of};
-ghost use Rattle.expression.specs.Sense.{few as fewOf};
+ghost use Rattle.expression.specs.Sense.{few};
 ghost use Rattle.characters.specs.Place.{until};
 
 // The byte at a place, or 0 past the end.
@@ -49,9 +49,9 @@ pub fn one_if(t: bool) -> usize
     if t { 1 } else { 0 }
 }
 
-// A number up to 128.
-pub fn few(n: usize) -> usize
-    ensures { λ r. ⌜ r ≡ fewOf n ⌝ }
+// n, or 128 where it is more.
+pub fn capped_at_128(n: usize) -> usize
+    ensures { λ r. ⌜ r ≡ few n ⌝ }
 {
     if n < 128 { n } else { 128 }
 }

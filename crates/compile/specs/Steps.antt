@@ -22,9 +22,8 @@ use Rattle.positions.specs.Numbered.{automatonOf}
 use Rattle.automaton.specs.Form.{encode}
 use Rattle.positions.specs.Compiled.{formOf, automaton-letters}
 use Rattle.bracket.specs.Answers.{is-found}
-use Rattle.parse.specs.declared.Checked.{Checked}
-use Rattle.parse.specs.declared.Checked.the-variants.{Letters, Refused}
-use Rattle.parse.specs.Checked.{checkedOf, checked}
+use Rattle.parse.specs.declared.Parsed.the-variants.{Letters, Refused}
+use Rattle.parse.specs.Parsed.{parsedOf, parsed}
 use Rattle.encode.specs.Arrays.{arrayed, form-call}
 use Rattle.encode.specs.Parts.{told-form}
 use Rattle.alphabet.specs.Alphabet.{text-checks}
@@ -40,31 +39,31 @@ pub record Compilable (A s : List ℕ) : Type 0 where
 
 module _ (A s : List ℕ) (room : ℕ) where
   -- the leftmost fault
-  pub text-refused : (x : Refusal) → Refused x ≡ checked A s → read-form A room (expressionOf A s) ≡ refused x
-  unfolding checked
+  pub text-refused : (x : Refusal) → Refused x ≡ parsed A s → read-form A room (expressionOf A s) ≡ refused x
+  unfolding parsed
   text-refused x e = by (expressionOf A s) e
     where
-      by : (y : Reads Tree) → Refused x ≡ checkedOf A y → read-form A room y ≡ refused x
+      by : (y : Reads Tree) → Refused x ≡ parsedOf A y → read-form A room y ≡ refused x
       by (found t r) e = let z : _≡_ {A = ℕ} 0 1 = cc in absurd (omega arith)
       by (fault n r) e = let q : n ≡ x = cc in ap refused q
 
   -- too many letters
-  pub text-many : (n : ℕ) → Letters n ≡ checked A s → 127 < n → read-form A room (expressionOf A s) ≡ refused row.Letters
-  unfolding checked
+  pub text-many : (n : ℕ) → Letters n ≡ parsed A s → 127 < n → read-form A room (expressionOf A s) ≡ refused row.Letters
+  unfolding parsed
   text-many n e h = by (expressionOf A s) e
     where
-      by : (y : Reads Tree) → Letters n ≡ checkedOf A y → read-form A room y ≡ refused row.Letters
+      by : (y : Reads Tree) → Letters n ≡ parsedOf A y → read-form A room y ≡ refused row.Letters
       by (fault m r) e = let z : _≡_ {A = ℕ} 0 1 = cc in absurd (omega arith)
       by (found t r) e =
           let q : n ≡ few (letterCount A t) = cc in
           unless-holds (formOf A t) (ltb 127 (letterCount A t)) row.Letters (check (ltb room (length (formOf A t))) row.FormMemory ∷ []) (lt-ltb 127 (letterCount A t) (omega arith))
 
   -- few enough
-  pub text-compilable : (n : ℕ) → Letters n ≡ checked A s → n ≤ 127 → Compilable A s
-  unfolding checked
+  pub text-compilable : (n : ℕ) → Letters n ≡ parsed A s → n ≤ 127 → Compilable A s
+  unfolding parsed
   text-compilable n e h = by (expressionOf A s) refl e
     where
-      by : (y : Reads Tree) → expressionOf A s ≡ y → Letters n ≡ checkedOf A y → Compilable A s
+      by : (y : Reads Tree) → expressionOf A s ≡ y → Letters n ≡ parsedOf A y → Compilable A s
       by (fault m r) g e = let z : _≡_ {A = ℕ} 0 1 = cc in absurd (omega arith)
       by (found t r) g e =
           let q : n ≡ few (letterCount A t) = cc in
@@ -119,7 +118,7 @@ module _ (A s : List ℕ) (c : Compilable A s) where
 
   -- what is written of the arrays is the form of the text's automaton
   pub told-call :
-      (room : ℕ) {old new : List ℕ} {follow : List (List Bool)} {x : Built} → BuildsWhole A s old new follow x
+      (room : ℕ) {old new : List ℕ} {before follow : List (List Bool)} {x : Built} → BuildsWhole A s old new before follow x
       → form-call (length A) (arrayed (x .letters) (x .nullable) new (x .first) (x .last) follow) room ≡ form-call (length A) (automatonOf A (treeOfText A s)) room
   unfolding form-call
   told-call room {old} {new} {follow} {x} b =

@@ -42,8 +42,8 @@ fn compile_text(alphabet: &[u8], text: &[u8], form: &mut [u32]) -> Counted
     ensures { λ r. ⌜ Fills (read-form (now (alphabet .entry)) (length (now (form .entry))) (expressionOf (now (alphabet .entry)) (now (text .entry)))) (reported r) (now (form .entry)) (now (form .exit)) ⌝ }
 {
     match parse::expression(alphabet, text) {
-        parse::Checked::Refused(r) => Counted::Refused(r),
-        parse::Checked::Letters(n) => {
+        parse::Parsed::Refused(r) => Counted::Refused(r),
+        parse::Parsed::Letters(n) => {
             if 127 < n {
                 return Counted::Refused(Refusal::Letters);
             }

@@ -1,6 +1,6 @@
 // The letters of a part of the text, counted up to 128: parts joined, repeated, in parentheses; and whether a branch ends, or a repetition
 // stands, at a place (document 01, "Expression text"). The text may have any bytes.
-use characters::few;
+use characters::capped_at_128;
 use characters::one_of;
 use characters::peek;
 use refusal::Refusal;
@@ -11,14 +11,14 @@ ghost use Prim.Native.Nat.{_+_, _*_};
 ghost use lib.ListN.{drop};
 ghost use Rattle.expression.specs.Tree.{onward};
 ghost use Rattle.expression.specs.Letters.{copiesOf};
-ghost use Rattle.expression.specs.Sense.{few as fewOf};
+ghost use Rattle.expression.specs.Sense.{few};
 ghost use Rattle.expression.specs.Repetition.{repeats as repeatsHere};
 ghost use Rattle.expression.specs.Read.{ends};
 ghost use Rattle.counting.specs.Parts.{add, repeated as repeatedOf, closed as closedOf};
 
 // n + m, up to 128.
 fn sum(n: usize, m: usize) -> usize
-    ensures { λ r. ⌜ r ≡ fewOf (n + m) ⌝ }
+    ensures { λ r. ⌜ r ≡ few (n + m) ⌝ }
 {
     if 128 <= n {
         return 128;
@@ -26,12 +26,12 @@ fn sum(n: usize, m: usize) -> usize
     if 128 <= m {
         return 128;
     }
-    few(n + m)
+    capped_at_128(n + m)
 }
 
 // k × n, up to 128.
 fn product(k: usize, n: usize) -> usize
-    ensures { λ r. ⌜ r ≡ fewOf (k * n) ⌝ }
+    ensures { λ r. ⌜ r ≡ few (k * n) ⌝ }
 {
     if k == 0 {
         return 0;
@@ -45,7 +45,7 @@ fn product(k: usize, n: usize) -> usize
     if 128 <= n {
         return 128;
     }
-    few(k * n)
+    capped_at_128(k * n)
 }
 
 // How many copies `{n,}` opens into.
@@ -83,7 +83,7 @@ pub fn closed(text: &[u8], content: Part) -> Part
     match content {
         Part::Refused(x) => Part::Refused(x),
         Part::Read(e, n) => {
-            if peek(text, e) == 41 {
+            if peek(text, e) == b')' {
                 return Part::Read(e + 1, n);
             }
             Part::Refused(Refusal::MisplacedSign)

@@ -16,7 +16,7 @@ fn opens_class(inside: &[u8], i: usize) -> bool
     requires { ⌜ i < length (now inside) ⌝ }
     ensures { λ r. ⌜ r ≡ opens (drop i (now (inside .entry))) ⌝ }
 {
-    if inside[i] != 91 {
+    if inside[i] != b'[' {
         return false;
     }
     one_of(b".=:", peek(inside, i + 1))
@@ -43,7 +43,7 @@ fn is_range(inside: &[u8], i: usize) -> bool
     if inside.len() - i < 3 {
         return false;
     }
-    inside[i + 1] == 45
+    inside[i + 1] == b'-'
 }
 
 // The last byte of the item here.
@@ -75,7 +75,7 @@ fn may_begin(first: bool, c: u8) -> bool
     if first {
         return true;
     }
-    c != 45
+    c != b'-'
 }
 
 // May the item stand here?

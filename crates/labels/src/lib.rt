@@ -11,7 +11,7 @@ pub fn wide(x: u8) -> usize
     x as usize
 }
 
-// Is x a label from `low` to `high`?
+// Is x from `low` to `high`?
 fn in_range(low: usize, high: usize, x: usize) -> bool
     ensures { λ r. ⌜ r ≡ in-range low high x ⌝ }
 {
@@ -21,7 +21,7 @@ fn in_range(low: usize, high: usize, x: usize) -> bool
     x <= high
 }
 
-// Is each label of the list from `low` to `high`?
+// Is each number of a list from `low` to `high`?
 pub fn all_in_range(low: usize, high: usize, list: &[u8]) -> bool
     ensures { λ r. ⌜ r ≡ all (in-range low high) (now (list .entry)) ⌝ }
 {

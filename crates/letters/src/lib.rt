@@ -64,6 +64,7 @@ pub fn copies_at(text: &[u8], at: usize) -> Copies
                 onward: true,
                 end: e,
             },
+            // Cannot occur, by the contract.
             Repeats::Refused(_) => one,
         }
     } else {
@@ -78,6 +79,7 @@ fn behind_set(text: &[u8], at: usize) -> usize
 {
     match set_end(text, at) {
         End::At(e) => e,
+        // Cannot occur, by the contract.
         End::Refused(_) => at,
     }
 }

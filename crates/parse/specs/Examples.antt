@@ -10,13 +10,13 @@ use Rattle.expression.specs.Text.{then, first-of, split, enclosed, provided}
 use Rattle.expression.specs.Sets.{closed, reserved, items, members, inside, bracket, escaped, a-set, labelled-set}
 use Rattle.expression.specs.Repetition.{number, from-on, from-to, comma, counts, sign, repetition}
 use Rattle.expression.specs.Read.{grouped, step, go, read, whole, expressionOf}
-use Rattle.parse.specs.declared.Checked.{Checked}
-use Rattle.parse.specs.declared.Checked.the-variants.{Letters, Refused}
-use Rattle.parse.specs.Checked.{checked}
+use Rattle.parse.specs.declared.Parsed.{Parsed}
+use Rattle.parse.specs.declared.Parsed.the-variants.{Letters, Refused}
+use Rattle.parse.specs.Parsed.{parsed}
 
 -- over `ab`
-answers : List String → List Checked
-answers texts = map (λ t. checked (bytes "ab") (bytes t)) texts
+answers : List String → List Parsed
+answers texts = map (λ t. parsed (bytes "ab") (bytes t)) texts
 
 tried :
     (answers ("ab*" ∷ "a{127}" ∷ "a{128}" ∷ "(a{255}){255}" ∷ "a*?" ∷ "[^a]{2,}" ∷ [])
@@ -26,5 +26,5 @@ tried :
     × (answers ("((((((((((((((((a))))))))))))))))" ∷ "(((((((((((((((((a)))))))))))))))))" ∷ []) ≡ Letters 1 ∷ Refused Depth ∷ [])
     × (answers ("a{0}" ∷ "a{1,256}" ∷ "[b-a]" ∷ "[c]" ∷ "c" ∷ [])
     ≡ Refused Count ∷ Refused Count ∷ Refused Bracket ∷ Refused Foreign ∷ Refused Foreign ∷ [])
-unfolding answers map checked expressionOf whole read go step grouped repetition sign counts comma from-to from-on number labelled-set a-set escaped bracket inside members items reserved closed provided enclosed split first-of then letterCount labelsOf
+unfolding answers map parsed expressionOf whole read go step grouped repetition sign counts comma from-to from-on number labelled-set a-set escaped bracket inside members items reserved closed provided enclosed split first-of then letterCount labelsOf
 tried = (refl, refl, refl, refl)

@@ -1,4 +1,4 @@
 pub mod Parts
 pub mod Cycle
-pub mod Checked
+pub mod Parsed
 pub mod Examples

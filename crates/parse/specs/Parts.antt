@@ -1,5 +1,5 @@
 -- The parts of a text at their places, as the parser answers them, and what a part that was read says. Assumes nothing.
--- Used by the proofs, Checked and Cycle.
+-- Used by the proofs, Cycle and Parsed.
 use mathlib.Core.Path.{_≡_, refl, sym, ap, _∙_}
 use mathlib.Core.List.{List}
 use Prim.Native.Nat.{ℕ, _≤_, _<_}

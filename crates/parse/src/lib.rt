@@ -8,7 +8,6 @@ use counting::is_end;
 use counting::is_repeated;
 use counting::repeated;
 use refusal::Refusal;
-use repetition::Repeats;
 use repetition::repetition;
 use tokens::Part;
 use tokens::set;
@@ -16,10 +15,10 @@ ghost use mathlib.Core.Path.{_≡_};
 ghost use lib.ListN.{drop};
 ghost use Rattle.expression.specs.Read.{read, m-alternation, m-branch, m-piece, m-group};
 ghost use Rattle.tokens.specs.Answers.{partOf};
-ghost use Rattle.parse.specs.Checked.{checked};
+ghost use Rattle.parse.specs.Parsed.{parsed};
 
 // The letters of an expression, counted up to 128, or why it is turned away.
-pub enum Checked {
+pub enum Parsed {
     Letters(usize),
     Refused(Refusal),
 }
@@ -31,7 +30,7 @@ pub fn alternation(alphabet: &[u8], text: &[u8], at: usize, room: usize) -> Part
     match branch(alphabet, text, at, room) {
         Part::Refused(x) => Part::Refused(x),
         Part::Read(e, n) => {
-            if peek(text, e) != 124 {
+            if peek(text, e) != b'|' {
                 return Part::Read(e, n);
             }
             added(n, alternation(alphabet, text, e + 1, room))
@@ -73,7 +72,7 @@ pub fn piece(alphabet: &[u8], text: &[u8], at: usize, room: usize) -> Part
 pub fn group(alphabet: &[u8], text: &[u8], at: usize, room: usize) -> Part
     ensures { λ r. ⌜ r ≡ partOf (now (alphabet .entry)) (now (text .entry)) (read (now (alphabet .entry)) m-group room (drop at (now (text .entry)))) ⌝ }
 {
-    if peek(text, at) != 40 {
+    if peek(text, at) != b'(' {
         return set(alphabet, text, at);
     }
     if room == 0 {
@@ -83,16 +82,16 @@ pub fn group(alphabet: &[u8], text: &[u8], at: usize, room: usize) -> Part
 }
 
 // The whole text, with at most 16 groups open together.
-pub fn expression(alphabet: &[u8], text: &[u8]) -> Checked
-    ensures { λ r. ⌜ r ≡ checked (now (alphabet .entry)) (now (text .entry)) ⌝ }
+pub fn expression(alphabet: &[u8], text: &[u8]) -> Parsed
+    ensures { λ r. ⌜ r ≡ parsed (now (alphabet .entry)) (now (text .entry)) ⌝ }
 {
     match alternation(alphabet, text, 0, 16) {
-        Part::Refused(x) => Checked::Refused(x),
+        Part::Refused(x) => Parsed::Refused(x),
         Part::Read(e, n) => {
             if e < text.len() {
-                return Checked::Refused(Refusal::MisplacedSign);
+                return Parsed::Refused(Refusal::MisplacedSign);
             }
-            Checked::Letters(n)
+            Parsed::Letters(n)
         }
     }
 }

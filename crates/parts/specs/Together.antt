@@ -10,32 +10,32 @@ use Rattle.relation.specs.Sets.{member, arc, Union, Linked}
 use Rattle.parts.specs.declared.Built.{Built}
 
 -- the letters of a, and those of b where `on` says so
-unfoldable pub Merged : List Bool → Bool → List Bool → List Bool → Type 0
-Merged a on b r = (i : ℕ) → member r i ≡ (member a i || on && member b i)
+unfoldable pub United : List Bool → Bool → List Bool → List Bool → Type 0
+United a on b r = (i : ℕ) → member r i ≡ (member a i || on && member b i)
 
-pub merged-on : (a b r : List Bool) (on : Bool) → on ≡ true → Union a b r → Merged a on b r
-unfolding Merged
-merged-on a b r on e u i = u .at i ∙ ap (λ t. member a i || t && member b i) (sym e)
+pub united-on : (a b r : List Bool) (on : Bool) → on ≡ true → Union a b r → United a on b r
+unfolding United
+united-on a b r on e u i = u .at i ∙ ap (λ t. member a i || t && member b i) (sym e)
 
-pub merged-off : (a b : List Bool) (on : Bool) → on ≡ false → Merged a on b a
-unfolding Merged
-merged-off a b on e i = sym (ap (λ t. member a i || t && member b i) e ∙ or-false (member a i))
+pub united-off : (a b : List Bool) (on : Bool) → on ≡ false → United a on b a
+unfolding United
+united-off a b on e i = sym (ap (λ t. member a i || t && member b i) e ∙ or-false (member a i))
 
 -- a or b
 pub record Chosen (a b x : Built) : Type 0 where
   pub ends : x .end ≡ b .end
   pub counts : x .letters ≡ b .letters
   pub nullable : x .nullable ≡ (a .nullable || b .nullable)
-  pub first : Merged (a .first) true (b .first) (x .first)
-  pub last : Merged (a .last) true (b .last) (x .last)
+  pub first : United (a .first) true (b .first) (x .first)
+  pub last : United (a .last) true (b .last) (x .last)
 
 -- a and then b
 pub record Joined (a b x : Built) (before after : List (List Bool)) : Type 0 where
   pub ends : x .end ≡ b .end
   pub counts : x .letters ≡ b .letters
   pub nullable : x .nullable ≡ (a .nullable && b .nullable)
-  pub first : Merged (a .first) (a .nullable) (b .first) (x .first)
-  pub last : Merged (b .last) (b .nullable) (a .last) (x .last)
+  pub first : United (a .first) (a .nullable) (b .first) (x .first)
+  pub last : United (b .last) (b .nullable) (a .last) (x .last)
   pub arcs : Linked (a .last) (b .first) before after
 
 -- arcs from the last letters to the first, where `on` says so
@@ -56,3 +56,7 @@ pub record Spared (a : Built) (spare : Bool) (e : ℕ) (x : Built) : Type 0 wher
   pub nullable : x .nullable ≡ (spare || a .nullable)
   pub first : x .first ≡ a .first
   pub last : x .last ≡ a .last
+
+-- a itself; it ends at e
+abbrev pub Ended : Built → ℕ → Built → Type 0
+Ended a e x = Spared a false e x

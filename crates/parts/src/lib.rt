@@ -1,12 +1,13 @@
 // Parts of an automaton put together: sets of letters united, arcs added (document 01, "Opening and the compiled form"). The letter of
 // number i stands at index i - 1.
+use relation::either;
 use relation::link;
-use relation::merge;
+use relation::unite;
 ghost use mathlib.Core.Path.{_≡_};
-ghost use mathlib.Core.Bool.{_&&_, _||_};
+ghost use mathlib.Core.Bool.{_&&_};
 ghost use Prim.Native.Nat.{_≤_};
 ghost use lib.ListN.{length};
-ghost use Rattle.parts.specs.Together.{Merged, Chosen, Joined, Looped, Spared};
+ghost use Rattle.parts.specs.Together.{United, Chosen, Joined, Looped, Spared, Ended};
 
 // A part that was built: where it ends in the text; how many letters there are up to its end; whether it has the empty word; and which
 // letters may be first in it, and last.
@@ -24,19 +25,13 @@ fn both(a: bool, b: bool) -> bool
     if a { b } else { false }
 }
 
-fn either(a: bool, b: bool) -> bool
-    ensures { λ r. ⌜ r ≡ (a || b) ⌝ }
-{
-    if a { true } else { b }
-}
-
 // The letters of a, and those of b too where `on` says so.
-fn merged(a: [bool; 127], on: bool, b: [bool; 127]) -> [bool; 127]
-    ensures { λ r. ⌜ Merged a on b r ⌝ }
+fn united(a: [bool; 127], on: bool, b: [bool; 127]) -> [bool; 127]
+    ensures { λ r. ⌜ United a on b r ⌝ }
 {
     let mut r = a;
     if on {
-        merge(&mut r, &b);
+        unite(&mut r, &b);
         return r;
     }
     r
@@ -48,10 +43,10 @@ pub fn choice(a: Built, b: Built) -> Built
 {
     let a_first = a.first;
     let b_first = b.first;
-    let first = merged(a_first, true, b_first);
+    let first = united(a_first, true, b_first);
     let a_last = a.last;
     let b_last = b.last;
-    let last = merged(a_last, true, b_last);
+    let last = united(a_last, true, b_last);
     Built {
         end: b.end,
         letters: b.letters,
@@ -70,9 +65,9 @@ pub fn joint(a: Built, b: Built, follow: &mut [[bool; 127]]) -> Built
     let b_first = b.first;
     link(follow, &a_last, &b_first);
     let a_first = a.first;
-    let first = merged(a_first, a.nullable, b_first);
+    let first = united(a_first, a.nullable, b_first);
     let b_last = b.last;
-    let last = merged(b_last, b.nullable, a_last);
+    let last = united(b_last, b.nullable, a_last);
     Built {
         end: b.end,
         letters: b.letters,
@@ -104,6 +99,21 @@ pub fn perhaps(a: Built, spare: bool, end: usize) -> Built
         end,
         letters: a.letters,
         nullable: either(spare, a.nullable),
+        first,
+        last,
+    }
+}
+
+// The part itself; it ends there.
+pub fn ended(a: Built, end: usize) -> Built
+    ensures { λ r. ⌜ Ended a end r ⌝ }
+{
+    let first = a.first;
+    let last = a.last;
+    Built {
+        end,
+        letters: a.letters,
+        nullable: a.nullable,
         first,
         last,
     }

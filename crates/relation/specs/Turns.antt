@@ -11,19 +11,19 @@ use Rattle.lists.specs.Order.{lt-or-le}
 use Rattle.lists.specs.Upto.{Upto, upto-left, upto-set}
 use Rattle.relation.specs.Sets.{member, arc, Union, Linked}
 
--- The loop of `merge`, over the letters.
+-- The loop of `unite`, over the letters.
 
 module _ (a b : List Bool) where
   abbrev pub Either : ℕ → Bool → Type 0
   Either i v = v ≡ (member a i || member b i)
 
-  pub merge-turn :
+  pub unite-turn :
       (i : ℕ) (present : List Bool) (v : Bool) → i < length a → Upto false Either a i present → v ≡ (member present i || member b i)
       → Upto false Either a (i + 1) (set present i v)
-  merge-turn i present v l u e = upto-set false Either a i present v l u (e ∙ ap (λ t. t || member b i) (u .rest i (omega arith)))
+  unite-turn i present v l u e = upto-set false Either a i present v l u (e ∙ ap (λ t. t || member b i) (u .rest i (omega arith)))
 
-  pub merge-all : (i : ℕ) (present : List Bool) → length b ≤ i → Upto false Either a i present → Union a b present
-  merge-all i present l u = record { size = u .size; at = λ k. by k (lt-or-le k i) }
+  pub unite-all : (i : ℕ) (present : List Bool) → length b ≤ i → Upto false Either a i present → Union a b present
+  unite-all i present l u = record { size = u .size; at = λ k. by k (lt-or-le k i) }
     where
       by : (k : ℕ) → (k < i) ⊎ (i ≤ k) → member present k ≡ (member a k || member b k)
       by k (inl h) = u .done k h

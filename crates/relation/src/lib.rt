@@ -6,14 +6,14 @@ ghost use Prim.Native.Nat.{_≤_};
 ghost use lib.ListN.{length};
 ghost use Rattle.relation.specs.Sets.{Union, Linked};
 
-fn either(a: bool, b: bool) -> bool
+pub fn either(a: bool, b: bool) -> bool
     ensures { λ r. ⌜ r ≡ (a || b) ⌝ }
 {
     if a { true } else { b }
 }
 
 // The set a becomes its union with the set b.
-pub fn merge(a: &mut [bool], b: &[bool])
+pub fn unite(a: &mut [bool], b: &[bool])
     requires { ⌜ length (now b) ≤ length (now a) ⌝ }
     ensures { λ _. ⌜ Union (now (a .entry)) (now (b .entry)) (now (a .exit)) ⌝ }
 {
@@ -32,7 +32,7 @@ pub fn link(follow: &mut [[bool; 127]], from: &[bool], to: &[bool])
     let mut i: usize = 0;
     while i < from.len() {
         if from[i] {
-            merge(&mut follow[i], to);
+            unite(&mut follow[i], to);
         }
         i += 1;
     }

@@ -31,13 +31,13 @@ fn number(digits: &[u8]) -> usize
     let mut i = 0;
     while i < digits.len() {
         let b = digits[i];
-        if b < 48 {
+        if b < b'0' {
             return 256;
         }
-        if 57 < b {
+        if b'9' < b {
             return 256;
         }
-        n = 10 * n + (b - 48) as usize;
+        n = 10 * n + (b - b'0') as usize;
         if 255 < n {
             return 256;
         }
@@ -66,7 +66,7 @@ fn range(n: usize, m: usize, end: usize) -> Repeats
 fn counts(inside: &[u8], end: usize) -> Repeats
     ensures { λ r. ⌜ r ≡ counted (countsOf (now (inside .entry))) end ⌝ }
 {
-    let comma = find(inside, 0, 44);
+    let comma = find(inside, 0, b',');
     if inside.len() <= comma {
         let n = number(inside);
         return range(n, n, end);
@@ -89,7 +89,7 @@ fn braces(text: &[u8], at: usize) -> Repeats
     ensures { λ r. ⌜ r ≡ braced (now (text .entry)) at ⌝ }
 {
     let first = at + 1;
-    let e = find(text, first, 125);
+    let e = find(text, first, b'}');
     if text.len() <= e {
         return Repeats::Refused(Refusal::Count);
     }
@@ -101,16 +101,16 @@ fn sign(text: &[u8], at: usize) -> Repeats
     ensures { λ r. ⌜ r ≡ repeatsOf (now (text .entry)) (signOf (drop at (now (text .entry)))) ⌝ }
 {
     let b = peek(text, at);
-    if b == 42 {
+    if b == b'*' {
         return Repeats::Onward(0, at + 1);
     }
-    if b == 43 {
+    if b == b'+' {
         return Repeats::Onward(1, at + 1);
     }
-    if b == 63 {
+    if b == b'?' {
         return Repeats::Between(0, 1, at + 1);
     }
-    if b == 123 {
+    if b == b'{' {
         return braces(text, at);
     }
     Repeats::Refused(Refusal::MisplacedSign)
@@ -120,7 +120,7 @@ fn sign(text: &[u8], at: usize) -> Repeats
 fn behind_modifier(text: &[u8], at: usize) -> usize
     ensures { λ r. ⌜ r ≡ modified (now (text .entry)) at ⌝ }
 {
-    if peek(text, at) == 63 {
+    if peek(text, at) == b'?' {
         return at + 1;
     }
     at

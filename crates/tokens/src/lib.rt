@@ -3,7 +3,7 @@
 use bracket::End;
 use bracket::bracket_end;
 use bracket::bracket_has;
-use characters::few;
+use characters::capped_at_128;
 use characters::one_if;
 use characters::one_of;
 use characters::peek;
@@ -13,7 +13,7 @@ ghost use Prim.Native.Nat.{_+_, _<_};
 ghost use lib.ListN.{length, drop};
 ghost use Rattle.expression.specs.Tree.{member as memberOf};
 ghost use Rattle.expression.specs.Letters.{labelsOf};
-ghost use Rattle.expression.specs.Sets.{escaped, a-set};
+ghost use Rattle.expression.specs.Sets.{special, escaped, a-set};
 ghost use Rattle.bracket.specs.Answers.{endOf};
 ghost use Rattle.tokens.specs.Answers.{partOf, set-tree, SetAt, setAt};
 
@@ -23,12 +23,19 @@ pub enum Part {
     Refused(Refusal),
 }
 
+// Is the byte a sign that is ordinary only behind a `\`?
+fn is_special(b: u8) -> bool
+    ensures { λ r. ⌜ r ≡ special b ⌝ }
+{
+    one_of(b"^.[$()|*+?{\\", b)
+}
+
 // Where the escaped character ends whose `\` stands here.
 fn escape_end(text: &[u8], at: usize) -> End
     requires { ⌜ at < length (now text) ⌝ }
     ensures { λ r. ⌜ r ≡ endOf (now (text .entry)) (escaped (drop at (now (text .entry))) (drop (at + 1) (now (text .entry)))) ⌝ }
 {
-    if one_of(b"^.[$()|*+?{\\", peek(text, at + 1)) {
+    if is_special(peek(text, at + 1)) {
         return End::At(at + 2);
     }
     End::Refused(Refusal::MisplacedSign)
@@ -42,16 +49,16 @@ pub fn set_end(text: &[u8], at: usize) -> End
         return End::Refused(Refusal::MisplacedSign);
     }
     let b = text[at];
-    if b == 92 {
+    if b == b'\\' {
         return escape_end(text, at);
     }
-    if b == 46 {
+    if b == b'.' {
         return End::At(at + 1);
     }
-    if b == 91 {
+    if b == b'[' {
         return bracket_end(text, at);
     }
-    if one_of(b"^.[$()|*+?{\\", b) {
+    if is_special(b) {
         return End::Refused(Refusal::MisplacedSign);
     }
     End::At(at + 1)
@@ -63,13 +70,13 @@ pub fn member(text: &[u8], at: usize, b: u8) -> bool
     ensures { λ r. ⌜ r ≡ memberOf (setAt (now (text .entry)) at) b ⌝ }
 {
     let c = peek(text, at);
-    if c == 92 {
+    if c == b'\\' {
         return peek(text, at + 1) == b;
     }
-    if c == 46 {
+    if c == b'.' {
         return true;
     }
-    if c == 91 {
+    if c == b'[' {
         return bracket_has(text, at, b);
     }
     c == b
@@ -100,7 +107,7 @@ pub fn set(alphabet: &[u8], text: &[u8], at: usize) -> Part
             if n == 0 {
                 return Part::Refused(Refusal::Foreign);
             }
-            Part::Read(e, few(n))
+            Part::Read(e, capped_at_128(n))
         }
     }
 }

@@ -30,7 +30,7 @@ use Rattle.build.proofs.+alternation+branch+group+piece.Proof.Branch.{b
 use Rattle.build.proofs.+alternation+branch+group+piece.Proof.Branch.{branch-returns-2}
 use Rattle.build.proofs.+alternation+branch+group+piece.Proof.Group.{group-peek-requires, group-set-requires, group-same-length}
 use Rattle.build.proofs.+alternation+branch+group+piece.Proof.Group.{group-returns, group-add-alternation, group-sub-alternation}
-use Rattle.build.proofs.+alternation+branch+group+piece.Proof.Group.{group-alternation-requires, group-add-perhaps, group-perhaps-requires}
+use Rattle.build.proofs.+alternation+branch+group+piece.Proof.Group.{group-alternation-requires, group-add-ended, group-ended-requires}
 use Rattle.build.proofs.+alternation+branch+group+piece.Proof.Group.{group-same-length-2, group-same-length-3, group-returns-2}
 use Rattle.build.proofs.+alternation+branch+group+piece.Proof.Piece.{piece-group-requires, piece-copies-at-requires, piece-add-if1}
 use Rattle.build.proofs.+alternation+branch+group+piece.Proof.Piece.{piece-again-requires, piece-perhaps-requires, piece-same-length}
@@ -77,8 +77,8 @@ pub +alternation+branch+group+piece-spec : {M : Type 1} → statement M
     (group-add-alternation t)
     (group-sub-alternation t)
     (group-alternation-requires t)
-    (group-add-perhaps t)
-    (group-perhaps-requires t)
+    (group-add-ended t)
+    (group-ended-requires t)
     (group-same-length-2 t)
     (group-same-length-3 t)
     (group-returns-2 t))

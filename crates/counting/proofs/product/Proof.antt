@@ -23,16 +23,16 @@ returns-4 c =
     let else1 = c .before .before .before in
     product-times (start .args .k) (start .args .n) (c .if4 .taken) (else1 .if1 .left)
 
-mul-few : tie.Need-mul-few
-mul-few c =
+mul-capped-at-128 : tie.Need-mul-capped-at-128
+mul-capped-at-128 c =
     let start = c .before .before .before .before in
     let s = product-small (start .args .k) (start .args .n) (c .before .if3 .left) (c .if4 .left) in omega arith
 
-few-requires : tie.Need-few-requires
-few-requires c κs = tt
+capped-at-128-requires : tie.Need-capped-at-128-requires
+capped-at-128-requires c κs = tt
 
 returns-5 : tie.Need-returns-5
-returns-5 c = c .few .ensures
+returns-5 c = c .capped-at-128 .ensures
 
 pub product-spec : {M : Type 1} → statement M
-product-spec = tie.close (tie.spec returns returns-2 returns-3 returns-4 mul-few few-requires returns-5)
+product-spec = tie.close (tie.spec returns returns-2 returns-3 returns-4 mul-capped-at-128 capped-at-128-requires returns-5)

@@ -4,7 +4,7 @@ use denote.Ref.{now}
 use mathlib.Core.Path.{sym, _∙_}
 use Rattle.expression.specs.Read.{m-alternation}
 use Rattle.parse.specs.Parts.{part-found}
-use Rattle.parse.specs.Checked.{checked-refused, checked-stray, checked-letters}
+use Rattle.parse.specs.Parsed.{parsed-refused, parsed-stray, parsed-letters}
 use Rattle.parse.proofs.expression.Statement.{statement}
 use Rattle.parse.proofs.expression.Tie as tie
 
@@ -25,7 +25,7 @@ returns c =
     let text = now (start .args .text) in
     let g = c .before .before .e .given in
     let f = part-found A text m-alternation 16 0 (g .0 .0) (g .0 .1 .0) (sym (g .1) ∙ after-alternation .alternation .ensures) in
-    checked-stray A text (g .0 .0) (g .0 .1 .0) f (c .if1 .taken)
+    parsed-stray A text (g .0 .0) (g .0 .1 .0) f (c .if1 .taken)
 
 returns-2 : tie.Need-returns-2
 returns-2 c =
@@ -33,7 +33,7 @@ returns-2 c =
     let after-alternation = c .before .before .before in
     let A = now (start .args .alphabet) in
     let text = now (start .args .text) in
-    checked-refused A text _ (sym (c .before .x .given .1) ∙ after-alternation .alternation .ensures)
+    parsed-refused A text _ (sym (c .before .x .given .1) ∙ after-alternation .alternation .ensures)
 
 returns-3 : tie.Need-returns-3
 returns-3 c =
@@ -43,7 +43,7 @@ returns-3 c =
     let text = now (start .args .text) in
     let g = c .before .before .e .given in
     let f = part-found A text m-alternation 16 0 (g .0 .0) (g .0 .1 .0) (sym (g .1) ∙ after-alternation .alternation .ensures) in
-    checked-letters A text (g .0 .0) (g .0 .1 .0) f (c .if1 .left)
+    parsed-letters A text (g .0 .0) (g .0 .1 .0) f (c .if1 .left)
 
 pub expression-spec : {M : Type 1} → statement M
 expression-spec = tie.close (tie.spec alternation-requires enum-known-x enum-known-e returns returns-2 returns-3)

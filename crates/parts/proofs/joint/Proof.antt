@@ -13,11 +13,11 @@ slice-aggregate-link-2 c = search needs
 link-requires : tie.Need-link-requires
 link-requires c κs = omega (arith, slice-aggregate-link (c .before), slice-aggregate-link-2 c)
 
-merged-requires : tie.Need-merged-requires
-merged-requires c κs = search needs
+united-requires : tie.Need-united-requires
+united-requires c κs = search needs
 
-merged-requires-2 : tie.Need-merged-requires-2
-merged-requires-2 c κs = search needs
+united-requires-2 : tie.Need-united-requires-2
+united-requires-2 c κs = search needs
 
 both-requires : tie.Need-both-requires
 both-requires c κs = search needs
@@ -35,8 +35,8 @@ joint-spec =
     slice-aggregate-link
     slice-aggregate-link-2
     link-requires
-    merged-requires
-    merged-requires-2
+    united-requires
+    united-requires-2
     both-requires
     same-length
     returns)

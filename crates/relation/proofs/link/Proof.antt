@@ -24,14 +24,14 @@ loop-holds c =
 shared-slice-read-if1 : tie.Need-shared-slice-read-if1 Inv-loop μ-loop
 shared-slice-read-if1 c = omega arith
 
-mul-merge : tie.Need-mul-merge Inv-loop μ-loop
-mul-merge c = omega arith
+mul-unite : tie.Need-mul-unite Inv-loop μ-loop
+mul-unite c = omega arith
 
-index-1-merge : tie.Need-index-1-merge Inv-loop μ-loop
-index-1-merge c = omega arith
+index-1-unite : tie.Need-index-1-unite Inv-loop μ-loop
+index-1-unite c = omega arith
 
-merge-requires : tie.Need-merge-requires Inv-loop μ-loop
-merge-requires c κs = omega arith
+unite-requires : tie.Need-unite-requires Inv-loop μ-loop
+unite-requires c κs = omega arith
 
 add-i : tie.Need-add-i Inv-loop μ-loop
 add-i c = omega arith
@@ -67,9 +67,9 @@ link-spec =
     μ-loop
     loop-holds
     shared-slice-read-if1
-    mul-merge
-    index-1-merge
-    merge-requires
+    mul-unite
+    index-1-unite
+    unite-requires
     add-i
     loop-less
     loop-again

@@ -8,35 +8,32 @@ use Rattle.tokens.specs.Sets.{escape-ends, escape-refused}
 use Rattle.tokens.proofs.escape_end.Statement.{statement}
 use Rattle.tokens.proofs.escape_end.Tie as tie
 
-slice-aggregate-one-of : tie.Need-slice-aggregate-one-of
-slice-aggregate-one-of c = search needs
-
 add-peek : tie.Need-add-peek
 add-peek c = search needs
 
 peek-requires : tie.Need-peek-requires
 peek-requires c κs = search needs
 
-one-of-requires : tie.Need-one-of-requires
-one-of-requires c κs = search needs
+is-special-requires : tie.Need-is-special-requires
+is-special-requires c κs = search needs
 
-add-t9 : tie.Need-add-t9
-add-t9 c = search needs
+add-t6 : tie.Need-add-t6
+add-t6 c = search needs
 
 returns : tie.Need-returns
 returns c =
-    let start = c .before .before .before .before .before in
+    let start = c .before .before .before .before in
     let text = now (start .args .text) in
     let at = start .args .at in
-    escape-ends text at (drop at text) (start .pre) (sym (c .before .one-of .ensures ∙ ap special (c .before .before .peek .ensures))
+    escape-ends text at (drop at text) (start .pre) (sym (c .before .is-special .ensures ∙ ap special (c .before .before .peek .ensures))
     ∙ c .if1 .taken)
 
 returns-2 : tie.Need-returns-2
 returns-2 c =
-    let start = c .before .before .before .before .before in
+    let start = c .before .before .before .before in
     let text = now (start .args .text) in
     let at = start .args .at in
-    escape-refused text at (drop at text) (sym (c .before .one-of .ensures ∙ ap special (c .before .before .peek .ensures)) ∙ c .if1 .left)
+    escape-refused text at (drop at text) (sym (c .before .is-special .ensures ∙ ap special (c .before .before .peek .ensures)) ∙ c .if1 .left)
 
 pub escape-end-spec : {M : Type 1} → statement M
-escape-end-spec = tie.close (tie.spec slice-aggregate-one-of add-peek peek-requires one-of-requires add-t9 returns returns-2)
+escape-end-spec = tie.close (tie.spec add-peek peek-requires is-special-requires add-t6 returns returns-2)

@@ -37,8 +37,8 @@ returns c =
     part-foreign A text (drop at text) _ (c .before .labels .result) (sym (after-e .e .given .1) ∙ after-set-end .set-end .ensures)
     (c .before .labels .ensures) (c .if1 .taken)
 
-few-requires : tie.Need-few-requires
-few-requires c κs = search needs
+capped-at-128-requires : tie.Need-capped-at-128-requires
+capped-at-128-requires c κs = search needs
 
 returns-2 : tie.Need-returns-2
 returns-2 c =
@@ -58,8 +58,8 @@ returns-3 c =
     let A = now (start .args .alphabet) in
     let text = now (start .args .text) in
     let at = start .args .at in
-    ap (part.Read (after-e .e .given .0 .0)) (c .few .ensures) ∙ part-labels A text (drop at text) _ (after-labels .labels .result)
+    ap (part.Read (after-e .e .given .0 .0)) (c .capped-at-128 .ensures) ∙ part-labels A text (drop at text) _ (after-labels .labels .result)
     (sym (after-e .e .given .1) ∙ after-set-end .set-end .ensures) (after-labels .labels .ensures) (c .before .if1 .left)
 
 pub set-spec : {M : Type 1} → statement M
-set-spec = tie.close (tie.spec set-end-requires enum-known-x enum-known-e labels-requires returns few-requires returns-2 returns-3)
+set-spec = tie.close (tie.spec set-end-requires enum-known-x enum-known-e labels-requires returns capped-at-128-requires returns-2 returns-3)

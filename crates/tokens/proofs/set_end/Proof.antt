@@ -27,8 +27,8 @@ returns-2 c =
     let at = start .args .at in
     c .escape-end .ensures ∙ end-escape text at (else1 .if1 .left) (c .before .if2 .taken)
 
-add-t10 : tie.Need-add-t10
-add-t10 c = search needs
+add-t9 : tie.Need-add-t9
+add-t9 c = search needs
 
 returns-3 : tie.Need-returns-3
 returns-3 c =
@@ -49,38 +49,35 @@ returns-4 c =
     let at = start .args .at in
     c .bracket-end .ensures ∙ end-bracket text at (else1 .if1 .left) (c .before .if4 .taken)
 
-slice-aggregate-one-of : tie.Need-slice-aggregate-one-of
-slice-aggregate-one-of c = search needs
-
-one-of-requires : tie.Need-one-of-requires
-one-of-requires c κs = search needs
+is-special-requires : tie.Need-is-special-requires
+is-special-requires c κs = search needs
 
 returns-5 : tie.Need-returns-5
 returns-5 c =
-    let start = c .before .before .before .before .before .before .before .before .before in
-    let else1 = c .before .before .before .before .before .before .before in
-    let else2 = c .before .before .before .before .before in
-    let else3 = c .before .before .before .before in
-    let else4 = c .before .before .before in
+    let start = c .before .before .before .before .before .before .before .before in
+    let else1 = c .before .before .before .before .before .before in
+    let else2 = c .before .before .before .before in
+    let else3 = c .before .before .before in
+    let else4 = c .before .before in
     let text = now (start .args .text) in
     let at = start .args .at in
     end-special text at (else1 .if1 .left) (else2 .if2 .left) (else3 .if3 .left) (else4 .if4 .left)
-    (sym (c .before .one-of .ensures) ∙ c .if5 .taken)
+    (sym (c .before .is-special .ensures) ∙ c .if5 .taken)
 
-add-t5 : tie.Need-add-t5
-add-t5 c = search needs
+add-t4 : tie.Need-add-t4
+add-t4 c = search needs
 
 returns-6 : tie.Need-returns-6
 returns-6 c =
-    let start = c .before .before .before .before .before .before .before .before .before in
-    let else1 = c .before .before .before .before .before .before .before in
-    let else2 = c .before .before .before .before .before in
-    let else3 = c .before .before .before .before in
-    let else4 = c .before .before .before in
+    let start = c .before .before .before .before .before .before .before .before in
+    let else1 = c .before .before .before .before .before .before in
+    let else2 = c .before .before .before .before in
+    let else3 = c .before .before .before in
+    let else4 = c .before .before in
     let text = now (start .args .text) in
     let at = start .args .at in
     end-alone text at (else1 .if1 .left) (else2 .if2 .left) (else3 .if3 .left) (else4 .if4 .left)
-    (sym (c .before .one-of .ensures) ∙ c .if5 .left)
+    (sym (c .before .is-special .ensures) ∙ c .if5 .left)
 
 pub set-end-spec : {M : Type 1} → statement M
 set-end-spec =
@@ -90,12 +87,11 @@ set-end-spec =
     shared-slice-read-b
     escape-end-requires
     returns-2
-    add-t10
+    add-t9
     returns-3
     bracket-end-requires
     returns-4
-    slice-aggregate-one-of
-    one-of-requires
+    is-special-requires
     returns-5
-    add-t5
+    add-t4
     returns-6)

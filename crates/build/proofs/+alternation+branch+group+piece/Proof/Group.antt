@@ -78,8 +78,8 @@ group-alternation-requires t c κs =
     let l = byte-is text at 39 k in
     (omega arith, (content-found A text d at p o k, content-room A text d at p o k))
 
-pub group-add-perhaps : (t : ℕ) → group-lts.Need-add-perhaps (group-calls t) (group-at t) group.Post
-group-add-perhaps t c =
+pub group-add-ended : (t : ℕ) → group-lts.Need-add-ended (group-calls t) (group-at t) group.Post
+group-add-ended t c =
     let s = c .before .before .before .before .before .before .before .before .before .before .before in
     let A = now (s .args .alphabet) in
     let text = now (s .args .text) in
@@ -92,8 +92,8 @@ group-add-perhaps t c =
     let q = c .before .before .before .alternation .ensures .ends in
     omega arith
 
-pub group-perhaps-requires : (t : ℕ) → group-lts.Need-perhaps-requires (group-calls t) (group-at t) group.Post
-group-perhaps-requires t c κs = search needs
+pub group-ended-requires : (t : ℕ) → group-lts.Need-ended-requires (group-calls t) (group-at t) group.Post
+group-ended-requires t c κs = search needs
 
 pub group-same-length-2 : (t : ℕ) → group-lts.Need-same-length-2 (group-calls t) (group-at t) group.Post
 group-same-length-2 t c = search needs
@@ -111,4 +111,4 @@ group-returns-2 t c =
     let p = s .pre .1 .0 in
     let o = s .pre .1 .1 in
     let k : getD text at 0 ≡ 40 = sym (c .before .before .before .before .before .before .before .before .peek .ensures) ∙ c .before .before .before .before .before .before .before .if1 .left in
-    group-returns-content A text d at p o k (c .before .before .before .before .alternation .ensures) (c .perhaps .ensures)
+    group-returns-content A text d at p o k (c .before .before .before .before .alternation .ensures) (c .ended .ensures)

@@ -19,6 +19,7 @@ use Rattle.build.proofs.+alternation+branch+group+piece.Lts-piece as pi
 use Rattle.parts.proofs.again.Reads as again-reads
 use Rattle.parts.proofs.choice.Reads as choice-reads
 use Rattle.parts.proofs.joint.Reads as joint-reads
+use Rattle.parts.proofs.ended.Reads as ended-reads
 use Rattle.parts.proofs.perhaps.Reads as perhaps-reads
 use Rattle.letters.proofs.copies_at.Reads as copies-at-reads
 use Rattle.letters.proofs.set.Reads as set-reads
@@ -70,7 +71,7 @@ abbrev pub branch-calls : ℕ → branch-lts.Claims
 branch-calls t = (piece-below t, piece.Post, is-end-reads.Asked, is-end-reads.Learnt, branch-below t, branch.Post, joint-reads.Asked, joint-reads.Learnt)
 
 abbrev pub group-calls : ℕ → group-lts.Claims
-group-calls t = (peek-reads.Asked, peek-reads.Learnt, set-reads.Asked, set-reads.Learnt, alternation-below t, alternation.Post, perhaps-reads.Asked, perhaps-reads.Learnt)
+group-calls t = (peek-reads.Asked, peek-reads.Learnt, set-reads.Asked, set-reads.Learnt, alternation-below t, alternation.Post, ended-reads.Asked, ended-reads.Learnt)
 
 abbrev pub piece-calls : ℕ → piece-lts.Claims
 piece-calls t = (group-below t, group.Post, copies-at-reads.Asked, copies-at-reads.Learnt, again-reads.Asked, again-reads.Learnt, perhaps-reads.Asked, perhaps-reads.Learnt, piece-below t, piece.Post, joint-reads.Asked, joint-reads.Learnt)

@@ -1,4 +1,4 @@
--- `relation::merge` meets its contract: below i the set is the union, from i on it is as it was. Assumes nothing.
+-- `relation::unite` meets its contract: below i the set is the union, from i on it is as it was. Assumes nothing.
 use Prim.Native.Nat.{_≤_, _-_}
 use mathlib.Core.Bool.{false}
 use native.Mathlib.Omega.{arith}
@@ -6,9 +6,9 @@ use lib.ListN.{length}
 use borrow.Author.Needs.{needs}
 use denote.Ref.{now}
 use Rattle.lists.specs.Upto.{Upto, upto-none}
-use Rattle.relation.specs.Turns.{Either, merge-turn, merge-all}
-use Rattle.relation.proofs.merge.Statement.{statement}
-use Rattle.relation.proofs.merge.Tie as tie
+use Rattle.relation.specs.Turns.{Either, unite-turn, unite-all}
+use Rattle.relation.proofs.unite.Statement.{statement}
+use Rattle.relation.proofs.unite.Tie as tie
 
 abbrev Inv-loop : tie.InvT-loop
 Inv-loop a₀ b i₀ a i = (i ≤ length b) × Upto false (Either a₀ b) a₀ i a
@@ -42,7 +42,7 @@ loop-again c =
     let s = c .before .before .before .before .before .before .before .args in
     let l = c .before .before .before .before .loop in
     let r = c .either in
-    (omega arith, merge-turn (now (s .a)) (now (s .b)) (l .i) (l .a) (r .result) (omega arith) (l .inv .1) (r .ensures))
+    (omega arith, unite-turn (now (s .a)) (now (s .b)) (l .i) (l .a) (r .result) (omega arith) (l .inv .1) (r .ensures))
 
 same-length : tie.Need-same-length Inv-loop μ-loop
 same-length c = c .before .loop .inv .1 .size
@@ -51,10 +51,10 @@ returns : tie.Need-returns Inv-loop μ-loop
 returns c =
     let s = c .before .before .before .before .args in
     let l = c .before .loop in
-    merge-all (now (s .a)) (now (s .b)) (l .i) (l .a) (omega arith) (l .inv .1)
+    unite-all (now (s .a)) (now (s .b)) (l .i) (l .a) (omega arith) (l .inv .1)
 
-pub merge-spec : {M : Type 1} → statement M
-merge-spec =
+pub unite-spec : {M : Type 1} → statement M
+unite-spec =
     tie.close
     (tie.spec
     Inv-loop
