@@ -1,12 +1,11 @@
 -- From the two phases, the table of costs to go and the trace through it, to Decode's answer. Assumes nothing.
 -- Used by the proofs.
 use Prim.Native.Nat.{ℕ, _+_, _*_, _≤_, _<_}
-use mathlib.Core.Path.{_≡_, refl, sym, ap, ap₂, _∙_, subst}
+use mathlib.Core.Path.{_≡_, refl, sym, ap, ap₂, _∙_}
 use mathlib.Core.Option.{some, none}
-use mathlib.Core.List.{List, []}
+use mathlib.Core.List.{List}
 use native.Mathlib.Omega.{arith}
 use lib.ListN.{length, getD, take}
-use lib.Seq.{length-take-le}
 use Rattle.lists.specs.Written.{written, written-none, Wrote}
 use Rattle.refusal.specs.declared.Refusal.the-variants.{NoReading}
 use Rattle.refusal.specs.Report.{turned-away}

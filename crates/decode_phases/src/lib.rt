@@ -1,5 +1,4 @@
-// Decode past its checks: the table of costs to go is filled, and the best path traced through it (document 01, "Extended states and
-// decoding").
+// Decode past its checks (document 01, "Extended states and decoding").
 use answers::Decoded;
 use form_words::letters;
 use refusal::Refusal;
@@ -10,7 +9,7 @@ ghost use Rattle.reading.specs.Matrix.{matrix};
 ghost use Rattle.decode_checks.specs.Passing.{Fits};
 ghost use Rattle.decode_phases.specs.Answers.{rooms, DecodeAnswers};
 
-// Past the checks: the costs to go, and the best path traced through them.
+// Fills the table of costs to go and traces the best path through it; a price of TOP says that there is none.
 pub fn decode_valid(
     form: &[u32],
     costs: &[u32],

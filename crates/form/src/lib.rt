@@ -6,22 +6,17 @@ use answers::Judged;
 pub use arcs::starts;
 use form_check::valid;
 use form_words::alphabet;
+use labels::wide;
 use refusal::Refusal;
-pub use sets::advance;
-pub use sets::no_letter;
-pub use sets::some_may_end;
+use sets::advance;
+use sets::no_letter;
+use sets::some_may_end;
 ghost use mathlib.Core.Path.{_≡_};
 ghost use mathlib.Core.Bool.{true};
 ghost use Rattle.answers.specs.Judgement.{report, reported};
 ghost use Rattle.automaton.specs.Form.{validForm, view};
 ghost use Rattle.automaton.specs.Accepted.{accepts as acceptsOf};
 ghost use Rattle.form.specs.Judge.{judged};
-
-fn label_of(x: u8) -> usize
-    ensures { λ r. ⌜ r ≡ x ⌝ }
-{
-    x as usize
-}
 
 // Does the form accept the word?
 fn accepts(form: &[u32], word: &[u8]) -> bool
@@ -32,7 +27,7 @@ fn accepts(form: &[u32], word: &[u8]) -> bool
     let mut set = no_letter();
     let mut n = 0;
     while n < word.len() {
-        let next = advance(form, &begins, set, label_of(word[n]));
+        let next = advance(form, &begins, set, wide(word[n]));
         set = next;
         n += 1;
     }

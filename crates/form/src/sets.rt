@@ -73,8 +73,8 @@ fn mark_behind(form: &[u32], x: usize, i: usize, b: usize, e: usize, set: &mut [
 }
 
 // The letters of label x that may stand behind one of the set.
-pub fn advance(form: &[u32], starts: &[usize], set: [bool; 128], x: usize) -> [bool; 128]
-    requires { ⌜ Valid (now form) × ArcStarts (now form) (now starts) ⌝ }
+pub fn advance(form: &[u32], begins: &[usize], set: [bool; 128], x: usize) -> [bool; 128]
+    requires { ⌜ Valid (now form) × ArcStarts (now form) (now begins) ⌝ }
     ensures { λ r. ⌜ Advanced (view (now (form .entry))) x set r ⌝ }
 {
     let l = letters(form);
@@ -82,7 +82,7 @@ pub fn advance(form: &[u32], starts: &[usize], set: [bool; 128], x: usize) -> [b
     let mut i = 0;
     while i <= l {
         if set[i] {
-            mark_behind(form, x, i, starts[i], starts[i + 1], &mut next);
+            mark_behind(form, x, i, begins[i], begins[i + 1], &mut next);
         }
         i += 1;
     }

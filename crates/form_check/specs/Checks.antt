@@ -26,11 +26,11 @@ parity n = by (eq-or-ne (n % 2) 1)
     by (inl e) = ap bit (eq-eqb (n % 2) 1 e) ∙ sym e
     by (inr e) = ap bit (ne-eqb (n % 2) 1 e) ∙ (omega arith)
 
-pub head-sum : (w : ℕ) → headWord (byte0 w) (bit8 w) (byte2 w) ≡ 268435456 + byte2 w * 65536 + w / 256 % 2 * 256 + byte0 w
-head-sum w = omega (arith, parity (w / 256))
+pub head-sum : (w : ℕ) → headWord (byte0 w) (bit8 w) (byte2 w) ≡ 0x10000000 + byte2 w * 0x10000 + w / 0x100 % 2 * 0x100 + byte0 w
+head-sum w = omega (arith, parity (w / 0x100))
 
-pub letter-sum : (w : ℕ) → letterWord (byte0 w) (bit8 w) (bit9 w) ≡ 536870912 + w / 512 % 2 * 512 + w / 256 % 2 * 256 + byte0 w
-letter-sum w = omega (arith, parity (w / 256), parity (w / 512))
+pub letter-sum : (w : ℕ) → letterWord (byte0 w) (bit8 w) (bit9 w) ≡ 0x20000000 + w / 0x200 % 2 * 0x200 + w / 0x100 % 2 * 0x100 + byte0 w
+letter-sum w = omega (arith, parity (w / 0x100), parity (w / 0x200))
 
 -- arcs, each behind the last
 unfoldable pub behind : ℕ → ℕ → List ℕ → Bool

@@ -18,9 +18,9 @@ fn in_range(low: u32, high: u32, n: u32) -> bool
 fn is_head(w: u32) -> bool
     ensures { λ r. ⌜ r ≡ isHead w ⌝ }
 {
-    let l = w % 256;
-    let k = w / 65536 % 256;
-    if w != 268435456 + k * 65536 + w / 256 % 2 * 256 + l {
+    let l = w % 0x100;
+    let k = w / 0x10000 % 0x100;
+    if w != 0x10000000 + k * 0x10000 + w / 0x100 % 2 * 0x100 + l {
         return false;
     }
     if !in_range(1, 127, l) {
@@ -33,8 +33,8 @@ fn is_head(w: u32) -> bool
 fn is_letter(k: u32, w: u32) -> bool
     ensures { λ r. ⌜ r ≡ isLetter k w ⌝ }
 {
-    let x = w % 256;
-    if w != 536870912 + w / 512 % 2 * 512 + w / 256 % 2 * 256 + x {
+    let x = w % 0x100;
+    if w != 0x20000000 + w / 0x200 % 2 * 0x200 + w / 0x100 % 2 * 0x100 + x {
         return false;
     }
     in_range(1, k, x)
@@ -44,9 +44,9 @@ fn is_letter(k: u32, w: u32) -> bool
 fn is_arc(l: u32, w: u32) -> bool
     ensures { λ r. ⌜ r ≡ isArc l w ⌝ }
 {
-    let i = w / 256 % 256;
-    let j = w % 256;
-    if w != 805306368 + i * 256 + j {
+    let i = w / 0x100 % 0x100;
+    let j = w % 0x100;
+    if w != 0x30000000 + i * 0x100 + j {
         return false;
     }
     if !in_range(1, l, i) {
@@ -105,8 +105,8 @@ pub fn valid(form: &[u32]) -> bool
     }
     let first = 1;
     let past = l + 1;
-    if !are_letters(head / 65536 % 256, &form[first..past]) {
+    if !are_letters(head / 0x10000 % 0x100, &form[first..past]) {
         return false;
     }
-    are_arcs(head % 256, &form[past..])
+    are_arcs(head % 0x100, &form[past..])
 }

@@ -15,7 +15,7 @@ pub fn letters(form: &[u32]) -> usize
     requires { ⌜ 0 < length (now form) ⌝ }
     ensures { λ r. ⌜ r ≡ lettersOf (now (form .entry)) ⌝ }
 {
-    wide(form[0] % 256)
+    wide(form[0] % 0x100)
 }
 
 // K, the size of the alphabet.
@@ -23,7 +23,7 @@ pub fn alphabet(form: &[u32]) -> usize
     requires { ⌜ 0 < length (now form) ⌝ }
     ensures { λ r. ⌜ r ≡ alphabetOf (now (form .entry)) ⌝ }
 {
-    wide(form[0] / 65536 % 256)
+    wide(form[0] / 0x10000 % 0x100)
 }
 
 // The label of letter j.
@@ -31,7 +31,7 @@ pub fn label(form: &[u32], j: usize) -> usize
     requires { ⌜ j < length (now form) ⌝ }
     ensures { λ r. ⌜ r ≡ labelOf (now (form .entry)) j ⌝ }
 {
-    wide(form[j] % 256)
+    wide(form[j] % 0x100)
 }
 
 // May letter j be first?
@@ -39,7 +39,7 @@ pub fn may_be_first(form: &[u32], j: usize) -> bool
     requires { ⌜ (1 ≤ j) × (j ≤ lettersOf (now form)) × (lettersOf (now form) < length (now form)) ⌝ }
     ensures { λ r. ⌜ r ≡ followOf (now (form .entry)) 0 j ⌝ }
 {
-    form[j] / 256 % 2 == 1
+    form[j] / 0x100 % 2 == 1
 }
 
 // May a word end behind letter i, or be empty if i is 0?
@@ -48,9 +48,9 @@ pub fn may_end(form: &[u32], i: usize) -> bool
     ensures { λ r. ⌜ r ≡ endsOf (now (form .entry)) i ⌝ }
 {
     if i == 0 {
-        return form[0] / 256 % 2 == 1;
+        return form[0] / 0x100 % 2 == 1;
     }
-    form[i] / 512 % 2 == 1
+    form[i] / 0x200 % 2 == 1
 }
 
 // The source of the arc word at n.
@@ -58,7 +58,7 @@ pub fn source(form: &[u32], n: usize) -> usize
     requires { ⌜ n < length (now form) ⌝ }
     ensures { λ r. ⌜ r ≡ sourceOf (getD (now (form .entry)) n 0) ⌝ }
 {
-    wide(form[n] / 256 % 256)
+    wide(form[n] / 0x100 % 0x100)
 }
 
 // The target of the arc word at n.
@@ -66,5 +66,5 @@ pub fn target(form: &[u32], n: usize) -> usize
     requires { ⌜ n < length (now form) ⌝ }
     ensures { λ r. ⌜ r ≡ targetOf (getD (now (form .entry)) n 0) ⌝ }
 {
-    wide(form[n] % 256)
+    wide(form[n] % 0x100)
 }

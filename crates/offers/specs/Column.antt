@@ -29,10 +29,12 @@ pub record Ahead (f costs : List ℕ) (at : ℕ) (work : List ℕ) (next : ℕ) 
 abbrev pub onward : (f costs : List ℕ) (at : ℕ) (work : List ℕ) (next j : ℕ) → ℕ
 onward f costs at work next j = plus (getD costs (at + labelOf f j) 0) (getD work (next + (2 * j - 1)) 0)
 
--- the candidates of the letters below n
+-- the candidates of the letters below n; 0 for all that is no such letter
 pub record CandidatesBelow (f costs : List ℕ) (at : ℕ) (work : List ℕ) (next : ℕ) (cs : List ℕ) (n : ℕ) : Type 0 where
   pub good : Candidates cs
   pub is : (j : ℕ) → 1 ≤ j → j < n → candidate cs j ≡ onward f costs at work next j
+  pub front : candidate cs 0 ≡ 0
+  pub behind : (j : ℕ) → n ≤ j → candidate cs j ≡ 0
 
 -- of all letters
 abbrev pub CandidatesOf : (f costs : List ℕ) (at : ℕ) (work : List ℕ) (next : ℕ) (cs : List ℕ) → Type 0
@@ -50,15 +52,19 @@ module _ (f costs : List ℕ) (at : ℕ) (work : List ℕ) (next : ℕ) where
       record {
         good = record { size = length-replicate {A = ℕ} 128 0; top = λ j. let e = zeros 128 0 j in omega arith };
         is = λ j l h. absurd (omega arith);
+        front = zeros 128 0 0;
+        behind = λ j h. zeros 128 0 j;
       }
 
   pub candidates-more :
-      (cs : List ℕ) (n c : ℕ) → n < 128 → CandidatesBelow f costs at work next cs n → c ≡ onward f costs at work next n
+      (cs : List ℕ) (n c : ℕ) → 1 ≤ n → n < 128 → CandidatesBelow f costs at work next cs n → c ≡ onward f costs at work next n
       → CandidatesBelow f costs at work next (set cs n c) (n + 1)
-  candidates-more cs n c h b e =
+  candidates-more cs n c low h b e =
       record {
         good = record { size = length-set cs n c ∙ b .good .size; top = λ j. top j (eq-or-ne j n) };
         is = λ j l m. is j l m (eq-or-ne j n);
+        front = getD-set-other cs n 0 c 0 (λ q. omega arith) ∙ b .front;
+        behind = λ j m. getD-set-other cs n j c 0 (λ q. omega arith) ∙ b .behind j (omega arith);
       }
     where
       here : getD (set cs n c) n 0 ≡ c

@@ -50,7 +50,7 @@ fn candidate(form: &[u32], costs: &[u32], at: usize, work: &[u32], next: usize, 
     plus(costs[at + label(form, j)], work[next + (2 * j - 1)])
 }
 
-// The candidates of all letters.
+// The candidates of all letters, 1 to L; the other entries are 0.
 pub fn candidates(form: &[u32], costs: &[u32], at: usize, work: &[u32], next: usize) -> [u32; 128]
     requires { ⌜ Ahead (now form) (now costs) at (now work) next ⌝ }
     ensures { λ r. ⌜ CandidatesOf (now (form .entry)) (now (costs .entry)) at (now (work .entry)) next r ⌝ }

@@ -14,7 +14,6 @@ use Rattle.decode_checks.specs.Checks.{needed, matrix-checks}
 use Rattle.decode_phases.specs.Answers.{Lent, rooms, Answers, Checks}
 use Rattle.compile.specs.Call.{compile-call}
 use Rattle.spelling.specs.Spelling.{characters}
-use Rattle.read_word.specs.Words.{ReadsAccepted}
 
 -- Past Compile, with the form f: rows 12 to 15, or the outcome for the words of the text, the word written as characters. What 'past the
 -- checks with memory enough' means: no refusal but 16 applies.
@@ -22,11 +21,6 @@ abbrev pub ReadsForm : (A s f : List ℕ) (M : Matrix) (before after : Lent) (an
 ReadsForm A s f M before after answer =
     Checks (first-refusal (matrix-checks (length A) (lettersOf f) M (rooms before)))
     (Answers (WordsOf A s) (characters A) (length f) M (needed (M .count) (lettersOf f))) before after answer
-
--- the same by the words that the form accepts
-abbrev pub ChecksForm : (A f : List ℕ) (M : Matrix) (before after : Lent) (answer : Report) → Type 0
-ChecksForm A f M before after answer =
-    Checks (first-refusal (matrix-checks (length A) (lettersOf f) M (rooms before))) (ReadsAccepted A f M) before after answer
 
 -- By what Compile makes of the alphabet and the text: its refusal with all memory as it was, or the reading.
 abbrev pub ReadsBy : Verdict (List ℕ) → (A s : List ℕ) (M : Matrix) (before after : Lent) (answer : Report) → Type 0

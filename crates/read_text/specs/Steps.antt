@@ -1,5 +1,5 @@
--- From what a form reads to what Read promises: the form's words are those of the text. Assumes nothing.
--- Used by the proofs.
+-- What a form reads past the checks, and from it to what Read promises: the form's words are those of the text. Assumes nothing.
+-- Used by the contracts and the proofs.
 use Prim.Native.Nat.{ℕ, _≤_}
 use mathlib.Core.Path.{_≡_, refl, sym, ap, _∙_}
 use mathlib.Core.List.{List}
@@ -22,7 +22,12 @@ use Rattle.decode_checks.specs.Checks.{needed, matrix-checks}
 use Rattle.decode_phases.specs.Answers.{Lent, rooms, Answers, Checks}
 use Rattle.spelling.specs.Spelling.{characters}
 use Rattle.read_word.specs.Words.{ReadsAccepted, number-some}
-use Rattle.read_text.specs.Promise.{ChecksForm, Reads}
+use Rattle.read_text.specs.Promise.{Reads}
+
+-- Past Compile, with the form f: rows 12 to 15, or the outcome for the words that the form accepts.
+abbrev pub ChecksForm : (A f : List ℕ) (M : Matrix) (before after : Lent) (answer : Report) → Type 0
+ChecksForm A f M before after answer =
+    Checks (first-refusal (matrix-checks (length A) (lettersOf f) M (rooms before))) (ReadsAccepted A f M) before after answer
 
 -- the words that the form accepts are those of the text
 pub read-words :

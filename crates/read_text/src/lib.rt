@@ -12,7 +12,8 @@ ghost use Rattle.answers.specs.Reading.{reported};
 ghost use Rattle.automaton.specs.Form.{alphabetOf};
 ghost use Rattle.automaton.specs.Valid.{Valid};
 ghost use Rattle.reading.specs.Matrix.{matrix};
-ghost use Rattle.read_text.specs.Promise.{ChecksForm, Reads};
+ghost use Rattle.read_text.specs.Promise.{Reads};
+ghost use Rattle.read_text.specs.Steps.{ChecksForm};
 
 // Rows 12 to 15, and then what a compiled form reads.
 fn read_form(

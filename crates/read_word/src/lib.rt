@@ -1,4 +1,4 @@
-// Read past its checks: what a form reads, as Decode does, with the word as characters (document 01, demand 3).
+// Read past its checks (document 01, demand 3).
 use answers::Decoded;
 use answers::Reading;
 use decode_phases::decode_valid;
@@ -13,7 +13,7 @@ ghost use Rattle.decode_checks.specs.Passing.{Fits};
 ghost use Rattle.decode_phases.specs.Answers.{rooms};
 ghost use Rattle.read_word.specs.Words.{ReadsAccepted};
 
-// Past the checks: what the form reads, with the word as characters.
+// What the form reads, as Decode does, with the word as characters.
 pub fn read_valid(
     alphabet: &[u8],
     form: &[u32],

@@ -1,7 +1,7 @@
 -- The best of all that qualify: none costs less, and of those that cost the same it comes first. Assumes nothing.
--- Used by 4 files of specs/; in trellis.
+-- Used by Choice and Reading; in trellis.
 use Prim.Native.Nat.{ℕ, _≤_}
-use mathlib.Core.Path.{_≡_, refl, sym}
+use mathlib.Core.Path.{_≡_, sym}
 use native.Mathlib.Omega.{arith}
 
 pub record BestOf {A : Type 0} (Qualifies : A → Type 0) (cost : A → ℕ) (NotAfter : A → A → Type 0) (best : A) : Type 0 where

@@ -1,18 +1,17 @@
 -- Of two outcomes the better one, and that it is the outcome of both sets together. Assumes nothing.
 -- Used by Exhaustive; in reader.
-use Prim.Native.Nat.{ℕ, zero, suc, _+_, _≤_, _<_}
-use mathlib.Core.Path.{_≡_, refl, sym, ap, _∙_}
+use Prim.Native.Nat.{ℕ, _≤_}
+use mathlib.Core.Path.{_≡_, refl, sym}
 use mathlib.Core.Bool.{Bool, true, false, _&&_, _||_}
 use mathlib.Core.Option.{Option, some, none}
 use mathlib.Core.List.{List, [], _∷_}
 use mathlib.Core.Logic.{_⊎_, inl, inr, ⊎-elim}
 use native.Mathlib.Omega.{arith}
 use lib.Dec.{ltb, eqb}
-use borrow.Author.Tests.{ltb-true, ltb-false, eqb-true, eqb-false, le-ltb, ne-eqb}
-use Rattle.lists.specs.Order.{lt-or-le}
+use borrow.Author.Tests.{ltb-true, ltb-false, eqb-true, eqb-false}
 use Rattle.reading.specs.Best.{BestOf}
 use Rattle.reading.specs.Matrix.{Matrix, price}
-use Rattle.reading.specs.Order.{NotAfter, order-trans, order-total}
+use Rattle.reading.specs.Order.{NotAfter, order-trans}
 use Rattle.reading.specs.Reading.{Rival, OutcomeOf, Outcome, outcome-of-same}
 
 -- the order of paths, as a test

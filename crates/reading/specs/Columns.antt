@@ -1,16 +1,14 @@
 -- One column's costs raised by the same amount throughout: the same path is best, and costs that much more. Assumes nothing.
 -- For the reader: nothing leans on it.
-use Prim.Native.Nat.{ℕ, zero, suc, _+_, _≤_, _<_}
-use mathlib.Core.Path.{_≡_, refl, sym, ap, _∙_}
+use Prim.Native.Nat.{ℕ, _+_, _≤_, _<_}
+use mathlib.Core.Path.{_≡_, refl, sym, _∙_}
 use mathlib.Core.Option.{Option, some, none}
 use mathlib.Core.List.{List, [], _∷_}
-use mathlib.Core.Logic.{_⊎_, inl, inr, ⊎-elim}
+use mathlib.Core.Logic.{_⊎_, inl, inr}
 use native.Mathlib.Omega.{arith}
 use lib.ListN.{length}
-use Rattle.lists.specs.Order.{lt-or-le, eq-or-ne}
-use Rattle.reading.specs.Best.{BestOf}
-use Rattle.reading.specs.Matrix.{Matrix, cost, priceFrom, price, Usable, PathFrom, PathOf}
-use Rattle.reading.specs.Order.{NotAfter}
+use Rattle.lists.specs.Order.{eq-or-ne}
+use Rattle.reading.specs.Matrix.{Matrix, cost, priceFrom, price, Usable, PathFrom}
 use Rattle.reading.specs.Reading.{Rival, Best, Outcome}
 
 -- N is M with the usable costs of one column raised, and no cost becomes usable or ceases to be so

@@ -1,7 +1,7 @@
 -- The outcome of a small matrix by trying every list of labels. Where a test decides the words, this decides the reading.
 -- Assumes nothing.
 -- Used in reader.
-use Prim.Native.Nat.{ℕ, zero, suc, _+_, _≤_, _<_}
+use Prim.Native.Nat.{ℕ, zero, suc, _+_, _<_}
 use mathlib.Core.Path.{_≡_, refl, sym, ap, _∙_}
 use mathlib.Core.Bool.{Bool, true, false, _&&_}
 use mathlib.Core.Option.{Option, some, none}
@@ -14,10 +14,8 @@ use borrow.Author.Tests.{leb-true, le-leb}
 use Rattle.lists.specs.Order.{eq-or-ne, and-left, and-right, and-both}
 use Rattle.lists.specs.Each.{Each}
 use Rattle.ctc.specs.Collapse.{merge, without-blanks, collapse}
-use Rattle.reading.specs.Best.{BestOf}
-use Rattle.reading.specs.Matrix.{Matrix, cost, price, Usable, PathFrom, PathOf}
-use Rattle.reading.specs.Order.{NotAfter}
-use Rattle.reading.specs.Reading.{Rival, OutcomeOf, Outcome, outcome-of-same}
+use Rattle.reading.specs.Matrix.{Matrix, cost, price, PathFrom}
+use Rattle.reading.specs.Reading.{OutcomeOf, Outcome, outcome-of-same}
 use Rattle.reading.specs.Choice.{not-after, preferred, better, outcome-either}
 
 abbrev pub prefixed : ℕ → Option (List ℕ) → Option (List ℕ)

@@ -1,9 +1,9 @@
 -- The order of paths: by labels, from the first column. Assumes nothing.
--- Used by 4 files of specs/; in reader and trellis.
+-- Used by Choice and Reading; in reader and trellis.
 use Prim.Native.Nat.{ℕ, _<_, _≤_}
-use mathlib.Core.Path.{_≡_, refl, sym, ap, ap₂}
+use mathlib.Core.Path.{_≡_, refl, sym, ap₂}
 use mathlib.Core.List.{List, [], _∷_}
-use mathlib.Core.Logic.{_⊎_, inl, inr, ⊎-elim}
+use mathlib.Core.Logic.{_⊎_, inl, inr}
 use native.Mathlib.Omega.{arith}
 use Rattle.lists.specs.Order.{lt-or-le, eq-or-ne}
 

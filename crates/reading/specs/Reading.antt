@@ -1,12 +1,11 @@
 -- What is asked of a reading (demand 3), for any set of words: the best of all rivals, or none where there is no rival.
 -- Assumes nothing.
 -- Used by Choice, Columns and Exhaustive; in 7 other crates.
-use Prim.Native.Nat.{ℕ, zero, suc, _+_, _≤_, _<_}
-use mathlib.Core.Path.{_≡_, refl, sym, ap, _∙_}
+use Prim.Native.Nat.{ℕ, _+_, _<_}
+use mathlib.Core.Path.{_≡_, refl, ap}
 use mathlib.Core.Option.{Option, some, none}
 use mathlib.Core.List.{List, [], _∷_}
-use native.Mathlib.Omega.{arith}
-use lib.ListN.{length, getD}
+use lib.ListN.{length}
 use Rattle.ctc.specs.Collapse.{collapse}
 use Rattle.reading.specs.Best.{BestOf, best-same, best-unique}
 use Rattle.lists.specs.Each.{Each}

@@ -17,7 +17,7 @@ use Rattle.trellis.specs.Extended.{extended}
 use Rattle.trellis.specs.Table.{Row, Table}
 use Rattle.offers.specs.Column.{Bounded}
 pub use Rattle.row.specs.Letters.{states}
-use Rattle.row.specs.Rows.{RowFilled}
+use Rattle.row.specs.Rows.{RowFilled, row-next}
 use Rattle.table.specs.Last.{LastFilled}
 
 -- the matrix has the form's width and as many costs as it says, and the memory has room for a table whose rows are `stride` apart
@@ -89,7 +89,7 @@ module _ {f : List ℕ} (M : Matrix) (before : List ℕ) (stride : ℕ) where
           by : (u n : ℕ) → t ≤ u → u + n ≡ M .count → (u ≡ t) ⊎ (u ≡ t → ⊥) → Row (view f) M after (u * stride) u n
           by u n h e (inl q) =
               let m : n - 1 + 1 ≡ n = omega arith in
-              rw q (subst (Row (view f) M after (t * stride) t) m (r .row M t (n - 1) (λ x. refl) (next-row (n - 1) (omega arith))))
+              rw q (subst (Row (view f) M after (t * stride) t) m (row-next (sized .valid) r M t (n - 1) (λ x. refl) (next-row (n - 1) (omega arith))))
           by u n h e (inr d) =
               let a = mul-le-mul-right {m = t + 1} {n = u} stride (omega arith) in
               λ s k. rw (behind-at 0 (u * stride + s) (r .outside) (omega arith)) (done .rows u n (omega arith) e s k)

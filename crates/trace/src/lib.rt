@@ -10,7 +10,8 @@ ghost use Rattle.automaton.specs.Form.{view};
 ghost use Rattle.reading.specs.Matrix.{matrix};
 ghost use Rattle.trace.specs.Traced.{Ready, Traced};
 
-// Writes the best path, one label for each column. The row of column t begins at base + t * stride of the work memory.
+// Writes the best path, one label for each column. The row of column t begins at base + t * stride of the work memory: rows of several
+// tables may stand in one list, as request T-08 will need.
 pub fn trace(
     form: &[u32],
     costs: &[u32],

@@ -35,11 +35,11 @@ loop-holds c =
 slice-aggregate-advance : tie.Need-slice-aggregate-advance Inv-loop μ-loop
 slice-aggregate-advance c = sym (c .before .before .before .before .starts .ensures .size)
 
-shared-slice-read-label-of : tie.Need-shared-slice-read-label-of Inv-loop μ-loop
-shared-slice-read-label-of c = omega arith
+shared-slice-read-wide : tie.Need-shared-slice-read-wide Inv-loop μ-loop
+shared-slice-read-wide c = omega arith
 
-label-of-requires : tie.Need-label-of-requires Inv-loop μ-loop
-label-of-requires c κs = search needs
+wide-requires : tie.Need-wide-requires Inv-loop μ-loop
+wide-requires c κs = search needs
 
 advance-requires : tie.Need-advance-requires Inv-loop μ-loop
 advance-requires c κs =
@@ -59,7 +59,7 @@ loop-again c =
     let f = now (a .form) in
     let next = c .advance .result in (
       omega arith,
-      set-more (view f) (now (a .word)) (l .set) (l .n) (l .inv .1) next (omega arith) (subst (λ x. Advanced (view f) x (l .set) next) (c .before .label-of .ensures) (c .advance .ensures)),
+      set-more (view f) (now (a .word)) (l .set) (l .n) (l .inv .1) next (omega arith) (subst (λ x. Advanced (view f) x (l .set) next) (c .before .wide .ensures) (c .advance .ensures)),
     )
 
 some-may-end-requires : tie.Need-some-may-end-requires Inv-loop μ-loop
@@ -84,8 +84,8 @@ accepts-spec =
     no-letter-requires
     loop-holds
     slice-aggregate-advance
-    shared-slice-read-label-of
-    label-of-requires
+    shared-slice-read-wide
+    wide-requires
     advance-requires
     add-n
     loop-less

@@ -50,7 +50,7 @@ loop-again c =
     let new = c .candidate in (
       omega arith,
       omega arith,
-      candidates-more (now (a .form)) (now (a .costs)) (a .at) (now (a .work)) (a .next) (l .c) (l .j) (new .result) (omega arith) (l .inv .2) (new .ensures),
+      candidates-more (now (a .form)) (now (a .costs)) (a .at) (now (a .work)) (a .next) (l .c) (l .j) (new .result) (l .inv .0) (omega arith) (l .inv .2) (new .ensures),
     )
 
 returns : tie.Need-returns Inv-loop μ-loop

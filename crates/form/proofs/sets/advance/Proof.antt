@@ -13,10 +13,10 @@ use Rattle.form.proofs.sets.advance.Statement.{statement}
 use Rattle.form.proofs.sets.advance.Tie as tie
 
 abbrev Inv-loop : tie.InvT-loop
-Inv-loop form starts x set l next₀ i₀ next i = (l ≡ lettersOf form) × (i ≤ l + 1) × Marks (Turns (Left form x set) 0 i) (replicate 128 false) next
+Inv-loop form begins x set l next₀ i₀ next i = (l ≡ lettersOf form) × (i ≤ l + 1) × Marks (Turns (Left form x set) 0 i) (replicate 128 false) next
 
 abbrev μ-loop : tie.MeasureT-loop
-μ-loop form starts x set l next₀ i₀ next i = l + 1 - i
+μ-loop form begins x set l next₀ i₀ next i = l + 1 - i
 
 letters-requires : tie.Need-letters-requires Inv-loop μ-loop
 letters-requires c κs = let long = c .before .before .pre .0 .long in omega arith
