@@ -64,14 +64,14 @@ coming-pieces h v (b ∷ s) = by (eqb b 32) (coming-pieces h 0 s) (coming-pieces
     by false f g o = g ∙ rw (o .is)
 
 -- all numbers are to come where the field begins
-pub coming-all : (h : Bool) (s : List ℕ) → 0 < length s → numbersOf h s ≡ coming h 0 s
+coming-all : (h : Bool) (s : List ℕ) → 0 < length s → numbersOf h s ≡ coming h 0 s
 unfolding numbersOf
 coming-all h [] l = absurd (omega arith)
 coming-all h (b ∷ s) l = sym (coming-pieces h 0 (b ∷ s) ∙ behind-none h (pieces 32 (b ∷ s)))
 
 module _ {A : Type 0} where
   -- a list of two parts, cut to the room there is
-  pub take-both : (k : ℕ) (a t : List A) → take k (a ++ t) ≡ take k a ++ take (k - length (take k a)) t
+  take-both : (k : ℕ) (a t : List A) → take k (a ++ t) ≡ take k a ++ take (k - length (take k a)) t
   take-both zero [] t = refl
   take-both (suc k) [] t = let z : suc k ≡ suc k - 0 = omega arith in ap (λ n. take n t) z
   take-both zero (x ∷ a) t = refl

@@ -1,4 +1,4 @@
-//! Random sheets, sound, spoilt and with damaged bytes, against the model.
+//! Random sheets: sound, spoilt and with damaged bytes against the model, and as they are written against the call Read.
 use crate::process::answer;
 use kavurehy::Matrix;
 use model::input::sheets::edit;
