@@ -49,6 +49,16 @@ pub struct TextReading {
     pub form: usize,
 }
 
+impl TextReading {
+    fn of([price, length, form]: [u32; 3]) -> TextReading {
+        TextReading {
+            price,
+            length: length as usize,
+            form: form as usize,
+        }
+    }
+}
+
 /// The length of the longest form: the head, 127 letters and an arc from each to each.
 pub const FORM_WORDS: usize = 1 + 127 + 127 * 127;
 
@@ -243,13 +253,7 @@ pub fn read(
             &mut counts,
         )
     };
-    Refusal::check(number)?;
-    let [price, length, form] = counts;
-    Ok(TextReading {
-        price,
-        length: length as usize,
-        form: form as usize,
-    })
+    Refusal::check(number).map(|()| TextReading::of(counts))
 }
 
 /// Writes one cost for each confidence.

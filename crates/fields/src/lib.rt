@@ -1,38 +1,21 @@
 // The fields of a line of text, which have tabs between them, and the numbers in a field, for the program that runs vectors.
-ghost use Prim.Native.Nat.{_≤_};
-ghost use lib.ListN.{length};
-
-// Where the next such byte stands from `at` on, or the end.
-pub fn next(input: &[u8], at: usize, b: u8) -> usize
-    requires { ⌜ at ≤ length (now input) ⌝ }
-    ensures { λ r. ⌜ (at ≤ r) × (r ≤ length (now (input .entry))) ⌝ }
-{
-    let mut i = at;
-    while i < input.len() {
-        if input[i] == b {
-            return i;
-        }
-        i += 1;
-    }
-    i
-}
-
-// The byte that a line begins with.
-pub fn first(line: &[u8]) -> u8 {
-    if line.len() == 0 {
-        return 0;
-    }
-    line[0]
-}
+ghost use mathlib.Core.Path.{_≡_};
+ghost use mathlib.Core.Bool.{false};
+ghost use mathlib.Core.List.{map};
+ghost use Prim.Native.Nat.{_-_, _≤_, min};
+ghost use lib.ListN.{length, take, drop};
+ghost use Rattle.lists.specs.Written.{Stored, Wrote};
+ghost use Rattle.fields.specs.Fields.{fieldOf, numbersOf, sizeOf, low, labelsOf};
+ghost use Rattle.fields.specs.Numbers.{ended, onward};
 
 // Where field k begins: behind the k-th tab, or at the end.
 fn start(line: &[u8], k: usize) -> usize
-    ensures { λ r. ⌜ r ≤ length (now (line .entry)) ⌝ }
+    ensures { λ r. ⌜ (r ≤ length (now (line .entry))) × (fieldOf (drop r (now (line .entry))) 0 ≡ fieldOf (now (line .entry)) k) ⌝ }
 {
     let mut at = 0;
     let mut i = 0;
     while i < k {
-        at = next(line, at, 9);
+        at = characters::find(line, at, b'\t');
         if at == line.len() {
             return at;
         }
@@ -43,22 +26,28 @@ fn start(line: &[u8], k: usize) -> usize
 }
 
 // Field k of a line.
-pub fn field(line: &[u8], k: usize) -> &[u8] {
+pub fn field(line: &[u8], k: usize) -> &[u8]
+    ensures { λ r. ⌜ now r ≡ fieldOf (now (line .entry)) k ⌝ }
+{
     let a = start(line, k);
-    let e = next(line, a, 9);
+    let e = characters::find(line, a, b'\t');
     &line[a..e]
 }
 
 // A number as a size.
-fn wide(x: u32) -> usize {
+fn wide(x: u32) -> usize
+    ensures { λ r. ⌜ r ≡ x ⌝ }
+{
     x as usize
 }
 
 // The number with one more digit; none behind a space.
-fn longer(v: u32, hexadecimal: bool, b: u8) -> u32 {
+fn longer(v: u32, hexadecimal: bool, b: u8) -> u32
+    ensures { λ r. ⌜ r ≡ onward hexadecimal v b ⌝ }
+{
     let w = v % 268435456;
     let d = (b % 16) as u32;
-    if b == 32 {
+    if b == b' ' {
         return 0;
     }
     if !hexadecimal {
@@ -73,9 +62,10 @@ fn longer(v: u32, hexadecimal: bool, b: u8) -> u32 {
 // The list with one number more, if the number ends here and there is room.
 fn push(list: &mut [u32], n: usize, v: u32, b: u8) -> usize
     requires { ⌜ n ≤ length (now list) ⌝ }
+    ensures { λ r. ⌜ Stored (take (length (now (list .entry)) - n) (ended b v)) n (now (list .entry)) (now (list .exit)) r ⌝ }
     ensures { λ r. ⌜ r ≤ length (now (list .exit)) ⌝ }
 {
-    if b != 32 {
+    if b != b' ' {
         return n;
     }
     if n == list.len() {
@@ -85,10 +75,14 @@ fn push(list: &mut [u32], n: usize, v: u32, b: u8) -> usize
     n + 1
 }
 
-// The numbers of a field go into `list`; how many there are.
+// The numbers of a field go into `list`, as many as it has room for; how many there are.
 pub fn numbers(field: &[u8], hexadecimal: bool, list: &mut [u32]) -> usize
+    ensures { λ r. ⌜ Wrote (take (length (now (list .entry))) (numbersOf hexadecimal (now (field .entry)))) (now (list .entry)) (now (list .exit)) r ⌝ }
     ensures { λ r. ⌜ r ≤ length (now (list .exit)) ⌝ }
 {
+    if field.len() == 0 {
+        return 0;
+    }
     let mut i = 0;
     let mut n = 0;
     let mut v = 0;
@@ -97,15 +91,14 @@ pub fn numbers(field: &[u8], hexadecimal: bool, list: &mut [u32]) -> usize
         v = longer(v, hexadecimal, field[i]);
         i += 1;
     }
-    if i == 0 {
-        return 0;
-    }
-    push(list, n, v, 32)
+    push(list, n, v, b' ')
 }
 
 // One number; a field that begins with `-` is the largest there is.
-pub fn size(field: &[u8]) -> usize {
-    if first(field) == 45 {
+pub fn size(field: &[u8]) -> usize
+    ensures { λ r. ⌜ r ≡ sizeOf (now (field .entry)) ⌝ }
+{
+    if characters::peek(field, 0) == b'-' {
         return 18446744073709551615;
     }
     let mut list = [0u32; 1];
@@ -115,7 +108,7 @@ pub fn size(field: &[u8]) -> usize {
 
 // So many places of memory, at most `most`.
 pub fn room(field: &[u8], most: usize) -> usize
-    ensures { λ r. ⌜ r ≤ most ⌝ }
+    ensures { λ r. ⌜ (r ≡ min (sizeOf (now (field .entry))) most) × (r ≤ most) ⌝ }
 {
     let n = size(field);
     if n < most {
@@ -127,6 +120,7 @@ pub fn room(field: &[u8], most: usize) -> usize
 // The first n numbers as bytes; how many found room.
 fn narrow(list: &[u32], n: usize, bytes: &mut [u8]) -> usize
     requires { ⌜ n ≤ length (now list) ⌝ }
+    ensures { λ r. ⌜ Wrote (take (length (now (bytes .entry))) (map low (take n (now (list .entry))))) (now (bytes .entry)) (now (bytes .exit)) r ⌝ }
     ensures { λ r. ⌜ r ≤ length (now (bytes .exit)) ⌝ }
 {
     let mut i = 0;
@@ -142,6 +136,7 @@ fn narrow(list: &[u32], n: usize, bytes: &mut [u8]) -> usize
 
 // The numbers of a field as bytes, at most 256; how many there are.
 pub fn labels(field: &[u8], bytes: &mut [u8]) -> usize
+    ensures { λ r. ⌜ Wrote (take (length (now (bytes .entry))) (labelsOf (now (field .entry)))) (now (bytes .entry)) (now (bytes .exit)) r ⌝ }
     ensures { λ r. ⌜ r ≤ length (now (bytes .exit)) ⌝ }
 {
     let mut list = [0u32; 256];

@@ -49,9 +49,9 @@ pub fn judge(line: &[u8], form: &[u32]) {
 // A sign for the answer.
 fn sign(answer: Judged) -> u8 {
     match answer {
-        Judged::Accepted => 43,
-        Judged::Rejected => 45,
-        Judged::Refused(_) => 120,
+        Judged::Accepted => b'+',
+        Judged::Rejected => b'-',
+        Judged::Refused(_) => b'x',
     }
 }
 

@@ -1,6 +1,6 @@
 // Runs the calls on the lines of standard input: document 01's examples, edges, damaged forms, each refusal. A line has a letter for
-// what is to be done and its fields, each behind a tab; lists are numbers with a space between. Lent memory is filled with 9 beforehand
-// and printed afterwards.
+// what is to be done and its fields, each behind a tab; lists are numbers with a space between. Path, word, work and cost memory, and
+// the ten words of E, are filled with 9 beforehand and printed afterwards.
 //
 //   C K PATH ROOM           Collapse                       S K WORD ROOM   Spread
 //   P CONFIDENCES ROOM      the costs of confidences
@@ -18,29 +18,29 @@ use libc::STDIN_FILENO;
 
 // Runs a call.
 fn run(call: u8, line: &[u8], form: &mut [u32]) {
-    if call == 67 || call == 83 {
-        calls::labels(line, call == 67);
-    } else if call == 80 {
+    if call == b'C' || call == b'S' {
+        calls::labels(line, call == b'C');
+    } else if call == b'P' {
         calls::costs(line);
-    } else if call == 74 {
+    } else if call == b'J' {
         forms::judge(line, form);
-    } else if call == 84 {
+    } else if call == b'T' {
         forms::turn(line, form);
-    } else if call == 68 || call == 82 {
-        matrices::run(line, call == 82, form);
+    } else if call == b'D' || call == b'R' {
+        matrices::run(line, call == b'R', form);
     }
 }
 
 // Does what the line says; how many words the form has for the lines behind it.
 fn one(line: &[u8], form: &mut [u32], words: usize) -> usize {
-    let call = fields::first(line);
-    if call == 69 {
+    let call = characters::peek(line, 0);
+    if call == b'E' {
         return forms::compile(fields::field(line, 1), fields::field(line, 2), form);
     }
-    if call == 70 {
+    if call == b'F' {
         return fields::numbers(fields::field(line, 1), true, form);
     }
-    if call == 78 {
+    if call == b'N' {
         return fields::size(fields::field(line, 1));
     }
     if words <= form.len() {
@@ -53,7 +53,7 @@ fn all(input: &[u8], form: &mut [u32]) {
     let mut at = 0;
     let mut words = 0;
     while at < input.len() {
-        let end = fields::next(input, at, 10);
+        let end = characters::find(input, at, b'\n');
         words = one(&input[at..end], form, words);
         if end == input.len() {
             return;

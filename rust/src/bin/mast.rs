@@ -37,7 +37,7 @@ fn like(c: char) -> Option<char> {
     pair.chars().find(|&d| d != c)
 }
 
-/// One column's confidences: `top` in one label, `second` in another, little in the others.
+/// One column's confidences: `high` in the label `top`, `second` in another label, little in the others.
 fn column(random: &mut Random, (top, high): (usize, u8), second: Option<(usize, u8)>) -> Vec<u8> {
     let mut confidences: Vec<u8> = (0..=ALPHABET.len()).map(|_| random.within(0, 3)).collect();
     confidences[top] = high;

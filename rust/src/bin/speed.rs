@@ -2,6 +2,10 @@
 //! lines; one form with about 400 arcs and one with 3,600. Both get cleared work memory and must find the same path.
 //!
 //!     cargo run --release --offline --bin speed
+#[path = "../../model/src/input/generator.rs"]
+mod generator;
+
+use generator::Random;
 use kavurehy::{work_words, Matrix};
 use std::time::{Duration, Instant};
 
@@ -27,79 +31,101 @@ fn measure(arcs: usize) {
     let form = form(&mut random, arcs);
     let lines: Vec<Vec<u32>> = (0..LINES).map(|_| costs(&mut random)).collect();
     let mut work = vec![0; work_words(COLUMNS, LETTERS)];
-    let (mut least_plain, mut least_decode) = (Duration::MAX, Duration::MAX);
+    let mut least = [Duration::MAX; 2];
     for _ in 0..ROUNDS {
-        let (mut by_plain, mut by_decode) = (Duration::ZERO, Duration::ZERO);
-        for costs in &lines {
-            let (mut path, mut word) = ([0; COLUMNS], [0; COLUMNS]);
-            work.fill(0);
-            let start = Instant::now();
-            let price = plain(&form, costs, &mut work, &mut path);
-            by_plain += start.elapsed();
-
-            let expected = path;
-            path.fill(0);
-            work.fill(0);
-            let matrix = Matrix {
-                costs,
-                width: WIDTH,
-                columns: COLUMNS,
-            };
-            let start = Instant::now();
-            let reading = kavurehy::decode(&form, matrix, &mut path, &mut word, &mut work);
-            by_decode += start.elapsed();
-            assert_eq!(reading.map(|r| r.price).ok(), price);
-            assert_eq!(path, expected);
-        }
-        least_plain = least_plain.min(by_plain);
-        least_decode = least_decode.min(by_decode);
+        let times = round(&form, &lines, &mut work);
+        least = [least[0].min(times[0]), least[1].min(times[1])];
     }
-    let ratio = least_decode.as_secs_f64() / least_plain.as_secs_f64();
+    let [by_plain, by_decode] = least.map(|time| time.as_secs_f64());
     println!(
-        "{} arcs, {LINES} lines: plain loop {:.1} ms, Decode {:.1} ms, ratio {ratio:.2}",
+        "{} arcs, {LINES} lines: plain loop {:.1} ms, Decode {:.1} ms, ratio {:.2}",
         form.len() - 1 - LETTERS,
-        least_plain.as_secs_f64() * 1e3,
-        least_decode.as_secs_f64() * 1e3,
+        by_plain * 1e3,
+        by_decode * 1e3,
+        by_decode / by_plain,
     );
+}
+
+/// Each line by the plain loop and by Decode, which must agree: the time of all lines by the one and by the other.
+fn round(form: &[u32], lines: &[Vec<u32>], work: &mut [u32]) -> [Duration; 2] {
+    let [mut by_plain, mut by_decode] = [Duration::ZERO; 2];
+    for costs in lines {
+        let [mut path, mut expected, mut word] = [[0; COLUMNS]; 3];
+        work.fill(0);
+        let start = Instant::now();
+        let price = plain(form, costs, work, &mut expected);
+        by_plain += start.elapsed();
+
+        work.fill(0);
+        let matrix = Matrix {
+            costs,
+            width: WIDTH,
+            columns: COLUMNS,
+        };
+        let start = Instant::now();
+        let reading = kavurehy::decode(form, matrix, &mut path, &mut word, work);
+        by_decode += start.elapsed();
+        assert_eq!(reading.map(|r| r.price).ok(), price);
+        assert_eq!(path, expected);
+    }
+    [by_plain, by_decode]
 }
 
 /// The plain loop: a table of costs to go, each state of each column by all its steps, and the cheapest path traced forward,
 /// the lowest label first, through all equally cheap states. It takes the form and the matrix as they are, unchecked.
 fn plain(form: &[u32], costs: &[u32], work: &mut [u32], path: &mut [u8]) -> Option<u32> {
     let starts = starts(form);
-    let last = &mut work[COLUMNS * STATES..];
-    for (s, cost) in last.iter_mut().enumerate() {
+    last_row(form, &mut work[COLUMNS * STATES..]);
+    table(form, &starts, costs, work);
+    let price = work[0];
+    if price >= NONE {
+        return None;
+    }
+    trace(form, &starts, costs, work, path);
+    Some(price)
+}
+
+/// The row behind the last column: a state at which a word may end costs nothing.
+#[inline(always)]
+fn last_row(form: &[u32], row: &mut [u32]) {
+    for (s, cost) in row.iter_mut().enumerate() {
         let ends = match s.div_ceil(2) {
             0 => form[0] & 0x100 != 0,
             i => form[i] & 0x200 != 0,
         };
         *cost = if ends { 0 } else { NONE };
     }
+}
+
+/// The rows of the columns, each by the row behind it.
+#[inline(always)]
+fn table(form: &[u32], starts: &[usize], costs: &[u32], work: &mut [u32]) {
     for t in (0..COLUMNS).rev() {
         let column = &costs[t * WIDTH..(t + 1) * WIDTH];
         let (here, next) = work[t * STATES..(t + 2) * STATES].split_at_mut(STATES);
         for (s, cost) in here.iter_mut().enumerate() {
             let mut least = NONE;
-            steps(form, &starts, s, |label, to| {
+            steps(form, starts, s, |label, to| {
                 least = least.min(column[label] + next[to]);
             });
             *cost = least;
         }
     }
-    let price = work[0];
-    if price >= NONE {
-        return None;
-    }
+}
+
+/// The path, traced through the table.
+#[inline(always)]
+fn trace(form: &[u32], starts: &[usize], costs: &[u32], work: &[u32], path: &mut [u8]) {
     let mut set = [false; STATES];
     set[0] = true;
-    let mut left = price;
-    for t in 0..COLUMNS {
+    let mut left = work[0];
+    for (t, at) in path.iter_mut().enumerate() {
         let column = &costs[t * WIDTH..(t + 1) * WIDTH];
         let next = &work[(t + 1) * STATES..(t + 2) * STATES];
         let mut label = WIDTH;
         let mut reached = [false; STATES];
         for s in (0..STATES).filter(|&s| set[s]) {
-            steps(form, &starts, s, |x, to| {
+            steps(form, starts, s, |x, to| {
                 if x <= label && column[x] + next[to] == left {
                     if x < label {
                         label = x;
@@ -109,11 +135,10 @@ fn plain(form: &[u32], costs: &[u32], work: &mut [u32], path: &mut [u8]) -> Opti
                 }
             });
         }
-        path[t] = label as u8;
+        *at = label as u8;
         left -= column[label];
         set = reached;
     }
-    Some(price)
 }
 
 /// Where each letter's arcs begin among the form's words.
@@ -190,16 +215,4 @@ fn costs(random: &mut Random) -> Vec<u32> {
         }
     }
     costs
-}
-
-/// The generator SplitMix64.
-struct Random(u64);
-
-impl Random {
-    fn below(&mut self, n: usize) -> usize {
-        self.0 = self.0.wrapping_add(0x9e3779b97f4a7c15);
-        let z = (self.0 ^ self.0 >> 30).wrapping_mul(0xbf58476d1ce4e5b9);
-        let z = (z ^ z >> 27).wrapping_mul(0x94d049bb133111eb);
-        ((z ^ z >> 31) % n as u64) as usize
-    }
 }

@@ -46,7 +46,10 @@ impl Call {
     /// Spoils one thing: rows 11 to 15.
     fn spoil(&mut self, r: &mut Random) {
         match r.below(9) {
-            0 => self.form = damaged(r, 11),
+            0 => {
+                let kind = r.below(KINDS);
+                self.form = damaged(r, kind);
+            }
             1 => self.form = flipped(r),
             _ => self.line.spoil(r),
         }

@@ -9,7 +9,7 @@ fn folder() -> PathBuf {
     Path::new(env!("CARGO_MANIFEST_DIR")).join("../examples/mast")
 }
 
-/// A line of 20 levels: the sheet of a level and a face.
+/// The sheet of a level and a face.
 fn sheet_at(folder: &Path, level: u32, face: &str) -> Vec<u8> {
     let path = folder.join(format!("{level:02}-{face}.sheet"));
     fs::read(&path).unwrap_or_else(|error| panic!("{}: {error}", path.display()))

@@ -1,26 +1,35 @@
--- `fields::narrow` stays within its lists and ends. Assumes nothing.
-use mathlib.Core.Path.{_≡_}
-use Prim.Native.Nat.{_≤_, _-_}
+-- `fields::narrow` meets its contract: as many numbers as the loop has passed are written as bytes. Assumes nothing.
+use Prim.Native.Nat.{_-_, _≤_}
 use native.Mathlib.Omega.{arith}
+use denote.Ref.{now}
 use lib.ListN.{length, length-set}
 use borrow.Author.Needs.{needs}
+use Rattle.fields.specs.Narrow.{Narrowed, narrowed-none, narrowed-length, narrowed-more, narrowed-all}
 use Rattle.fields.proofs.narrow.Statement.{statement}
 use Rattle.fields.proofs.narrow.Tie as tie
 
 abbrev Inv-loop : tie.InvT-loop
-Inv-loop list n bytes₀ i₀ bytes i = (i ≤ n) × (i ≤ length bytes) × (length bytes ≡ length bytes₀)
+Inv-loop list n bytes₀ i₀ bytes i = (i ≤ n) × (i ≤ length bytes) × Narrowed list n bytes₀ bytes i
 
 abbrev μ-loop : tie.MeasureT-loop
 μ-loop list n bytes₀ i₀ bytes i = n - i
 
 loop-holds : tie.Need-loop-holds Inv-loop μ-loop
-loop-holds c = search needs
+loop-holds c = let s = c .args in (omega arith, omega arith, narrowed-none (now (s .list)) (s .n) (now (s .bytes)) (c .pre))
 
 same-length : tie.Need-same-length Inv-loop μ-loop
-same-length c = search needs
+same-length c =
+    let s = c .before .before .before in
+    let l = c .before .before .loop in
+    narrowed-length (now (s .args .list)) (s .args .n) (now (s .args .bytes)) (s .pre) (l .bytes) (l .i) (l .inv .2)
 
 returns : tie.Need-returns Inv-loop μ-loop
-returns c = search needs
+returns c =
+    let s = c .before .before .before in
+    let l = c .before .before .loop in
+    let size = same-length c in
+    let full = c .if1 .taken in
+    (narrowed-all (now (s .args .list)) (s .args .n) (now (s .args .bytes)) (s .pre) (l .bytes) (l .i) (omega arith) (l .inv .2), l .inv .1)
 
 mul-bytes : tie.Need-mul-bytes Inv-loop μ-loop
 mul-bytes c = search needs
@@ -41,13 +50,29 @@ loop-less : tie.Need-loop-less Inv-loop μ-loop
 loop-less c = search needs
 
 loop-again : tie.Need-loop-again Inv-loop μ-loop
-loop-again c = simp length-set (omega arith)
+loop-again c =
+    let s = c .before .before .before .before in
+    let l = c .before .before .before .loop in
+    let a = s .args in
+    let size = narrowed-length (now (a .list)) (a .n) (now (a .bytes)) (s .pre) (l .bytes) (l .i) (l .inv .2) in
+    let room = c .before .if1 .left in
+    let at = l .inv .1 in (
+      omega arith,
+      simp length-set (omega arith),
+      narrowed-more (now (a .list)) (a .n) (now (a .bytes)) (s .pre) (l .bytes) (l .i) (omega arith) (omega arith) (l .inv .2),
+    )
 
 same-length-2 : tie.Need-same-length-2 Inv-loop μ-loop
-same-length-2 c = search needs
+same-length-2 c =
+    let s = c .before .before in
+    let l = c .before .loop in
+    narrowed-length (now (s .args .list)) (s .args .n) (now (s .args .bytes)) (s .pre) (l .bytes) (l .i) (l .inv .2)
 
 returns-2 : tie.Need-returns-2 Inv-loop μ-loop
-returns-2 c = search needs
+returns-2 c =
+    let s = c .before .before in
+    let l = c .before .loop in
+    (narrowed-all (now (s .args .list)) (s .args .n) (now (s .args .bytes)) (s .pre) (l .bytes) (l .i) (omega arith) (l .inv .2), l .inv .1)
 
 pub narrow-spec : {M : Type 1} → statement M
 narrow-spec =

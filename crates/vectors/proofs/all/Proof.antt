@@ -1,8 +1,11 @@
 -- `vectors::all` stays within its list and ends. Assumes nothing.
 use mathlib.Core.Path.{_≡_}
 use Prim.Native.Nat.{_≤_, _-_}
+use native.Mathlib.Omega.{arith}
 use lib.ListN.{length}
+use denote.Ref.{now}
 use borrow.Author.Needs.{needs}
+use Rattle.fields.specs.Cut.{next-within}
 use Rattle.vectors.proofs.all.Statement.{statement}
 use Rattle.vectors.proofs.all.Tie as tie
 
@@ -15,8 +18,8 @@ abbrev μ-loop : tie.MeasureT-loop
 loop-holds : tie.Need-loop-holds Inv-loop μ-loop
 loop-holds c = search needs
 
-next-requires : tie.Need-next-requires Inv-loop μ-loop
-next-requires c κs = search needs
+find-requires : tie.Need-find-requires Inv-loop μ-loop
+find-requires c κs = search needs
 
 sub-one : tie.Need-sub-one Inv-loop μ-loop
 sub-one c = search needs
@@ -24,8 +27,16 @@ sub-one c = search needs
 part-one-start : tie.Need-part-one-start Inv-loop μ-loop
 part-one-start c = search needs
 
+-- the line ends within the input
+within : (c : tie.After-find Inv-loop μ-loop) → c .find .result ≤ length (now (c .before .before .before .before .before .args .input))
+within c =
+    let l = c .before .before .loop in
+    let w = next-within 10 (now (c .before .before .before .before .before .args .input)) (l .at) (l .inv .0) in
+    let e = c .find .ensures in
+    omega arith
+
 part-one-end : tie.Need-part-one-end Inv-loop μ-loop
-part-one-end c = search needs
+part-one-end c = within c
 
 one-requires : tie.Need-one-requires Inv-loop μ-loop
 one-requires c κs = search needs
@@ -37,13 +48,13 @@ returns : tie.Need-returns Inv-loop μ-loop
 returns c = search needs
 
 add-at : tie.Need-add-at Inv-loop μ-loop
-add-at c = search needs
+add-at c = let w = within (c .before .before .before .before .before .before) in search needs
 
 loop-less : tie.Need-loop-less Inv-loop μ-loop
 loop-less c = search needs
 
 loop-again : tie.Need-loop-again Inv-loop μ-loop
-loop-again c = search needs
+loop-again c = let w = within (c .before .before .before .before .before .before) in search needs
 
 same-length-2 : tie.Need-same-length-2 Inv-loop μ-loop
 same-length-2 c = search needs
@@ -58,7 +69,7 @@ all-spec =
     Inv-loop
     μ-loop
     loop-holds
-    next-requires
+    find-requires
     sub-one
     part-one-start
     part-one-end

@@ -6,8 +6,8 @@ use borrow.Author.Needs.{needs}
 use Rattle.vectors.proofs.one.Statement.{statement}
 use Rattle.vectors.proofs.one.Tie as tie
 
-first-requires : tie.Need-first-requires
-first-requires c κs = search needs
+peek-requires : tie.Need-peek-requires
+peek-requires c κs = search needs
 
 field-requires : tie.Need-field-requires
 field-requires c κs = search needs
@@ -67,7 +67,7 @@ pub one-spec : {M : Type 1} → statement M
 one-spec =
     tie.close
     (tie.spec
-    first-requires
+    peek-requires
     field-requires
     field-requires-2
     compile-requires

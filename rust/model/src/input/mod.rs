@@ -1,11 +1,13 @@
 //! Random input, from a printed seed.
 
 pub mod calls;
+mod generator;
 pub mod matrix;
 pub mod sheets;
 pub mod texts;
 pub mod writer;
 
+pub use generator::Random;
 use std::io::Write;
 
 /// The seed: `KAVUREHY_SEED`, or always the same. It is printed past the test harness, which keeps the output of tests that
@@ -22,22 +24,7 @@ pub fn random(test: &str) -> Random {
     Random(of_test)
 }
 
-/// The generator SplitMix64.
-pub struct Random(u64);
-
 impl Random {
-    pub fn bits(&mut self) -> u64 {
-        self.0 = self.0.wrapping_add(0x9e3779b97f4a7c15);
-        let z = (self.0 ^ self.0 >> 30).wrapping_mul(0xbf58476d1ce4e5b9);
-        let z = (z ^ z >> 27).wrapping_mul(0x94d049bb133111eb);
-        z ^ z >> 31
-    }
-
-    /// A number below n.
-    pub fn below(&mut self, n: usize) -> usize {
-        (self.bits() % n as u64) as usize
-    }
-
     /// A number from low to high.
     pub fn from(&mut self, low: usize, high: usize) -> usize {
         low + self.below(high - low + 1)

@@ -1,0 +1,5 @@
+pub mod Fields
+pub mod Cut
+pub mod Numbers
+pub mod Narrow
+pub mod Examples
