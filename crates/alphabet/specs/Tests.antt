@@ -1,15 +1,15 @@
 -- Rows 1, 2 and 3, test by test. Assumes nothing.
 -- Used by the proofs; in compile.
 use Prim.Native.Nat.{ℕ, _<_, _≤_}
-use mathlib.Core.Path.{_≡_, refl, sym, ap, _∙_}
-use mathlib.Core.Bool.{Bool, true, false, not, _&&_, and-false}
+use mathlib.Core.Path.{_≡_, sym, ap, _∙_}
+use mathlib.Core.Bool.{true, false, not, _&&_, and-false}
 use mathlib.Core.List.{List, [], _∷_}
 use lib.ListN.{length}
 use lib.Dec.{leb}
-use borrow.Author.Tests.{le-leb, lt-leb, leb-true, not-false}
+use borrow.Author.Tests.{leb-true, not-false}
 use Rattle.lists.specs.Ranges.{in-range, range-below, range-above, range-inside}
 use Rattle.lists.specs.Each.{all}
-use Rattle.lists.specs.Order.{and-both, and-left, and-right}
+use Rattle.lists.specs.Order.{and-left, and-right}
 use Rattle.refusal.specs.declared.Refusal.the-variants.{Alphabet, TextLength, TextByte}
 use Rattle.refusal.specs.declared.Checked.the-variants.{Passed, Refused}
 use Rattle.refusal.specs.Verdict.{Check, check, first-refusal, first-holds, first-fails, first-passed}

@@ -1,9 +1,9 @@
 -- An automaton by its parts, its walks, and the words that it accepts (document 01, "Opening and the compiled form").
 -- Letters are numbered from 1; 0 stands for 'no letter yet'. Assumes nothing.
 -- Used by 5 files of specs/; in 13 other crates.
-use Prim.Native.Nat.{ℕ, _≤_, _<_}
-use mathlib.Core.Path.{_≡_, refl}
-use mathlib.Core.Bool.{Bool, true, false}
+use Prim.Native.Nat.{ℕ, _≤_}
+use mathlib.Core.Path.{_≡_}
+use mathlib.Core.Bool.{Bool, true}
 use mathlib.Core.List.{List, [], _∷_, map}
 
 -- how many letters; the label of a letter; whether a letter may stand behind another, behind 0 if it may be first; whether a word may

@@ -6,8 +6,8 @@ use mathlib.Core.Path.{_≡_}
 use mathlib.Core.Bool.{Bool, true, false}
 use mathlib.Core.Logic.{_⊎_, inl, inr}
 use native.Mathlib.Omega.{arith}
-use lib.Dec.{leb, ltb, eqb}
-use borrow.Author.Tests.{leb-true, eqb-true, le-leb, lt-ltb, eq-eqb, le-ltb, ne-eqb}
+use lib.Dec.{ltb, eqb}
+use borrow.Author.Tests.{eqb-true, lt-ltb, eq-eqb, le-ltb, ne-eqb}
 use Rattle.lists.specs.Ranges.{in-range, range-inside, range-true}
 use Rattle.lists.specs.Order.{and-left, and-right, and-both, and-three, and-all-three, lt-or-le, eq-or-ne}
 use Rattle.automaton.specs.Form.{bit, headWord, letterWord, arcWord, byte0, byte2, bit8, bit9, source, target, isHead, isLetter, isArc}

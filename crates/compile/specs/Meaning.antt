@@ -28,7 +28,7 @@ use Rattle.expression.specs.Exact.{exact, words-of-text, expression-whole}
 use Rattle.expression.specs.Sense.{sensible}
 use Rattle.positions.specs.Compiled.{formOf, form-valid, form-alphabet, form-letters, form-words}
 use Rattle.alphabet.specs.Alphabet.{distinct, is-alphabet, text-checks}
-use Rattle.compile.specs.Call.{formed, read-form, compile-call}
+use Rattle.compile.specs.Call.{read-form, compile-call}
 
 -- the form f is that of the text s over the alphabet A: valid, with its K and L, and with the text's words
 pub record Means (A s f : List ℕ) : Type 0 where

@@ -10,7 +10,7 @@ use lib.Dec.{ltb}
 use borrow.Author.Tests.{lt-ltb, le-ltb}
 use Rattle.refusal.specs.declared.Refusal.{Refusal}
 use Rattle.refusal.specs.declared.Refusal.the-variants as row
-use Rattle.refusal.specs.Verdict.{Verdict, refused, passed, check, unless, unless-holds, unless-fails, if-passed, first-refusal, first-refused, first-all}
+use Rattle.refusal.specs.Verdict.{refused, check, unless, unless-holds, unless-fails, if-passed, first-refusal, first-refused, first-all}
 use Rattle.refusal.specs.declared.Checked.the-variants as checks
 use Rattle.expression.specs.Tree.{Tree}
 use Rattle.expression.specs.Text.{Reads, found, fault}
@@ -30,7 +30,7 @@ use Rattle.alphabet.specs.Alphabet.{text-checks}
 use Rattle.parts.specs.declared.Built.{Built}
 use Rattle.letters.specs.Found.{treeOf}
 use Rattle.build.specs.Whole.{treeOfText, Buildable, BuildsWhole, no-arc}
-use Rattle.compile.specs.Call.{formed, read-form, compile-call}
+use Rattle.compile.specs.Call.{read-form, compile-call}
 
 -- a text that reads, with few letters
 pub record Compilable (A s : List ℕ) : Type 0 where

@@ -1,17 +1,15 @@
 -- Collapse (document 01, "Alphabet, labels, paths"): first each run of equal neighbours becomes one, then the blanks go. Label 0 is
 -- the blank. Assumes nothing.
 -- Used by Spread; in 9 other crates.
-use Prim.Native.Nat.{ℕ, zero, suc, _+_, _<_, _≤_}
+use Prim.Native.Nat.{ℕ, suc, _<_, _≤_}
 use mathlib.Core.Path.{_≡_, refl, sym, ap, _∙_}
 use mathlib.Core.Bool.{Bool, true, false, _||_, or-true}
-use mathlib.Core.List.{List, [], _∷_, _++_}
-use mathlib.Core.Logic.{_⊎_, inl, inr, ⊎-elim}
+use mathlib.Core.List.{List, [], _∷_}
 use native.Mathlib.Omega.{arith}
-use lib.ListN.{length, length-append}
+use lib.ListN.{length}
 use lib.Dec.{eqb}
 use borrow.Author.Tests.{eqb-true, eqb-false, eq-eqb, ne-eqb}
-use Rattle.lists.specs.Order.{eq-or-ne}
-use Rattle.lists.specs.Each.{Each, each-append}
+use Rattle.lists.specs.Each.{Each}
 
 -- label x in front of p, or left out
 abbrev pub omitting : Bool → ℕ → List ℕ → List ℕ

@@ -1,18 +1,18 @@
 -- Spread (document 01, "Alphabet, labels, paths"): one blank between each two equal neighbours and nowhere else. It undoes collapse
 -- with the fewest labels. Assumes nothing.
 -- Used in kavurehy, reader and spread.
-use Prim.Native.Nat.{ℕ, zero, suc, _+_, _<_, _≤_}
+use Prim.Native.Nat.{ℕ, suc, _+_, _<_, _≤_}
 use mathlib.Core.Path.{_≡_, refl, sym, ap, _∙_}
-use mathlib.Core.Bool.{Bool, true, false, cond, _||_}
-use mathlib.Core.List.{List, [], _∷_, _++_}
-use mathlib.Core.Logic.{_⊎_, inl, inr, ⊎-elim}
+use mathlib.Core.Bool.{Bool, true, false, cond}
+use mathlib.Core.List.{List, [], _∷_}
+use mathlib.Core.Logic.{_⊎_, inl, inr}
 use native.Mathlib.Omega.{arith}
 use lib.ListN.{length}
 use lib.Dec.{eqb}
-use borrow.Author.Tests.{eqb-true, eqb-false, eq-eqb, ne-eqb}
+use borrow.Author.Tests.{eqb-false, ne-eqb}
 use Rattle.lists.specs.Order.{eq-or-ne}
 use Rattle.lists.specs.Each.{Each}
-use Rattle.ctc.specs.Collapse.{omitting, merge, collapse, after, after-same, after-blank, after-new, collapse-after, collapse-letters}
+use Rattle.ctc.specs.Collapse.{collapse, after, after-same, after-blank, after-new, collapse-after, collapse-letters}
 
 -- path p, with a blank in front where told
 abbrev pub parted : Bool → List ℕ → List ℕ

@@ -1,9 +1,8 @@
 -- The checks of Decode, in their order (document 01, "What is turned away", rows 11 to 15), and what each means where it does not hold.
 -- Assumes nothing.
 -- Used by the contracts, the proofs and Passing; in 7 other crates.
-use Prim.Native.Nat.{ℕ, _+_, _*_, _≤_}
-use mathlib.Core.Path.{_≡_}
-use mathlib.Core.Bool.{Bool, true, false, not, _||_}
+use Prim.Native.Nat.{ℕ, _+_, _*_}
+use mathlib.Core.Bool.{Bool, not, _||_}
 use mathlib.Core.List.{List, [], _∷_}
 use lib.ListN.{length}
 use lib.Dec.{leb, ltb, eqb}

@@ -1,19 +1,17 @@
 -- The checks one by one: which refusal is given, and what is known of an input that passes them all. Assumes nothing.
 -- Used by the proofs; in decode, decode_phases, kavurehy, read_text and read_word.
 use Prim.Native.Nat.{ℕ, _+_, _*_, _<_, _≤_}
-use mathlib.Core.Path.{_≡_, refl, sym, ap, _∙_}
-use mathlib.Core.Bool.{Bool, true, false, not, _||_}
+use mathlib.Core.Path.{_≡_, ap, _∙_}
+use mathlib.Core.Bool.{true, false, not, _||_}
 use mathlib.Core.List.{List, [], _∷_}
 use native.Mathlib.Nat.{mul-le-mul}
 use native.Mathlib.Omega.{arith}
 use lib.ListN.{length}
-use lib.Dec.{leb, ltb, eqb}
+use lib.Dec.{ltb, eqb}
 use borrow.Author.Tests.{lt-ltb, le-ltb, ltb-false, ne-eqb, eq-eqb, eqb-true, leb-true, not-false}
-use Rattle.lists.specs.Order.{or-neither, not-both}
+use Rattle.lists.specs.Order.{or-neither}
 use Rattle.lists.specs.Each.{all, all-each}
-use Rattle.refusal.specs.declared.Refusal.{Refusal}
 use Rattle.refusal.specs.declared.Refusal.the-variants.{Matrix as MatrixRow, Cost, OutputMemory, Work}
-use Rattle.refusal.specs.declared.Checked.{Checked}
 use Rattle.refusal.specs.declared.Checked.the-variants.{Passed, Refused}
 use Rattle.refusal.specs.Verdict.{Check, check, first-refusal, first-holds, first-fails, first-passed}
 use Rattle.reading.specs.Matrix.{Matrix, CostsPass, Usable}

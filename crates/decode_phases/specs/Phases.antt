@@ -14,7 +14,6 @@ use Rattle.ctc.specs.Collapse.{collapse}
 use Rattle.automaton.specs.Form.{view, lettersOf, alphabetOf}
 use Rattle.automaton.specs.Valid.{Valid, valid-proper}
 use Rattle.reading.specs.Matrix.{Matrix, price}
-use Rattle.reading.specs.Reading.{Outcome}
 use Rattle.trellis.specs.Impossible.{TOP}
 use Rattle.trellis.specs.CostToGo.{CostToGo}
 use Rattle.trellis.specs.Extended.{extended}

@@ -1,6 +1,6 @@
 -- The form of an automaton that is given by arrays, part by part as it is counted and written. Assumes nothing.
 -- Used by the contracts, the proofs and Whole; in build and compile.
-use Prim.Native.Nat.{ℕ, zero, suc, _+_, _-_, _≤_}
+use Prim.Native.Nat.{ℕ, zero, suc, _-_, _≤_}
 use mathlib.Core.Path.{_≡_, refl, sym, ap, ap₂, _∙_}
 use mathlib.Core.Bool.{Bool, false, _&&_}
 use mathlib.Core.List.{List, [], _∷_, _++_, map}

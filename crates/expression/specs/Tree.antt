@@ -1,6 +1,6 @@
 -- An expression as a tree, and its set of words over an alphabet (document 01, "Expression text"). Assumes nothing.
 -- Used by 17 files of specs/; in 10 other crates.
-use mathlib.Core.Path.{_≡_, refl}
+use mathlib.Core.Path.{_≡_}
 use mathlib.Core.Logic.{_⊎_}
 use mathlib.Core.List.{List, [], _∷_, _++_}
 use mathlib.Core.Bool.{Bool, true, false, not, _&&_, _||_}

@@ -12,8 +12,8 @@ use lib.Dec.{eqb, leb, ltb}
 use borrow.Author.Tests.{eq-eqb, ne-eqb, le-leb, lt-leb, lt-ltb, le-ltb}
 use Rattle.lists.specs.Order.{lt-or-le, eq-or-ne}
 use Rattle.expression.specs.Tree.{Count, between, onward}
-use Rattle.positions.specs.Opened.{Opened, letter, joining, alternation, optional, star, plus, empty, anyOf, copies, nested, repeated, labels, letters}
-use Rattle.positions.specs.Numbered.{Positions, single, joint, choice, perhaps, again, numbered}
+use Rattle.positions.specs.Opened.{Opened, joining, alternation, optional, star, plus, empty, anyOf, copies, nested, repeated, labels, letters}
+use Rattle.positions.specs.Numbered.{Positions, numbered}
 
 pub letters-joining : (r s : Opened) → letters (joining r s) ≡ letters r + letters s
 unfolding labels

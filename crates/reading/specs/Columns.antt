@@ -9,7 +9,7 @@ use native.Mathlib.Omega.{arith}
 use lib.ListN.{length}
 use Rattle.lists.specs.Order.{eq-or-ne}
 use Rattle.reading.specs.Matrix.{Matrix, cost, priceFrom, price, Usable, PathFrom}
-use Rattle.reading.specs.Reading.{Rival, Best, Outcome}
+use Rattle.reading.specs.Reading.{Rival, Outcome}
 
 -- N is M with the usable costs of one column raised, and no cost becomes usable or ceases to be so
 pub record Raised (column amount : ℕ) (M N : Matrix) : Type 0 where

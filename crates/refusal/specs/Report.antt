@@ -2,7 +2,7 @@
 -- fills one list promises. Assumes nothing.
 -- Used in 13 other crates.
 use Prim.Native.Nat.{ℕ}
-use mathlib.Core.Path.{_≡_, refl, sym, ap, _∙_}
+use mathlib.Core.Path.{_≡_, refl, sym, ap}
 use mathlib.Core.List.{List, []}
 use lib.ListN.{length}
 use Rattle.lists.specs.Written.{written, written-none, Wrote}

@@ -1,10 +1,9 @@
 -- One column of the trace through extended states: the states that a step from the set leads to, those of them that keep to the price,
 -- and the lowest label among these. Assumes nothing.
 -- Used in column, steps and trace.
-use Prim.Native.Nat.{ℕ, _+_, _*_, _-_, _/_, _%_, _≤_}
-use mathlib.Core.Path.{_≡_, refl, sym, ap, _∙_, subst}
-use mathlib.Core.Bool.{true, cond}
-use mathlib.Core.Logic.{_↔_, _⊎_, inl, inr, ⊎-elim}
+use Prim.Native.Nat.{ℕ, _+_, _*_, _/_, _%_, _≤_}
+use mathlib.Core.Path.{_≡_, sym, ap, _∙_, subst}
+use mathlib.Core.Bool.{cond}
 use native.Mathlib.Omega.{arith}
 use lib.Dec.{eqb}
 use borrow.Author.Tests.{eq-eqb, ne-eqb}
@@ -13,7 +12,7 @@ use Rattle.reading.specs.Matrix.{Matrix, cost}
 use Rattle.trellis.specs.Impossible.{plus}
 use Rattle.trellis.specs.CostToGo.{CostToGo}
 use Rattle.trellis.specs.Trace.{Shared, Tight, Chosen, some-tight}
-use Rattle.trellis.specs.Extended.{OnLetter, InBlanks, Step, stay, pass, arc, rest, leave, extended, step-within, step-label}
+use Rattle.trellis.specs.Extended.{OnLetter, InBlanks, Step, stay, pass, arc, rest, leave, extended, step-within}
 
 -- the label of each step into a state: the blank, or that of its letter
 unfoldable pub entering : Automaton → ℕ → ℕ

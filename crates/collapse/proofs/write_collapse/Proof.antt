@@ -1,7 +1,7 @@
 -- `collapse::write_collapse` meets its contract: what is written, and what the rest of the path adds behind the last label, make the
 -- whole. Assumes nothing.
 use Prim.Native.Nat.{_≤_, _+_, _-_}
-use mathlib.Core.Path.{_≡_, refl, sym, ap, subst}
+use mathlib.Core.Path.{subst}
 use native.Mathlib.Omega.{arith}
 use lib.ListN.{length, getD, drop}
 use denote.Ref.{now}

@@ -1,7 +1,6 @@
 -- `confidence::eighth_power` meets its contract: three squares. Assumes nothing.
-use Prim.Native.Nat.{_^_, _≤_}
+use Prim.Native.Nat.{_^_}
 use mathlib.Core.Path.{_≡_, _∙_}
-use native.Mathlib.Nat.{le-trans}
 use native.Mathlib.Omega.{arith}
 use borrow.Author.Needs.{needs}
 use Rattle.confidence.specs.Turns.{first-power, square-of, power-small}

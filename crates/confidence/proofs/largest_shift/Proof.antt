@@ -1,6 +1,6 @@
 -- `confidence::largest_shift` meets its contract: the search goes down from 64, and what is left of it decides. Assumes nothing.
 use Prim.Native.Nat.{_*_, _^_, _≤_}
-use mathlib.Core.Path.{_≡_, refl, sym, ap, _∙_}
+use mathlib.Core.Path.{_≡_, refl, sym, _∙_}
 use native.Mathlib.Omega.{arith}
 use Rattle.confidence.specs.Cost.{largest, within, shift}
 use Rattle.confidence.specs.Turns.{shift-found, shift-past, shift-one, limit-doubled, limit-small}

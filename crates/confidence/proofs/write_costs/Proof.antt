@@ -1,9 +1,8 @@
 -- `confidence::write_costs` meets its contract: what is written, and the costs of the rest, make the whole. Assumes nothing.
 use Prim.Native.Nat.{_≤_, _+_, _-_}
-use mathlib.Core.Path.{_≡_, refl, sym, ap, _∙_, subst}
 use mathlib.Core.List.{map}
 use native.Mathlib.Omega.{arith}
-use lib.ListN.{length, length-map, getD, drop, set}
+use lib.ListN.{length, length-map, getD, drop}
 use denote.Ref.{now}
 use borrow.Author.Needs.{needs}
 use Rattle.lists.specs.Written.{Filling, filling-none, filling-more, filling-length, filling-all}

@@ -1,6 +1,6 @@
 -- `decode::decode_parts` meets its contract: the first check that holds, or what is read past them. Assumes nothing.
-use mathlib.Core.Path.{_≡_, refl, sym, ap, ap₂, _∙_}
-use mathlib.Core.Bool.{true, false, not}
+use mathlib.Core.Path.{_≡_, sym, ap, ap₂, _∙_}
+use mathlib.Core.Bool.{true, not}
 use native.Mathlib.Omega.{arith}
 use borrow.Author.Needs.{needs}
 use borrow.Author.Tests.{not-true, not-false}
@@ -8,7 +8,7 @@ use denote.Ref.{now}
 use Rattle.refusal.specs.declared.Refusal.the-variants.{BadForm}
 use Rattle.refusal.specs.Verdict.{first-refusal, first-holds, first-fails}
 use Rattle.automaton.specs.Form.{validForm, alphabetOf, lettersOf}
-use Rattle.automaton.specs.Valid.{Valid, valid-at}
+use Rattle.automaton.specs.Valid.{valid-at}
 use Rattle.reading.specs.Matrix.{Matrix, matrix}
 use Rattle.decode_checks.specs.Checks.{matrix-checks, decode-checks}
 use Rattle.decode_checks.specs.Passing.{fits}

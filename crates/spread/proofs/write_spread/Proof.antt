@@ -1,7 +1,7 @@
 -- `spread::write_spread` meets its contract: what is written, and the spread of the rest behind the last letter, make the whole.
 -- Assumes nothing.
 use Prim.Native.Nat.{_≤_, _+_, _-_}
-use mathlib.Core.Path.{_≡_, refl, sym, ap, subst}
+use mathlib.Core.Path.{subst}
 use native.Mathlib.Omega.{arith}
 use lib.ListN.{length, getD, drop}
 use denote.Ref.{now}

@@ -8,7 +8,7 @@ use Rattle.expression.specs.Read.{m-branch}
 use Rattle.characters.specs.Place.{byte-is}
 use Rattle.build.specs.Made.{reading, branch-found}
 use Rattle.build.specs.BranchTurns.{branch-room, alternation-found, alternation-room, alternation-returns-branch, alternation-returns-choice}
-use Prim.Native.Nat.{ℕ, _-_}
+use Prim.Native.Nat.{ℕ}
 use Rattle.build.proofs.alternation.Reads as alternation
 use Rattle.build.proofs.+alternation+branch+group+piece.Lts-alternation as alternation-lts
 use Rattle.build.proofs.+alternation+branch+group+piece.Proof.Measure.{alternation-at, alternation-calls}

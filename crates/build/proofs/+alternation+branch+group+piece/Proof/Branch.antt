@@ -6,7 +6,7 @@ use borrow.Author.Needs.{needs}
 use Rattle.expression.specs.Read.{m-piece}
 use Rattle.build.specs.Made.{reading, piece-found}
 use Rattle.build.specs.BranchTurns.{first-copy, piece-room, next-found, next-room, branch-returns-piece, branch-returns-joint}
-use Prim.Native.Nat.{ℕ, _-_}
+use Prim.Native.Nat.{ℕ}
 use Rattle.build.proofs.branch.Reads as branch
 use Rattle.build.proofs.+alternation+branch+group+piece.Lts-branch as branch-lts
 use Rattle.build.proofs.+alternation+branch+group+piece.Proof.Measure.{branch-at, branch-calls}

@@ -6,7 +6,7 @@ use denote.Ref.{now}
 use borrow.Author.Needs.{needs}
 use Rattle.characters.specs.Place.{byte-is}
 use Rattle.build.specs.PieceTurns.{set-found, set-room, deep, content-found, content-within, content-room, group-returns-set, group-returns-content}
-use Prim.Native.Nat.{ℕ, _-_}
+use Prim.Native.Nat.{ℕ}
 use Rattle.build.proofs.group.Reads as group
 use Rattle.build.proofs.+alternation+branch+group+piece.Lts-group as group-lts
 use Rattle.build.proofs.+alternation+branch+group+piece.Proof.Measure.{group-at, group-calls}

@@ -6,7 +6,7 @@ use borrow.Author.Needs.{needs}
 use Rattle.lists.specs.Written.{stored-size}
 use Rattle.build.specs.Pieces.{group-found}
 use Rattle.build.specs.PieceTurns.{few-copies, group-room, count-found, more-left, left-room, piece-returns-last, piece-returns-more}
-use Prim.Native.Nat.{ℕ, _-_}
+use Prim.Native.Nat.{ℕ}
 use Rattle.build.proofs.piece.Reads as piece
 use Rattle.build.proofs.+alternation+branch+group+piece.Lts-piece as piece-lts
 use Rattle.build.proofs.+alternation+branch+group+piece.Proof.Measure.{piece-at, piece-calls}
