@@ -17,8 +17,9 @@ use Rattle.lists.specs.Order.{and-left, and-right, and-both}
 use Rattle.lists.specs.Written.{Stored, stored-then}
 use Rattle.sheet_text.specs.Sheet.{both}
 use Rattle.sheet_text.specs.Rows.{rows, rows-end, rows-some, beside, put}
-use Rattle.digits.specs.Digits.{ReadCost}
+use Rattle.digits.specs.Digits.{ReadCost, cost-begins}
 use Rattle.digits.specs.declared.Cost.the-variants as cost
+use Rattle.columns.specs.Rests.{cost-rows, no-column}
 use Rattle.columns.specs.declared.Column.{Column}
 use Rattle.columns.specs.declared.Column.the-variants as column
 use Rattle.columns.specs.declared.Columns.{Columns}
@@ -77,19 +78,22 @@ put-some v b o c cs = by (eqb b 10) o
 
 module _ (input : List ℕ) (at m : ℕ) (before : List ℕ) where
   pub column-bad : (after : List ℕ) → ReadCost input at cost.Not → StoredColumn input at m before after column.Bad
-  column-bad after n c cs e = absurd (n c cs e)
+  column-bad after n c cs e = absurd (no-column input at n c cs e)
 
   module _ (v e : ℕ) (h : ReadCost input at (cost.Is v e)) where
+    begins : rows (drop at input) ≡ put (some v) (getD input e 0) (rows (drop (e + 1) input))
+    begins = cost-rows input at v e h
+
     pub column-full : (after : List ℕ) → m ≡ 16384 → StoredColumn input at m before after column.Bad
-    column-full after l c cs q = let n = put-some v (getD input e 0) (rows (drop (e + 1) input)) c cs (sym (h .2) ∙ q) in omega arith
+    column-full after l c cs q = let n = put-some v (getD input e 0) (rows (drop (e + 1) input)) c cs (sym begins ∙ q) in omega arith
 
     pub column-last : m < 16384 → getD input e 0 ≡ 10 → StoredColumn input at m before (set before m v) (column.Ends (e + 1) (m + 1))
     column-last l b =
-        let s = h .0 in
-        let k = h .1 in
+        let s = cost-begins input at e v h in
+        let k = h .within in
         record {
           costs = v ∷ [];
-          is = h .2 ∙ put-newline v (getD input e 0) (rows (drop (e + 1) input)) b;
+          is = begins ∙ put-newline v (getD input e 0) (rows (drop (e + 1) input)) b;
           stored = record { next = refl; memory = refl };
           from = omega arith;
           within = omega arith;
@@ -101,14 +105,14 @@ module _ (input : List ℕ) (at m : ℕ) (before : List ℕ) where
         (after : List ℕ) (r : Column) → (getD input e 0 ≡ 10 → ⊥) → StoredColumn input (e + 1) (m + 1) (set before m v) after r
         → StoredColumn input at m before after r
     column-more after (column.Ends f g) b s =
-        let l = h .0 in
+        let l = cost-begins input at e v h in
         let k = s .from in
         let o = s .some-cost in
         let size = s .stored .next in
         record {
           costs = v ∷ s .costs;
           is =
-              h .2
+              begins
               ∙ put-space (some v) (getD input e 0) (rows (drop (e + 1) input)) b
               ∙ ap (beside (some v)) (s .is)
               ∙ beside-some v (s .costs) (rows (drop f input));
@@ -121,7 +125,7 @@ module _ (input : List ℕ) (at m : ℕ) (before : List ℕ) where
     column-more after column.Bad b s =
         λ c cs q.
         let o = rows (drop (e + 1) input) in
-        let k = beside-back v o c cs (sym (put-space (some v) (getD input e 0) o b) ∙ sym (h .2) ∙ q) in
+        let k = beside-back v o c cs (sym (put-space (some v) (getD input e 0) o b) ∙ sym begins ∙ q) in
         let l = s (k .0) cs (k .1) in
         let n = ap length (k .2) in
         omega arith

@@ -1,11 +1,11 @@
 -- The part of an input from one place up to another, and where a line ends. Assumes nothing.
--- Used by the contracts, the proofs and Digits; in scan.
+-- Used by the contracts, the proofs and Digits; in columns and scan.
 use mathlib.Core.Path.{_≡_, sym, ap, _∙_}
 use mathlib.Core.List.{List, [], _∷_, _++_}
 use Prim.Native.Nat.{ℕ, suc, _+_, _-_, _<_, _≤_}
 use native.Mathlib.Omega.{arith}
 use lib.ListN.{length, getD, take, drop, take-append-drop, length-drop}
-use lib.Seq.{take-suc, drop-drop, getD-drop, length-take-le}
+use lib.Seq.{take-suc, drop-drop, getD-take, getD-drop, length-take-le}
 use Rattle.lists.specs.Each.{each-append}
 use Rattle.sheet_text.specs.Rows.{Free}
 
@@ -33,6 +33,12 @@ module _ (input : List ℕ) (at i : ℕ) (from : at ≤ i) where
       ap (λ j. take j (drop at input)) k
       ∙ take-suc (drop at input) (i - at) 0 (omega arith)
       ∙ ap (λ b. part at i input ++ (b ∷ [])) (getD-drop at input (i - at) 0 ∙ ap (λ j. getD input j 0) back)
+
+-- a byte of the part
+pub part-at : (input : List ℕ) (at e i : ℕ) → at ≤ i → i < e → getD (part at e input) (i - at) 0 ≡ getD input i 0
+part-at input at e i f l =
+    let k : at + (i - at) ≡ i = omega arith in
+    getD-take (e - at) (drop at input) (i - at) 0 (omega arith) ∙ getD-drop at input (i - at) 0 ∙ ap (λ j. getD input j 0) k
 
 pub part-none : (input : List ℕ) (at : ℕ) → part at at input ≡ []
 part-none input at = let k : at - at ≡ 0 = omega arith in ap (λ j. take j (drop at input)) k
