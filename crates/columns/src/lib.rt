@@ -69,7 +69,7 @@ fn store_columns(input: &[u8], at: usize, costs: &mut [u32], width: usize) -> Co
     Columns::Count(n)
 }
 
-// Stores all column lines; where there is none the width is `other`.
+// Stores all column lines; where there is none the width is `other`. If they do not fit, the first 16,384 places of the memory hold anything.
 pub fn store_matrix(input: &[u8], at: usize, costs: &mut [u32], other: usize) -> Body
     requires { ⌜ (at ≤ length (now input)) × (16384 ≤ length (now costs)) ⌝ }
     ensures { λ r. ⌜ StoredMatrix other (now (input .entry)) at (now (costs .entry)) (now (costs .exit)) r ⌝ }

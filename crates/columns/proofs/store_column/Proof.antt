@@ -43,7 +43,7 @@ returns c =
     let l = c .before .before .before .loop in
     let input = now (c .before .before .before .before .before .before .args .input) in
     let not = subst (ReadCost input (l .i)) (c .enum-told .given .1) (c .before .before .read-cost .ensures) in
-    l .inv .3 (l .costs) Bad (column-bad input (l .i) (l .n) (l .costs) (l .costs) not)
+    l .inv .3 (l .costs) Bad (column-bad input (l .i) (l .n) (l .costs) not)
 
 -- the cost that was read
 cost :
@@ -63,7 +63,7 @@ returns-2 c =
     let input = now (c .before .before .before .before .before .before .before .before .args .input) in
     let v = c .before .before .v .given in
     l .inv .3 (l .costs) Bad
-    (column-full input (l .i) (l .n) (l .costs) (v .0 .0) (v .0 .1 .0) (cost (c .before .before)) (l .costs) (c .if1 .taken))
+    (column-full input (l .i) (l .n) (l .costs) (v .0 .0) (v .0 .1 .0) (cost (c .before .before)) (c .if1 .taken))
 
 mul-costs : tie.Need-mul-costs Inv-loop μ-loop
 mul-costs c = omega arith
@@ -119,7 +119,7 @@ loop-again c =
       omega arith,
       omega arith,
       length-set (l .costs) (l .n) (v .0 .0) ∙ l .inv .2,
-      λ after r s. l .inv .3 after r (column-more input (l .i) (l .n) (l .costs) (v .0 .0) (v .0 .1 .0) h after r (c .if2 .left) s),
+      λ after r s. l .inv .3 after r (column-more input (l .i) (l .n) (l .costs) (v .0 .0) (v .0 .1 .0) h after r (omega arith) (c .if2 .left) s),
     )
 
 pub store-column-spec : {M : Type 1} → statement M

@@ -33,7 +33,7 @@ returns-2 c =
     let s = c .before .before .before .before .store-column in
     let within = start .pre .0 in
     let more = c .before .before .before .before .before .before .if1 .left in
-    matrix-bad (a .other) (now (a .input)) (a .at) (now (a .costs)) (s .last .1 .1 .0) (s .last .1 .1 .0) (omega arith)
+    matrix-bad (a .other) (now (a .input)) (a .at) (now (a .costs)) (s .last .1 .1 .0) (omega arith)
     (subst (StoredColumn (now (a .input)) (a .at) 0 (now (a .costs)) (s .last .1 .1 .0)) (c .enum-told .given .1) (s .ensures))
 
 -- the first column that was stored
