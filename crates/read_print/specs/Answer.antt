@@ -29,6 +29,10 @@ form-room = 16384
 abbrev pub lent-rooms : Rooms
 lent-rooms = record { path = 255; word = 255; work = 16384 }
 
+-- output memory of this many bytes is enough
+abbrev pub longest : ℕ
+longest = 1031
+
 -- the lines of an outcome
 abbrev pub outcome-lines : (A : List ℕ) (M : Matrix) → Option (List ℕ) → List ℕ
 outcome-lines A M none = refusal-line (numberOf row.NoReading)
