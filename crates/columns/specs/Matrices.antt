@@ -21,26 +21,26 @@ use Rattle.columns.specs.declared.Columns.the-variants as columns
 use Rattle.columns.specs.declared.Body.{Body}
 use Rattle.columns.specs.declared.Body.the-variants as body
 
-pub record AllColumns (other : ℕ) (input : List ℕ) (at : ℕ) (before after : List ℕ) (width count : ℕ) : Type 0 where
+pub record AllColumns (if-none : ℕ) (input : List ℕ) (at : ℕ) (before after : List ℕ) (width count : ℕ) : Type 0 where
   pub columns : List (List ℕ)
   pub are : rows (drop at input) ≡ some columns
   pub fits : fitting columns ≡ true
-  pub is-width : width ≡ widthOr other columns
+  pub is-width : width ≡ widthOr if-none columns
   pub is-count : count ≡ length columns
   pub memory : after ≡ written (flatten columns) before
 
 -- all columns, one behind another in front of the memory; or there are none that fit
 abbrev pub StoredMatrix : ℕ → List ℕ → ℕ → List ℕ → List ℕ → Body → Type 0
-StoredMatrix other input at before after (body.Matrix width count) = AllColumns other input at before after width count
-StoredMatrix other input at before after body.Bad =
+StoredMatrix if-none input at before after (body.Matrix width count) = AllColumns if-none input at before after width count
+StoredMatrix if-none input at before after body.Bad =
     ((cs : List (List ℕ)) → rows (drop at input) ≡ some cs → fitting cs ≡ true → ⊥) × Spoilt before after
 
 sets-written : (c m : List ℕ) → length c ≤ length m → sets m 0 c ≡ written c m
 unfolding written
 sets-written c m l = let z : 0 + length c ≡ length c = omega arith in sets-eq c m 0 (omega arith) ∙ ap (λ k. c ++ drop k m) z
 
-module _ (other : ℕ) (input : List ℕ) (at : ℕ) (before : List ℕ) where
-  pub matrix-none : at ≡ length input → StoredMatrix other input at before before (body.Matrix other 0)
+module _ (if-none : ℕ) (input : List ℕ) (at : ℕ) (before : List ℕ) where
+  pub matrix-none : at ≡ length input → StoredMatrix if-none input at before before (body.Matrix if-none 0)
   unfolding flatten
   matrix-none l =
       record {
@@ -53,7 +53,7 @@ module _ (other : ℕ) (input : List ℕ) (at : ℕ) (before : List ℕ) where
       }
 
   pub matrix-bad :
-      (after : List ℕ) → at < length input → StoredColumn input at 0 before after column.Bad → StoredMatrix other input at before after body.Bad
+      (after : List ℕ) → at < length input → StoredColumn input at 0 before after column.Bad → StoredMatrix if-none input at before after body.Bad
   matrix-bad after l h = (by, h .1)
     where
       by : (cs : List (List ℕ)) → rows (drop at input) ≡ some cs → fitting cs ≡ true → ⊥
@@ -69,7 +69,7 @@ module _ (other : ℕ) (input : List ℕ) (at : ℕ) (before : List ℕ) where
     first = h .stored .next ∙ omega arith
 
     pub matrix-unequal :
-        (after : List ℕ) → StoredColumns w input e w 1 middle after columns.Bad → StoredMatrix other input at before after body.Bad
+        (after : List ℕ) → StoredColumns w input e w 1 middle after columns.Bad → StoredMatrix if-none input at before after body.Bad
     matrix-unequal after s = (
       (λ cs q t.
           let k = both-back (h .costs) (rows (drop e input)) cs (sym (h .is) ∙ q) in
@@ -86,7 +86,7 @@ module _ (other : ℕ) (input : List ℕ) (at : ℕ) (before : List ℕ) where
 
     pub matrix-is :
         (after : List ℕ) (count : ℕ) → 16384 ≤ length before → StoredColumns w input e w 1 middle after (columns.Count count)
-        → StoredMatrix other input at before after (body.Matrix w count)
+        → StoredMatrix if-none input at before after (body.Matrix w count)
     unfolding flatten both
     matrix-is after count l s =
         let z = first in
