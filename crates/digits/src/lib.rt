@@ -18,12 +18,6 @@ pub enum Cost {
     Not,
 }
 
-fn wide(x: u8) -> u32
-    ensures { λ r. ⌜ r ≡ x ⌝ }
-{
-    x as u32
-}
-
 fn is_digit(b: u8) -> bool
     ensures { λ r. ⌜ r ≡ digit b ⌝ }
 {
@@ -83,7 +77,7 @@ fn read_digits(input: &[u8], at: usize) -> Digits
         if i - at == 7 {
             return Digits { value: v, end: i };
         }
-        v = 10 * v + wide(b - 48);
+        v = 10 * v + (b - 48) as u32;
         i += 1;
     }
     Digits { value: v, end: i }
