@@ -41,7 +41,7 @@ fn store_column(input: &[u8], at: usize, costs: &mut [u32], m: usize) -> Column
         costs[n] = v;
         n += 1;
         i = end + 1;
-        if input[end] == 10 {
+        if input[end] == b'\n' {
             return Column::Ends(i, n);
         }
     }

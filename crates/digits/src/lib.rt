@@ -21,20 +21,20 @@ pub enum Cost {
 fn is_digit(b: u8) -> bool
     ensures { λ r. ⌜ r ≡ digit b ⌝ }
 {
-    if b < 48 {
+    if b < b'0' {
         return false;
     }
-    b <= 57
+    b <= b'9'
 }
 
 // Is it a space or a newline?
 fn is_separator(b: u8) -> bool
     ensures { λ r. ⌜ r ≡ separator b ⌝ }
 {
-    if b == 32 {
+    if b == b' ' {
         return true;
     }
-    b == 10
+    b == b'\n'
 }
 
 // Do so many digits, the first of them b, begin with an extra zero?
@@ -44,7 +44,7 @@ fn is_padded(count: usize, b: u8) -> bool
     if count < 2 {
         return false;
     }
-    b == 48
+    b == b'0'
 }
 
 // Where the line that begins here ends: its newline, or the input's end.
@@ -54,7 +54,7 @@ pub fn line_end(input: &[u8], at: usize) -> usize
 {
     let mut i = at;
     while i < input.len() {
-        if input[i] == 10 {
+        if input[i] == b'\n' {
             return i;
         }
         i += 1;
@@ -77,7 +77,7 @@ fn read_digits(input: &[u8], at: usize) -> Digits
         if i - at == 7 {
             return Digits { value: v, end: i };
         }
-        v = 10 * v + (b - 48) as u32;
+        v = 10 * v + (b - b'0') as u32;
         i += 1;
     }
     Digits { value: v, end: i }
