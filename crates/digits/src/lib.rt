@@ -52,14 +52,7 @@ pub fn line_end(input: &[u8], at: usize) -> usize
     requires { ⌜ at ≤ length (now input) ⌝ }
     ensures { λ r. ⌜ LineEnd (now (input .entry)) at r ⌝ }
 {
-    let mut i = at;
-    while i < input.len() {
-        if input[i] == b'\n' {
-            return i;
-        }
-        i += 1;
-    }
-    i
+    characters::find(input, at, b'\n')
 }
 
 // The digits from here on, at most seven.
