@@ -1,2 +1,3 @@
+pub mod Rests
 pub mod Storing
 pub mod Matrices

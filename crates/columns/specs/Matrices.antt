@@ -15,30 +15,32 @@ use Rattle.lists.specs.Order.{and-left, and-right, and-both}
 use Rattle.lists.specs.Written.{written, written-none, stored-then}
 use Rattle.sheet_text.specs.Sheet.{both, equal-columns, fitting, widthOr}
 use Rattle.sheet_text.specs.Rows.{rows, rows-end, rows-some}
-use Rattle.columns.specs.Storing.{StoredColumn, StoredColumns, wide, both-back, flatten-more}
+use Rattle.columns.specs.Storing.{Spoilt, spoilt-stored, StoredColumn, StoredColumns, wide, both-back, flatten-more}
 use Rattle.columns.specs.declared.Column.the-variants as column
 use Rattle.columns.specs.declared.Columns.the-variants as columns
 use Rattle.columns.specs.declared.Body.{Body}
 use Rattle.columns.specs.declared.Body.the-variants as body
 
-pub record AllColumns (other : ℕ) (input : List ℕ) (at : ℕ) (before after : List ℕ) (width count : ℕ) : Type 0 where
+pub record AllColumns (if-none : ℕ) (input : List ℕ) (at : ℕ) (before after : List ℕ) (width count : ℕ) : Type 0 where
   pub columns : List (List ℕ)
   pub are : rows (drop at input) ≡ some columns
   pub fits : fitting columns ≡ true
-  pub is-width : width ≡ widthOr other columns
+  pub is-width : width ≡ widthOr if-none columns
   pub is-count : count ≡ length columns
   pub memory : after ≡ written (flatten columns) before
 
+-- all columns, one behind another in front of the memory; or there are none that fit
 abbrev pub StoredMatrix : ℕ → List ℕ → ℕ → List ℕ → List ℕ → Body → Type 0
-StoredMatrix other input at before after (body.Matrix width count) = AllColumns other input at before after width count
-StoredMatrix other input at before after body.Bad = (cs : List (List ℕ)) → rows (drop at input) ≡ some cs → fitting cs ≡ true → ⊥
+StoredMatrix if-none input at before after (body.Matrix width count) = AllColumns if-none input at before after width count
+StoredMatrix if-none input at before after body.Bad =
+    ((cs : List (List ℕ)) → rows (drop at input) ≡ some cs → fitting cs ≡ true → ⊥) × Spoilt before after
 
 sets-written : (c m : List ℕ) → length c ≤ length m → sets m 0 c ≡ written c m
 unfolding written
 sets-written c m l = let z : 0 + length c ≡ length c = omega arith in sets-eq c m 0 (omega arith) ∙ ap (λ k. c ++ drop k m) z
 
-module _ (other : ℕ) (input : List ℕ) (at : ℕ) (before : List ℕ) where
-  pub matrix-none : at ≡ length input → StoredMatrix other input at before before (body.Matrix other 0)
+module _ (if-none : ℕ) (input : List ℕ) (at : ℕ) (before : List ℕ) where
+  pub matrix-none : at ≡ length input → StoredMatrix if-none input at before before (body.Matrix if-none 0)
   unfolding flatten
   matrix-none l =
       record {
@@ -51,34 +53,40 @@ module _ (other : ℕ) (input : List ℕ) (at : ℕ) (before : List ℕ) where
       }
 
   pub matrix-bad :
-      (middle after : List ℕ) → at < length input → StoredColumn input at 0 before middle column.Bad
-      → StoredMatrix other input at before after body.Bad
-  matrix-bad middle after l h [] e q = rows-some (drop at input) (let k = length-drop at input in omega arith) e
-  matrix-bad middle after l h (c ∷ cs) e q =
-      let k = h c cs e in
-      let s = flatten-more c (c ∷ cs) cs refl in
-      let r = leb-true (length (flatten (c ∷ cs))) 16384 (and-right (equal-columns (c ∷ cs)) (leb (length (flatten (c ∷ cs))) 16384) q) in
-      omega arith
+      (after : List ℕ) → at < length input → StoredColumn input at 0 before after column.Bad → StoredMatrix if-none input at before after body.Bad
+  matrix-bad after l h = (by, h .1)
+    where
+      by : (cs : List (List ℕ)) → rows (drop at input) ≡ some cs → fitting cs ≡ true → ⊥
+      by [] e q = rows-some (drop at input) (let k = length-drop at input in omega arith) e
+      by (c ∷ cs) e q =
+          let k = h .0 c cs e in
+          let s = flatten-more c (c ∷ cs) cs refl in
+          let r = leb-true (length (flatten (c ∷ cs))) 16384 (and-right (equal-columns (c ∷ cs)) (leb (length (flatten (c ∷ cs))) 16384) q) in
+          omega arith
 
   module _ (middle : List ℕ) (e w : ℕ) (h : StoredColumn input at 0 before middle (column.Ends e w)) where
     first : w ≡ length (h .costs)
     first = h .stored .next ∙ omega arith
 
     pub matrix-unequal :
-        (after : List ℕ) → StoredColumns w input e w 1 middle after columns.Bad → StoredMatrix other input at before after body.Bad
-    matrix-unequal after s cs q t =
-        let k = both-back (h .costs) (rows (drop e input)) cs (sym (h .is) ∙ q) in
-        let u : fitting (h .costs ∷ k .0) ≡ true = rw (k .2) at t in
-        let v : wide w (k .0) ≡ true = rw first (and-left (equal-columns (h .costs ∷ k .0)) (leb (length (flatten (h .costs ∷ k .0))) 16384) u) in
-        let l = s (k .0) (k .1) v in
-        let r = leb-true (length (flatten (h .costs ∷ k .0))) 16384 (and-right (equal-columns (h .costs ∷ k .0)) (leb (length (flatten (h .costs ∷ k .0))) 16384) u) in
-        let y = flatten-more (h .costs) (h .costs ∷ k .0) (k .0) refl in
-        let z = first in
-        omega arith
+        (after : List ℕ) → StoredColumns w input e w 1 middle after columns.Bad → StoredMatrix if-none input at before after body.Bad
+    matrix-unequal after s = (
+      (λ cs q t.
+          let k = both-back (h .costs) (rows (drop e input)) cs (sym (h .is) ∙ q) in
+          let ds = h .costs ∷ k .0 in
+          let u : fitting ds ≡ true = rw (k .2) at t in
+          let v : wide w (k .0) ≡ true = rw first (and-left (equal-columns ds) (leb (length (flatten ds)) 16384) u) in
+          let l = s .0 (k .0) (k .1) v in
+          let r = leb-true (length (flatten ds)) 16384 (and-right (equal-columns ds) (leb (length (flatten ds)) 16384) u) in
+          let y = flatten-more (h .costs) ds (k .0) refl in
+          let z = first in
+          omega arith),
+      spoilt-stored (h .costs) 0 w before middle after (h .stored) (h .room) (s .1),
+    )
 
     pub matrix-is :
         (after : List ℕ) (count : ℕ) → 16384 ≤ length before → StoredColumns w input e w 1 middle after (columns.Count count)
-        → StoredMatrix other input at before after (body.Matrix w count)
+        → StoredMatrix if-none input at before after (body.Matrix w count)
     unfolding flatten both
     matrix-is after count l s =
         let z = first in

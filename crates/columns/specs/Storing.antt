@@ -5,24 +5,47 @@ use mathlib.Core.Path.{_≡_, refl, sym, ap, _∙_}
 use mathlib.Core.Option.{Option, some, none}
 use mathlib.Core.List.{List, [], _∷_, flatten}
 use mathlib.Core.Bool.{Bool, true, false, cond}
-use Prim.Native.Nat.{ℕ, _+_, _-_, _<_, _≤_}
+use Prim.Native.Nat.{ℕ, suc, _+_, _-_, _<_, _≤_}
 use native.Mathlib.Omega.{arith}
 use native.Mathlib.Numerals.{add-one}
 use lib.ListN.{length, getD, drop, set, length-append, length-drop}
-use lib.Seq.{sets}
+use lib.Seq.{sets, drop-set-lt}
 use lib.Dec.{eqb}
 use borrow.Author.Tests.{eq-eqb, ne-eqb, eqb-true}
 use Rattle.lists.specs.Each.{all, drop-all}
 use Rattle.lists.specs.Order.{and-left, and-right, and-both}
-use Rattle.lists.specs.Written.{Stored, stored-then}
+use Rattle.lists.specs.Written.{Stored, stored-size, stored-then}
 use Rattle.sheet_text.specs.Sheet.{both}
 use Rattle.sheet_text.specs.Rows.{rows, rows-end, rows-some, beside, put}
-use Rattle.digits.specs.Digits.{ReadCost}
+use Rattle.digits.specs.Digits.{ReadCost, cost-begins}
 use Rattle.digits.specs.declared.Cost.the-variants as cost
+use Rattle.columns.specs.Rests.{cost-rows, no-column}
 use Rattle.columns.specs.declared.Column.{Column}
 use Rattle.columns.specs.declared.Column.the-variants as column
 use Rattle.columns.specs.declared.Columns.{Columns}
 use Rattle.columns.specs.declared.Columns.the-variants as columns
+
+-- The first 16,384 places hold anything, and nothing else of the memory is changed.
+pub record Spoilt (before after : List ℕ) : Type 0 where
+  pub size : length after ≡ length before
+  pub behind : drop 16384 after ≡ drop 16384 before
+
+drop-sets : (n : ℕ) (c m : List ℕ) (i : ℕ) → i + length c ≤ n → drop n (sets m i c) ≡ drop n m
+drop-sets n [] m i l = refl
+drop-sets n (v ∷ c) m i l = drop-sets n c (set m i v) (suc i) (omega arith) ∙ drop-set-lt n m i v (omega arith)
+
+pub spoilt-none : (m : List ℕ) → Spoilt m m
+spoilt-none m = record { size = refl; behind = refl }
+
+-- what was stored in front of place 16,384 is spoilt too
+pub spoilt-stored :
+    (c : List ℕ) (n f : ℕ) (before middle after : List ℕ) → Stored c n before middle f → f ≤ 16384 → Spoilt middle after → Spoilt before after
+spoilt-stored c n f before middle after s l h =
+    let e = s .next in
+    record {
+      size = h .size ∙ stored-size s;
+      behind = h .behind ∙ ap (drop 16384) (s .memory) ∙ drop-sets 16384 c before n (omega arith);
+    }
 
 -- One column line.
 
@@ -39,7 +62,7 @@ pub record OneColumn (input : List ℕ) (at m : ℕ) (before after : List ℕ) (
 abbrev pub StoredColumn : List ℕ → ℕ → ℕ → List ℕ → List ℕ → Column → Type 0
 StoredColumn input at m before after (column.Ends e f) = OneColumn input at m before after e f
 StoredColumn input at m before after column.Bad =
-    (c : List ℕ) (cs : List (List ℕ)) → rows (drop at input) ≡ some (c ∷ cs) → 16384 < m + length c
+    ((c : List ℕ) (cs : List (List ℕ)) → rows (drop at input) ≡ some (c ∷ cs) → 16384 < m + length c) × Spoilt before after
 
 beside-some : (v : ℕ) (c : List ℕ) (o : Option (List (List ℕ))) → beside (some v) (both (some c) o) ≡ both (some (v ∷ c)) o
 unfolding beside both
@@ -76,20 +99,26 @@ put-some v b o c cs = by (eqb b 10) o
     by false (some (d ∷ ds)) e = let q : c ≡ v ∷ d = cc in let l = ap length q in omega arith
 
 module _ (input : List ℕ) (at m : ℕ) (before : List ℕ) where
-  pub column-bad : (after : List ℕ) → ReadCost input at cost.Not → StoredColumn input at m before after column.Bad
-  column-bad after n c cs e = absurd (n c cs e)
+  pub column-bad : ReadCost input at cost.Not → StoredColumn input at m before before column.Bad
+  column-bad n = (λ c cs e. absurd (no-column input at n c cs e), spoilt-none before)
 
   module _ (v e : ℕ) (h : ReadCost input at (cost.Is v e)) where
-    pub column-full : (after : List ℕ) → m ≡ 16384 → StoredColumn input at m before after column.Bad
-    column-full after l c cs q = let n = put-some v (getD input e 0) (rows (drop (e + 1) input)) c cs (sym (h .2) ∙ q) in omega arith
+    begins : rows (drop at input) ≡ put (some v) (getD input e 0) (rows (drop (e + 1) input))
+    begins = cost-rows input at v e h
+
+    pub column-full : m ≡ 16384 → StoredColumn input at m before before column.Bad
+    column-full l = (
+      (λ c cs q. let n = put-some v (getD input e 0) (rows (drop (e + 1) input)) c cs (sym begins ∙ q) in omega arith),
+      spoilt-none before,
+    )
 
     pub column-last : m < 16384 → getD input e 0 ≡ 10 → StoredColumn input at m before (set before m v) (column.Ends (e + 1) (m + 1))
     column-last l b =
-        let s = h .0 in
-        let k = h .1 in
+        let s = cost-begins input at e v h in
+        let k = h .within in
         record {
           costs = v ∷ [];
-          is = h .2 ∙ put-newline v (getD input e 0) (rows (drop (e + 1) input)) b;
+          is = begins ∙ put-newline v (getD input e 0) (rows (drop (e + 1) input)) b;
           stored = record { next = refl; memory = refl };
           from = omega arith;
           within = omega arith;
@@ -98,17 +127,17 @@ module _ (input : List ℕ) (at m : ℕ) (before : List ℕ) where
         }
 
     pub column-more :
-        (after : List ℕ) (r : Column) → (getD input e 0 ≡ 10 → ⊥) → StoredColumn input (e + 1) (m + 1) (set before m v) after r
+        (after : List ℕ) (r : Column) → m < 16384 → (getD input e 0 ≡ 10 → ⊥) → StoredColumn input (e + 1) (m + 1) (set before m v) after r
         → StoredColumn input at m before after r
-    column-more after (column.Ends f g) b s =
-        let l = h .0 in
+    column-more after (column.Ends f g) room b s =
+        let l = cost-begins input at e v h in
         let k = s .from in
         let o = s .some-cost in
         let size = s .stored .next in
         record {
           costs = v ∷ s .costs;
           is =
-              h .2
+              begins
               ∙ put-space (some v) (getD input e 0) (rows (drop (e + 1) input)) b
               ∙ ap (beside (some v)) (s .is)
               ∙ beside-some v (s .costs) (rows (drop f input));
@@ -118,13 +147,15 @@ module _ (input : List ℕ) (at m : ℕ) (before : List ℕ) where
           some-cost = omega arith;
           room = s .room;
         }
-    column-more after column.Bad b s =
-        λ c cs q.
-        let o = rows (drop (e + 1) input) in
-        let k = beside-back v o c cs (sym (put-space (some v) (getD input e 0) o b) ∙ sym (h .2) ∙ q) in
-        let l = s (k .0) cs (k .1) in
-        let n = ap length (k .2) in
-        omega arith
+    column-more after column.Bad room b s = (
+      (λ c cs q.
+          let o = rows (drop (e + 1) input) in
+          let k = beside-back v o c cs (sym (put-space (some v) (getD input e 0) o b) ∙ sym begins ∙ q) in
+          let l = s .0 (k .0) cs (k .1) in
+          let n = ap length (k .2) in
+          omega arith),
+      spoilt-stored (v ∷ []) m (m + 1) before (set before m v) after (record { next = refl; memory = refl }) (omega arith) (s .1),
+    )
 
 -- All column lines from a place on, each with w costs; m costs and n columns stand in front.
 
@@ -142,7 +173,7 @@ pub record SomeColumns (w : ℕ) (input : List ℕ) (at m n : ℕ) (before after
 abbrev pub StoredColumns : ℕ → List ℕ → ℕ → ℕ → ℕ → List ℕ → List ℕ → Columns → Type 0
 StoredColumns w input at m n before after (columns.Count count) = SomeColumns w input at m n before after count
 StoredColumns w input at m n before after columns.Bad =
-    (cs : List (List ℕ)) → rows (drop at input) ≡ some cs → wide w cs ≡ true → 16384 < m + length (flatten cs)
+    ((cs : List (List ℕ)) → rows (drop at input) ≡ some cs → wide w cs ≡ true → 16384 < m + length (flatten cs)) × Spoilt before after
 
 -- the columns are those behind the first, and it
 pub both-back :
@@ -170,23 +201,28 @@ module _ (w : ℕ) (input : List ℕ) (at m n : ℕ) (before : List ℕ) where
       }
 
   pub columns-bad :
-      (middle after : List ℕ) → at < length input → StoredColumn input at m before middle column.Bad
-      → StoredColumns w input at m n before after columns.Bad
-  columns-bad middle after l h [] e q = absurd (rows-some (drop at input) (let k = length-drop at input in omega arith) e)
-  columns-bad middle after l h (c ∷ cs) e q = let k = h c cs e in let s = flatten-more c (c ∷ cs) cs refl in omega arith
+      (after : List ℕ) → at < length input → StoredColumn input at m before after column.Bad → StoredColumns w input at m n before after columns.Bad
+  columns-bad after l h = (λ cs e q. by cs e, h .1)
+    where
+      by : (cs : List (List ℕ)) → rows (drop at input) ≡ some cs → 16384 < m + length (flatten cs)
+      by [] e = absurd (rows-some (drop at input) (let k = length-drop at input in omega arith) e)
+      by (c ∷ cs) e = let k = h .0 c cs e in let s = flatten-more c (c ∷ cs) cs refl in omega arith
 
   module _ (middle : List ℕ) (e f : ℕ) (h : StoredColumn input at m before middle (column.Ends e f)) where
     size : f ≡ m + length (h .costs)
     size = h .stored .next
 
-    pub columns-unequal : (after : List ℕ) → (f - m ≡ w → ⊥) → StoredColumns w input at m n before after columns.Bad
+    pub columns-unequal : (f - m ≡ w → ⊥) → StoredColumns w input at m n before middle columns.Bad
     unfolding all
-    columns-unequal after d cs q t =
-        let k = both-back (h .costs) (rows (drop e input)) cs (sym (h .is) ∙ q) in
-        let u : wide w (h .costs ∷ k .0) ≡ true = rw (k .2) at t in
-        let v = eqb-true (length (h .costs)) w (and-left (eqb (length (h .costs)) w) (wide w (k .0)) u) in
-        let s = size in
-        absurd (d (omega arith))
+    columns-unequal d = (
+      (λ cs q t.
+          let k = both-back (h .costs) (rows (drop e input)) cs (sym (h .is) ∙ q) in
+          let u : wide w (h .costs ∷ k .0) ≡ true = rw (k .2) at t in
+          let v = eqb-true (length (h .costs)) w (and-left (eqb (length (h .costs)) w) (wide w (k .0)) u) in
+          let s = size in
+          absurd (d (omega arith))),
+      spoilt-stored (h .costs) m f before middle middle (h .stored) (h .room) (spoilt-none middle),
+    )
 
     pub columns-more :
         (after : List ℕ) (r : Columns) → f - m ≡ w → StoredColumns w input e f (n + 1) middle after r
@@ -206,11 +242,13 @@ module _ (w : ℕ) (input : List ℕ) (at m n : ℕ) (before : List ℕ) where
           stored = record { next = refl; memory = t .memory };
           room = omega arith;
         }
-    columns-more after columns.Bad d s =
-        λ cs q t.
-        let k = both-back (h .costs) (rows (drop e input)) cs (sym (h .is) ∙ q) in
-        let u : wide w (h .costs ∷ k .0) ≡ true = rw (k .2) at t in
-        let l = s (k .0) (k .1) (and-right (eqb (length (h .costs)) w) (wide w (k .0)) u) in
-        let z = size in
-        let y = flatten-more (h .costs) cs (k .0) (k .2) in
-        omega arith
+    columns-more after columns.Bad d s = (
+      (λ cs q t.
+          let k = both-back (h .costs) (rows (drop e input)) cs (sym (h .is) ∙ q) in
+          let u : wide w (h .costs ∷ k .0) ≡ true = rw (k .2) at t in
+          let l = s .0 (k .0) (k .1) (and-right (eqb (length (h .costs)) w) (wide w (k .0)) u) in
+          let z = size in
+          let y = flatten-more (h .costs) cs (k .0) (k .2) in
+          omega arith),
+      spoilt-stored (h .costs) m f before middle after (h .stored) (h .room) (s .1),
+    )

@@ -41,7 +41,7 @@ fn store_column(input: &[u8], at: usize, costs: &mut [u32], m: usize) -> Column
         costs[n] = v;
         n += 1;
         i = end + 1;
-        if input[end] == 10 {
+        if input[end] == b'\n' {
             return Column::Ends(i, n);
         }
     }
@@ -69,13 +69,14 @@ fn store_columns(input: &[u8], at: usize, costs: &mut [u32], width: usize) -> Co
     Columns::Count(n)
 }
 
-// Stores all column lines; where there is none the width is `other`.
-pub fn store_matrix(input: &[u8], at: usize, costs: &mut [u32], other: usize) -> Body
+// Stores all column lines; where there is none the width is `width_if_none`. If they do not fit, the first 16,384 places of the memory
+// hold anything.
+pub fn store_matrix(input: &[u8], at: usize, costs: &mut [u32], width_if_none: usize) -> Body
     requires { ⌜ (at ≤ length (now input)) × (16384 ≤ length (now costs)) ⌝ }
-    ensures { λ r. ⌜ StoredMatrix other (now (input .entry)) at (now (costs .entry)) (now (costs .exit)) r ⌝ }
+    ensures { λ r. ⌜ StoredMatrix «width_if_none» (now (input .entry)) at (now (costs .entry)) (now (costs .exit)) r ⌝ }
 {
     if at == input.len() {
-        return Body::Matrix(other, 0);
+        return Body::Matrix(width_if_none, 0);
     }
     let Column::Ends(end, width) = store_column(input, at, costs, 0) else {
         return Body::Bad;

@@ -1,25 +1,23 @@
 -- The digits at a place of a sheet, and the cost that they make with what stands behind them. Assumes nothing.
 -- Used by the contracts and the proofs; in columns.
-use mathlib.Core.Path.{_≡_, refl, sym, ap, ap₂, _∙_}
-use mathlib.Core.Option.{some, none}
-use mathlib.Core.List.{List, [], _∷_, _++_, append-assoc, append-nil}
-use mathlib.Core.Bool.{Bool, true, false, not, _&&_, _||_, and-false}
-use mathlib.Core.Logic.{_⊎_, inl, inr, ⊎-elim}
+use mathlib.Core.Path.{_≡_, refl, sym, ap, ap₂, _∙_, subst}
+use mathlib.Core.Option.{some}
+use mathlib.Core.List.{List, [], _∷_, _++_}
+use mathlib.Core.Bool.{Bool, true, false, not, _&&_, _||_}
+use mathlib.Core.Logic.{⊎-elim}
 use Prim.Native.Nat.{ℕ, zero, suc, _+_, _*_, _-_, _^_, _<_, _≤_}
 use Prim.Native.Char.{code}
 use native.Mathlib.Omega.{arith}
 use native.Mathlib.Nat.{pow-suc, pow-le-pow-right}
-use lib.ListN.{length, getD, drop, length-append}
-use lib.Seq.{getD-take, getD-drop}
+use lib.ListN.{length, getD, take, drop}
 use lib.Dec.{eqb, leb, lit<}
-use borrow.Author.Tests.{leb-true, le-leb, lt-leb, eqb-true, eqb-false}
-use Rattle.lists.specs.Each.{each-append, drop-here, drop-all}
-use Rattle.lists.specs.Order.{and-left, and-right, and-both, or-either, or-neither, true-or-false, not-both, lt-or-le, eq-or-ne}
+use borrow.Author.Tests.{leb-true, le-leb, eqb-true, not-true}
+use Rattle.lists.specs.Order.{and-left, and-right, and-both, and-three, or-either, not-both, lt-or-le}
 use Rattle.expression.specs.Text.{provided}
 use Rattle.expression.specs.Repetition.{digits, value}
 use Rattle.sheet_text.specs.Sheet.{extra-zero, costOf}
-use Rattle.sheet_text.specs.Rows.{Free, rows, rows-end, rows-unread, lines-open, columnsOf, put, put-none, rows-put}
-use Rattle.digits.specs.Places.{part, part-none, part-more, part-rest, part-length}
+use Rattle.sheet_text.specs.Parts.{provided-back}
+use Rattle.digits.specs.Places.{part, part-none, part-more, part-at, part-length}
 use Rattle.digits.specs.declared.Cost.{Cost}
 use Rattle.digits.specs.declared.Cost.the-variants.{Is, Not}
 
@@ -41,10 +39,6 @@ digits-snoc [] b h d = rw d
 digits-snoc (a ∷ p) b h d =
     and-both (digit a) (digits (p ++ (b ∷ []))) (and-left (digit a) (digits p) h) (digits-snoc p b (and-right (digit a) (digits p) h) d)
 
-digits-spoilt : (p : List ℕ) (b : ℕ) (t : List ℕ) → digit b ≡ false → digits (p ++ (b ∷ t)) ≡ false
-digits-spoilt [] b t d = rw d
-digits-spoilt (a ∷ p) b t d = rw (digits-spoilt p b t d, and-false)
-
 value-snoc : (n : ℕ) (p : List ℕ) (b : ℕ) → value n (p ++ (b ∷ [])) ≡ 10 * value n p + (b - 48)
 value-snoc n [] b = refl
 value-snoc n (a ∷ p) b = value-snoc (10 * n + (a - 48)) p b
@@ -52,39 +46,44 @@ value-snoc n (a ∷ p) b = value-snoc (10 * n + (a - 48)) p b
 pub digit-range : (b : ℕ) → digit b ≡ true → (48 ≤ b) × (b ≤ 57)
 digit-range b e = (leb-true 48 b (and-left (leb 48 b) (leb b 57) e), leb-true b 57 (and-right (leb 48 b) (leb b 57) e))
 
-digits-free : (c : ℕ) (p : List ℕ) → c < 48 → digits p ≡ true → Free c p
-digits-free c [] l h = tt
-digits-free c (b ∷ p) l h = (
-  (λ e. let r = digit-range b (and-left (digit b) (digits p) h) in omega arith),
-  digits-free c p l (and-right (digit b) (digits p) h),
-)
+digits-at : (p : List ℕ) (i : ℕ) → digits p ≡ true → i < length p → digit (getD p i 0) ≡ true
+digits-at [] i h l = absurd (omega arith)
+digits-at (b ∷ p) zero h l = and-left (digit b) (digits p) h
+digits-at (b ∷ p) (suc i) h l = digits-at p i (and-right (digit b) (digits p) h) (omega arith)
 
--- Texts that are a cost, and texts that are none.
-
-cost-spoilt : (p : List ℕ) (b : ℕ) (t : List ℕ) → digit b ≡ false → costOf (p ++ (b ∷ t)) ≡ none
-unfolding costOf provided
-cost-spoilt p b t d = rw (digits-spoilt p b t d)
-
-cost-long : (p : List ℕ) → 7 < length p → costOf p ≡ none
-unfolding costOf provided
-cost-long p l = rw (lt-leb (length p) 7 l, and-false)
-
-cost-empty : costOf [] ≡ none
-unfolding costOf provided
-cost-empty = refl
+-- Texts that are a cost.
 
 padded-zero : (p : List ℕ) → extra-zero p ≡ padded (length p) (getD p 0 0)
 padded-zero [] = refl
 padded-zero (a ∷ []) = refl
 padded-zero (a ∷ (b ∷ p)) = rw (le-leb 2 (suc (suc (length p))) (omega arith))
 
-cost-zero : (p : List ℕ) → extra-zero p ≡ true → costOf p ≡ none
-unfolding costOf provided
-cost-zero p e = rw (e, and-false)
-
 cost-is : (p : List ℕ) → digits p ≡ true → 1 ≤ length p → length p ≤ 7 → extra-zero p ≡ false → costOf p ≡ some (value 0 p)
 unfolding costOf provided
 cost-is p d l h e = rw (d, le-leb 1 (length p) l, le-leb (length p) 7 h, e)
+
+-- what the text of a cost is
+pub record Numeral (p : List ℕ) : Type 0 where
+  pub are : digits p ≡ true
+  pub some-digit : 1 ≤ length p
+  pub few : length p ≤ 7
+  pub unpadded : extra-zero p ≡ false
+
+pub cost-back : (p : List ℕ) (v : ℕ) → costOf p ≡ some v → Numeral p
+unfolding costOf
+cost-back p v e =
+    let d = digits p in
+    let l = leb 1 (length p) in
+    let h = leb (length p) 7 in
+    let z = not (extra-zero p) in
+    let q = provided-back (d && l && h && z) (some (value 0 p)) v e .0 in
+    let t = and-three d l h (and-left (d && l && h) z q) in
+    record {
+      are = t .0;
+      some-digit = leb-true 1 (length p) (t .1);
+      few = leb-true (length p) 7 (t .2);
+      unpadded = not-true (extra-zero p) (and-right (d && l && h) z q);
+    }
 
 -- At a loop's i: the bytes from `at` up to i are digits and make v.
 pub record Begun (input : List ℕ) (at i v : ℕ) : Type 0 where
@@ -148,108 +147,99 @@ module _ (input : List ℕ) (at : ℕ) where
     pub digits-end : length input ≤ i → Digits input at i v
     digits-end e = record { begun = h; stops = λ l k. absurd (omega arith) }
 
--- no column line begins at the place
-abbrev pub NoColumn : List ℕ → Type 0
-NoColumn s = (c : List ℕ) (cs : List (List ℕ)) → rows s ≡ some (c ∷ cs) → ⊥
+-- a cost is written from the place `at` up to e, where a separator stands
+pub record CostAt (input : List ℕ) (at e v : ℕ) : Type 0 where
+  pub is : costOf (part at e input) ≡ some v
+  pub within : e < length input
+  pub ends : separator (getD input e 0) ≡ true
 
--- a cost stands at the place, and its separator at e; or no column line begins there
+-- the cost that is written at the place, and where its separator stands; or there is none
 abbrev pub ReadCost : List ℕ → ℕ → Cost → Type 0
-ReadCost input at (Is v e) = (at < e) × (e < length input) × (rows (drop at input) ≡ put (some v) (getD input e 0) (rows (drop (e + 1) input)))
-ReadCost input at Not = NoColumn (drop at input)
+ReadCost input at (Is v e) = CostAt input at e v
+ReadCost input at Not = (e v : ℕ) → CostAt input at e v → ⊥
 
-no-column : (s : List ℕ) → rows s ≡ none → NoColumn s
-no-column s e c cs h = let z : _≡_ {A = ℕ} 0 1 = cc in omega arith
+separator-ends : (b : ℕ) → separator b ≡ true → digit b ≡ true → ⊥
+separator-ends b s d =
+    let r = digit-range b d in
+    ⊎-elim (λ k. let q = eqb-true b 32 k in omega arith) (λ k. let q = eqb-true b 10 k in omega arith)
+    (or-either (eqb b 32) (eqb b 10) s)
 
+-- a cost has a digit
+pub cost-begins : (input : List ℕ) (at e v : ℕ) → CostAt input at e v → at < e
+cost-begins input at e v c = ⊎-elim (λ l. l) (λ l. absurd (empty l)) (lt-or-le at e)
+  where
+    empty : e ≤ at → ⊥
+    empty l =
+        let k : e - at ≡ 0 = omega arith in
+        let z : length (part at e input) ≡ 0 = ap (λ j. length (take j (drop at input))) k in
+        let n = cost-back (part at e input) v (c .is) .some-digit in
+        omega arith
+
+-- a byte of a part that is digits
+digit-at : (input : List ℕ) (at e i : ℕ) → digits (part at e input) ≡ true → at ≤ i → i < e → e ≤ length input → digit (getD input i 0) ≡ true
+digit-at input at e i d f l w =
+    let n = part-length input at e (omega arith) w in
+    rw (part-at input at e i f l) at (digits-at (part at e input) (i - at) d (omega arith))
+
+-- A cost begins with all digits that stand there, and they are the whole of it: a lemma for each return of `read_cost`.
 module _ (input : List ℕ) (at e v : ℕ) (h : Digits input at e v) where
   abbrev p : List ℕ
   p = part at e input
 
-  free : (c : ℕ) → c < 48 → Free c p
-  free c l = digits-free c p l (h .begun .are)
-
   size : length p ≡ e - at
   size = part-length input at e (h .begun .from) (h .begun .within)
 
-  splits : drop at input ≡ p ++ drop e input
-  splits = part-rest input at e (h .begun .from)
+  -- a cost that is written at the place ends where its digits end
+  same-end : (f w : ℕ) → CostAt input at f w → f ≡ e
+  same-end f w c = ⊎-elim longer (λ l. ⊎-elim shorter (λ k. omega arith) (lt-or-le f e)) (lt-or-le e f)
+    where
+      longer : e < f → f ≡ e
+      longer l =
+          let n = cost-back (part at f input) w (c .is) in
+          let i = c .within in
+          let j = h .begun .from in
+          let k = part-length input at f (omega arith) (omega arith) in
+          let few = n .few in
+          absurd (not-both (digit (getD input e 0)) (digit-at input at f e (n .are) j l (omega arith)) (h .stops (omega arith) (omega arith)))
+
+      shorter : f < e → f ≡ e
+      shorter l =
+          let k = cost-begins input at f w c in
+          absurd (separator-ends (getD input f 0) (c .ends) (digit-at input at e f (h .begun .are) (omega arith) l (h .begun .within)))
+
+  same-cost : (f w : ℕ) → CostAt input at f w → CostAt input at e w
+  same-cost f w c = subst (λ i. CostAt input at i w) (same-end f w c) c
 
   -- the input ends behind the digits
-  pub cost-open : e ≡ length input → NoColumn (drop at input)
-  unfolding columnsOf
-  cost-open l = by (eq-or-ne at e)
-    where
-      by : (at ≡ e) ⊎ (at ≡ e → ⊥) → NoColumn (drop at input)
-      by (inl q) =
-          λ c cs r.
-          let d : rows (drop at input) ≡ some [] = ap rows (drop-all input at (omega arith)) ∙ rows-end in
-          let z : _≡_ {A = ℕ} 0 1 = cc in
-          omega arith
-      by (inr q) =
-          let d : drop at input ≡ p = splits ∙ ap (λ r. p ++ r) (drop-all input e (omega arith)) ∙ append-nil p in
-          let f = h .begun .from in
-          let n = size in
-          no-column (drop at input) (ap rows d ∙ ap columnsOf (lines-open p (omega arith) (free 10 (omega arith))))
+  pub cost-open : e ≡ length input → ReadCost input at Not
+  cost-open l f w c = let k = same-cost f w c .within in omega arith
 
-  module _ (l : e < length input) where
-    abbrev b : ℕ
-    b = getD input e 0
+  -- no separator stands behind the digits
+  pub cost-unread : separator (getD input e 0) ≡ false → ReadCost input at Not
+  cost-unread q f w c = not-both (separator (getD input e 0)) (same-cost f w c .ends) q
 
-    behind : drop at input ≡ p ++ (b ∷ drop (e + 1) input)
-    behind = splits ∙ ap (λ r. p ++ r) (drop-here 0 input e l)
+  -- there is no digit
+  pub cost-missing : e ≡ at → ReadCost input at Not
+  cost-missing q f w c = let k = cost-begins input at e w (same-cost f w c) in omega arith
 
-    -- no separator stands behind the digits
-    pub cost-unread : separator b ≡ false → NoColumn (drop at input)
-    cost-unread q =
-        let s = or-neither (eqb b 32) (eqb b 10) q in
+  module _ (s : e ≡ at → ⊥) where
+    zero-is : extra-zero p ≡ padded (e - at) (getD input at 0)
+    zero-is =
+        let f = h .begun .from in
+        let k : at - at ≡ 0 = omega arith in
+        padded-zero p ∙ ap₂ padded size (ap (λ j. getD p j 0) (sym k) ∙ part-at input at e at (omega arith) (omega arith))
+
+    pub cost-padded : padded (e - at) (getD input at 0) ≡ true → ReadCost input at Not
+    cost-padded q f w c = not-both (extra-zero p) (zero-is ∙ q) (cost-back p w (same-cost f w c .is) .unpadded)
+
+    pub cost-read :
+        e < length input → separator (getD input e 0) ≡ true → padded (e - at) (getD input at 0) ≡ false → ReadCost input at (Is v e)
+    cost-read l t q =
+        let f = h .begun .from in
+        let w = h .begun .few in
         let n = size in
-        let k = length-append p (b ∷ []) in
-        no-column (drop at input)
-        (ap rows (behind ∙ sym (append-assoc p (b ∷ []) (drop (e + 1) input)))
-        ∙ rows-unread (p ++ (b ∷ [])) (drop (e + 1) input) (omega arith) (snoc 10 (omega arith) (eqb-false b 10 (s .1)))
-        (snoc 32 (omega arith) (eqb-false b 32 (s .0)))
-        (λ t. ap costOf (append-assoc p (b ∷ []) t) ∙ ⊎-elim (λ d. too-long t d) (λ d. cost-spoilt p b t d) (true-or-false (digit b))))
-      where
-        snoc : (c : ℕ) → c < 48 → (b ≡ c → ⊥) → Free c (p ++ (b ∷ []))
-        snoc c j g = each-append (λ a. a ≡ c → ⊥) p (b ∷ []) (free c j) (g, tt)
-
-        too-long : (t : List ℕ) → digit b ≡ true → costOf (p ++ (b ∷ t)) ≡ none
-        too-long t d =
-            let seven : at + 7 ≤ e = ⊎-elim (λ k. absurd (not-both (digit b) d (h .stops l k))) (λ k. k) (lt-or-le e (at + 7)) in
-            let n = size in
-            let f = h .begun .from in
-            let k = length-append p (b ∷ t) in
-            cost-long (p ++ (b ∷ t)) (omega arith)
-
-    module _ (q : separator b ≡ true) where
-      reads : rows (drop at input) ≡ put (costOf p) b (rows (drop (e + 1) input))
-      reads =
-          ap rows behind
-          ∙ rows-put p b (drop (e + 1) input) (free 10 (omega arith)) (free 32 (omega arith))
-          (⊎-elim (λ k. inl (eqb-true b 32 k)) (λ k. inr (eqb-true b 10 k)) (or-either (eqb b 32) (eqb b 10) q))
-
-      not-one : costOf p ≡ none → NoColumn (drop at input)
-      not-one n = no-column (drop at input) (reads ∙ ap (λ x. put x b (rows (drop (e + 1) input))) n ∙ put-none b (rows (drop (e + 1) input)))
-
-      pub cost-missing : e ≡ at → NoColumn (drop at input)
-      cost-missing k = not-one (ap costOf (ap (λ j. part at j input) k ∙ part-none input at) ∙ cost-empty)
-
-      module _ (s : e ≡ at → ⊥) where
-        first : getD p 0 0 ≡ getD input at 0
-        first =
-            let f = h .begun .from in
-            let z : at + 0 ≡ at = omega arith in
-            getD-take (e - at) (drop at input) 0 0 (omega arith) ∙ getD-drop at input 0 0 ∙ ap (λ j. getD input j 0) z
-
-        zero-is : extra-zero p ≡ padded (e - at) (getD input at 0)
-        zero-is = padded-zero p ∙ ap₂ padded size first
-
-        pub cost-padded : padded (e - at) (getD input at 0) ≡ true → NoColumn (drop at input)
-        cost-padded k = not-one (cost-zero p (zero-is ∙ k))
-
-        pub cost-read : padded (e - at) (getD input at 0) ≡ false → ReadCost input at (Is v e)
-        cost-read k =
-            let f = h .begun .from in
-            let w = h .begun .few in
-            let n = size in
-            let c = cost-is p (h .begun .are) (omega arith) (omega arith) (zero-is ∙ k) ∙ ap some (h .begun .makes) in
-            (omega arith, l, reads ∙ ap (λ x. put x b (rows (drop (e + 1) input))) c)
+        record {
+          is = cost-is p (h .begun .are) (omega arith) (omega arith) (zero-is ∙ q) ∙ ap some (h .begun .makes);
+          within = l;
+          ends = t;
+        }

@@ -18,29 +18,23 @@ pub enum Cost {
     Not,
 }
 
-fn wide(x: u8) -> u32
-    ensures { λ r. ⌜ r ≡ x ⌝ }
-{
-    x as u32
-}
-
 fn is_digit(b: u8) -> bool
     ensures { λ r. ⌜ r ≡ digit b ⌝ }
 {
-    if b < 48 {
+    if b < b'0' {
         return false;
     }
-    b <= 57
+    b <= b'9'
 }
 
 // Is it a space or a newline?
 fn is_separator(b: u8) -> bool
     ensures { λ r. ⌜ r ≡ separator b ⌝ }
 {
-    if b == 32 {
+    if b == b' ' {
         return true;
     }
-    b == 10
+    b == b'\n'
 }
 
 // Do so many digits, the first of them b, begin with an extra zero?
@@ -50,7 +44,7 @@ fn is_padded(count: usize, b: u8) -> bool
     if count < 2 {
         return false;
     }
-    b == 48
+    b == b'0'
 }
 
 // Where the line that begins here ends: its newline, or the input's end.
@@ -58,14 +52,7 @@ pub fn line_end(input: &[u8], at: usize) -> usize
     requires { ⌜ at ≤ length (now input) ⌝ }
     ensures { λ r. ⌜ LineEnd (now (input .entry)) at r ⌝ }
 {
-    let mut i = at;
-    while i < input.len() {
-        if input[i] == 10 {
-            return i;
-        }
-        i += 1;
-    }
-    i
+    characters::find(input, at, b'\n')
 }
 
 // The digits from here on, at most seven.
@@ -83,7 +70,7 @@ fn read_digits(input: &[u8], at: usize) -> Digits
         if i - at == 7 {
             return Digits { value: v, end: i };
         }
-        v = 10 * v + wide(b - 48);
+        v = 10 * v + (b - b'0') as u32;
         i += 1;
     }
     Digits { value: v, end: i }

@@ -5,6 +5,7 @@ use scan::Scanned;
 ghost use mathlib.Core.Path.{_≡_};
 ghost use Prim.Native.Nat.{_≤_};
 ghost use lib.ListN.{length};
+ghost use Rattle.read_print.specs.Answer.{longest};
 ghost use Rattle.read_print.specs.Promise.{Sized, Answers};
 ghost use Rattle.layout.specs.Answer.{Prints};
 
@@ -18,7 +19,7 @@ fn answer_sheet(
     work: &mut [u32],
     out: &mut [u8],
 ) -> usize
-    requires { ⌜ (length (now costs) ≡ 16384) × Sized (now form) (record { path = now path; word = now word; work = now work }) × (1300 ≤ length (now out)) ⌝ }
+    requires { ⌜ (length (now costs) ≡ 16384) × Sized (now form) (record { path = now path; word = now word; work = now work }) × (longest ≤ length (now out)) ⌝ }
     ensures { λ r. ⌜ Answers (Prints (now (input .entry))) (now (out .entry)) (now (out .exit)) r ⌝ }
 {
     let Scanned::Sheet {
@@ -49,7 +50,7 @@ fn answer_sheet(
 
 // Reads a sheet and prints its reading or refusal; the number of bytes. The memory that document 01 has the program lend is local.
 pub fn answer(input: &[u8], out: &mut [u8]) -> usize
-    requires { ⌜ 1300 ≤ length (now out) ⌝ }
+    requires { ⌜ longest ≤ length (now out) ⌝ }
     ensures { λ r. ⌜ Answers (Prints (now (input .entry))) (now (out .entry)) (now (out .exit)) r ⌝ }
 {
     let mut costs = [0u32; 16384];

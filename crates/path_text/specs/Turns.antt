@@ -1,12 +1,12 @@
 -- The labels from a place of a path on, and how long they can be as text. Assumes nothing.
 -- Used by the proofs; in print.
-use Prim.Native.Nat.{ℕ, suc, _+_, _*_, _<_, _≤_}
+use Prim.Native.Nat.{ℕ, _+_, _-_, _*_, _<_, _≤_}
 use mathlib.Core.Path.{_≡_, refl, ap}
 use mathlib.Core.List.{List, [], _∷_, _++_, flatMap}
 use native.Mathlib.Omega.{arith}
 use lib.Dec.{lit≤}
 use lib.ListN.{length, getD, drop, length-append}
-use Rattle.lists.specs.Each.{drop-here, drop-all}
+use Rattle.lists.specs.Each.{Each, drop-here, drop-all}
 use Rattle.numerals.specs.Numerals.{decimal}
 use Rattle.numerals.specs.Decimal.{decimal-short}
 use Rattle.path_text.specs.Labels.{following, spaced}
@@ -30,20 +30,20 @@ unfolding spaced
 spaced-some [] h = absurd (omega arith)
 spaced-some (x ∷ p) h = refl
 
--- How long they can be: a label has at most 3 digits.
+-- How long they can be where each label has at most 2 digits.
 
-following-short : (p : List ℕ) → ((i : ℕ) → getD p i 0 < 256) → length (following p) ≤ 4 * length p
+following-short : (p : List ℕ) → Each (λ x. x < 100) p → length (following p) ≤ 3 * length p
 unfolding following flatMap
 following-short [] h = lit≤ tt
 following-short (x ∷ p) h =
-    let a = decimal-short 2 x (let b = h 0 in omega arith) in
-    let b = following-short p (λ i. h (suc i)) in
+    let a = decimal-short 1 x (let b = h .0 in omega arith) in
+    let b = following-short p (h .1) in
     omega (arith, length-append (decimal x) (following p))
 
-pub spaced-short : (p : List ℕ) → ((i : ℕ) → getD p i 0 < 256) → length (spaced p) ≤ 4 * length p
+pub spaced-short : (p : List ℕ) → Each (λ x. x < 100) p → length (spaced p) ≤ 3 * length p - 1
 unfolding spaced
 spaced-short [] h = lit≤ tt
 spaced-short (x ∷ p) h =
-    let a = decimal-short 2 x (let b = h 0 in omega arith) in
-    let b = following-short p (λ i. h (suc i)) in
+    let a = decimal-short 1 x (let b = h .0 in omega arith) in
+    let b = following-short p (h .1) in
     omega (arith, length-append (decimal x) (following p))

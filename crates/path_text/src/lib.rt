@@ -1,7 +1,6 @@
 // A path as text (document 01, "Output in full"): its labels in decimal, one space between, into lent memory.
 use numerals::put;
 use numerals::put_decimal;
-ghost use mathlib.Core.Path.{_≡_};
 ghost use mathlib.Core.List.{_∷_};
 ghost use Prim.Native.Nat.{_+_, _≤_};
 ghost use lib.ListN.{length, drop};
@@ -9,19 +8,13 @@ ghost use Rattle.lists.specs.Written.{Stored};
 ghost use Rattle.numerals.specs.Numerals.{decimal};
 ghost use Rattle.path_text.specs.Labels.{following, spaced};
 
-fn wide(x: u8) -> u32
-    ensures { λ r. ⌜ r ≡ x ⌝ }
-{
-    x as u32
-}
-
 // Writes a label behind a space.
 fn put_next(x: u8, out: &mut [u8], n: usize) -> usize
     requires { ⌜ n + length (32 ∷ decimal x) ≤ length (now out) ⌝ }
     ensures { λ r. ⌜ Stored (32 ∷ decimal x) n (now (out .entry)) (now (out .exit)) r ⌝ }
 {
     let m = put(b' ', out, n);
-    put_decimal(wide(x), out, m)
+    put_decimal(x as u32, out, m)
 }
 
 // Writes the labels behind the first, each behind a space.
@@ -46,6 +39,6 @@ pub fn put_labels(path: &[u8], out: &mut [u8], n: usize) -> usize
     if path.len() == 0 {
         return n;
     }
-    let m = put_decimal(wide(path[0]), out, n);
+    let m = put_decimal(path[0] as u32, out, n);
     put_following(path, out, m)
 }

@@ -1,11 +1,16 @@
 -- What is written from the front on, and how long the printed lines can be. Assumes nothing.
--- Used by the proofs.
+-- Used by the proofs; in layout and read_print.
 use Prim.Native.Nat.{ℕ, _+_, _<_, _≤_}
 use mathlib.Core.Path.{_≡_}
 use mathlib.Core.List.{List, [], _∷_, _++_, append-nil}
 use native.Mathlib.Omega.{arith}
-use lib.ListN.{length, getD, length-append}
+use lib.Dec.{lit<}
+use lib.ListN.{length, length-append}
+use Rattle.lists.specs.Each.{Each}
 use Rattle.lists.specs.Written.{Wrote, Stored, filling-none, filling-stored, filling-all}
+use Rattle.refusal.specs.declared.Refusal.{Refusal}
+use Rattle.refusal.specs.declared.Refusal.the-variants as row
+use Rattle.refusal.specs.Number.{numberOf}
 use Rattle.numerals.specs.Numerals.{decimal}
 use Rattle.numerals.specs.Decimal.{decimal-short}
 use Rattle.path_text.specs.Labels.{spaced}
@@ -17,21 +22,43 @@ pub stored-wrote : (whole before after : List ℕ) (r : ℕ) → length whole �
 stored-wrote whole before after r room s =
     filling-all whole before after r (filling-stored whole before whole before after [] 0 r (rw append-nil (filling-none whole before room)) s)
 
--- How long each line can be: a price has at most 10 digits.
+-- How long the lines can be.
 
 length-line : (b : List ℕ) → length (line b) ≡ length b + 1
 length-line b = length-append b (10 ∷ [])
 
+-- a price of at most 9 digits, a word of at most 255 characters, at most 255 labels of at most 2 digits
 pub reading-short :
-    (price : ℕ) (word path : List ℕ) → price < 4294967296 → length word ≤ 255 → length path ≤ 255 → ((i : ℕ) → getD path i 0 < 256)
-    → length (reading-lines price word path) ≤ 1300
+    (price : ℕ) (word path : List ℕ) → price < 1000000000 → length word ≤ 255 → length path ≤ 255 → Each (λ x. x < 100) path
+    → length (reading-lines price word path) ≤ 1031
 reading-short price word path a b c h =
-    let p = decimal-short 9 price (omega arith) in
+    let p = decimal-short 8 price (omega arith) in
     let q = spaced-short path h in
     let l = length-line (decimal price) in
     let m = length-line word in
     let n = length-line (spaced path) in
     omega (arith, length-append (line (decimal price)) (line word ++ line (spaced path)), length-append (line word) (line (spaced path)))
 
-pub refusal-short : (n : ℕ) → n < 4294967296 → length (refusal-line n) ≤ 1300
-refusal-short n a = let p = decimal-short 9 n (omega arith) in let l = length-line (decimal n) in omega arith
+-- a number of at most 2 digits
+pub refusal-short : (n : Refusal) → length (refusal-line (numberOf n)) ≤ 11
+refusal-short n = let p = decimal-short 1 (numberOf n) (few n) in let l = length-line (decimal (numberOf n)) in omega arith
+  where
+    few : (n : Refusal) → numberOf n < 100
+    few row.Alphabet = lit< tt
+    few row.TextLength = lit< tt
+    few row.TextByte = lit< tt
+    few row.MisplacedSign = lit< tt
+    few row.Depth = lit< tt
+    few row.Count = lit< tt
+    few row.Bracket = lit< tt
+    few row.Foreign = lit< tt
+    few row.Letters = lit< tt
+    few row.FormMemory = lit< tt
+    few row.BadForm = lit< tt
+    few row.Matrix = lit< tt
+    few row.Cost = lit< tt
+    few row.OutputMemory = lit< tt
+    few row.Work = lit< tt
+    few row.NoReading = lit< tt
+    few row.Label = lit< tt
+    few row.Sheet = lit< tt

@@ -39,9 +39,9 @@ fn put_path_line(path: &[u8], out: &mut [u8], n: usize) -> usize
     put(b'\n', out, m)
 }
 
-// Prints a reading: its price, word and path, a line each; the number of bytes. 1,300 bytes hold every reading.
+// Prints a reading: its price, word and path, a line each; the number of bytes.
 pub fn print_reading(price: u32, word: &[u8], path: &[u8], out: &mut [u8]) -> usize
-    requires { ⌜ (length (now word) ≤ 255) × (length (now path) ≤ 255) × (1300 ≤ length (now out)) ⌝ }
+    requires { ⌜ length (reading-lines price (now word) (now path)) ≤ length (now out) ⌝ }
     ensures { λ r. ⌜ Wrote (reading-lines price (now (word .entry)) (now (path .entry))) (now (out .entry)) (now (out .exit)) r ⌝ }
 {
     let n = put_number_line(price, out, 0);
@@ -51,7 +51,7 @@ pub fn print_reading(price: u32, word: &[u8], path: &[u8], out: &mut [u8]) -> us
 
 // Prints a refusal's line; the number of bytes.
 pub fn print_refusal(r: Refusal, out: &mut [u8]) -> usize
-    requires { ⌜ 1300 ≤ length (now out) ⌝ }
+    requires { ⌜ length (refusal-line (numberOf r)) ≤ length (now out) ⌝ }
     ensures { λ n. ⌜ Wrote (refusal-line (numberOf r)) (now (out .entry)) (now (out .exit)) n ⌝ }
 {
     let n = put_bytes(b"refused ", out, 0);

@@ -14,7 +14,7 @@ pub fn print_answer(
     word: &[u8],
     out: &mut [u8],
 ) -> usize
-    requires { ⌜ Shown answer count (now path) (now word) × (length (now path) ≤ 255) × (length (now word) ≤ 255) × (1300 ≤ length (now out)) ⌝ }
+    requires { ⌜ Shown answer count (now path) (now word) × (length (answer-lines answer count (now path) (now word)) ≤ length (now out)) ⌝ }
     ensures { λ r. ⌜ Wrote (answer-lines answer count (now (path .entry)) (now (word .entry))) (now (out .entry)) (now (out .exit)) r ⌝ }
 {
     match answer {

@@ -1,7 +1,6 @@
 -- What the sheet program prints for an alphabet, a text and a matrix (document 01, "Confidences and the sheet program" and "What is turned
--- away"): "the lowest number", and past the checks the best reading of the matrix, or 16 where there is none. No memory is in it.
--- Assumes nothing.
--- Used by the contracts, the proofs, Promise and Steps; in layout.
+-- away"): "the lowest number", and past the checks the best reading, or 16 where there is none. No memory is in it. Assumes nothing.
+-- Used by the contracts, the proofs, Promise, Longest and Steps; in layout.
 use Prim.Native.Nat.{ℕ}
 use mathlib.Core.Path.{_≡_, sym, ap, _∙_}
 use mathlib.Core.Option.{Option, some, none}
@@ -28,6 +27,10 @@ form-room = 16384
 
 abbrev pub lent-rooms : Rooms
 lent-rooms = record { path = 255; word = 255; work = 16384 }
+
+-- output memory of this many bytes is enough
+abbrev pub longest : ℕ
+longest = 1031
 
 -- the lines of an outcome
 abbrev pub outcome-lines : (A : List ℕ) (M : Matrix) → Option (List ℕ) → List ℕ

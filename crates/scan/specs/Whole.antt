@@ -94,7 +94,7 @@ module _ (input : List ℕ) (l : length input ≤ 65535) where
       module _ (before after : List ℕ) where
         pub sheet-unfit : StoredMatrix (a + 1) input (e + 1) before after body.Bad → sheetOf input ≡ none
         unfolding laid provided
-        sheet-unfit s = both-lines ∙ by (rows (drop (e + 1) input)) s
+        sheet-unfit s = both-lines ∙ by (rows (drop (e + 1) input)) (s .0)
           where
             by :
                 (o : Option (List (List ℕ))) → ((cs : List (List ℕ)) → o ≡ some cs → fitting cs ≡ true → ⊥)

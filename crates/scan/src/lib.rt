@@ -34,7 +34,7 @@ pub fn scan(input: &[u8], costs: &mut [u32]) -> Scanned
     if e == input.len() {
         return Scanned::Bad;
     }
-    let Body::Matrix(width, count) = store_matrix(input, e + 1, costs, second) else {
+    let Body::Matrix(width, count) = store_matrix(input, e + 1, costs, a + 1) else {
         return Scanned::Bad;
     };
     Scanned::Sheet {

@@ -7,7 +7,7 @@ use libc::STDOUT_FILENO;
 fn main() {
     // One byte more than a sheet may have, so that the byte too many is seen.
     let mut input = [0u8; 65536];
-    let mut out = [0u8; 1300];
+    let mut out = [0u8; 1031];
     let n = io::read_full(STDIN_FILENO, &mut input);
     let m = layout::answer(&input[..n], &mut out);
     io::write_all(STDOUT_FILENO, &out[..m]);

@@ -1,5 +1,5 @@
 -- Where the parts of a sheet are in its input, and how many costs it has: what a caller of `scan` relies on. Assumes nothing.
--- Used in layout.
+-- Used in digits and layout.
 use mathlib.Core.Path.{_≡_, refl, ap, _∙_, subst}
 use mathlib.Core.Option.{Option, some, none}
 use mathlib.Core.List.{List, [], _∷_, flatten}
@@ -17,7 +17,7 @@ use Rattle.sheet_text.specs.Sheet.{every, linesOf, columnOf, Sheet, equa
 use Rattle.sheet_text.specs.Rows.{FirstLine, lines-back}
 
 -- what was provided was given, and the condition holds
-provided-back : {X : Type 0} (t : Bool) (x : Option X) (y : X) → provided t x ≡ some y → (t ≡ true) × (x ≡ some y)
+pub provided-back : {X : Type 0} (t : Bool) (x : Option X) (y : X) → provided t x ≡ some y → (t ≡ true) × (x ≡ some y)
 unfolding provided
 provided-back true x y e = (refl, e)
 provided-back false x y e = let z : _≡_ {A = ℕ} 0 1 = cc in absurd (omega arith)

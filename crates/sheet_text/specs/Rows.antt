@@ -6,7 +6,7 @@ use mathlib.Core.Option.{Option, some, none}
 use mathlib.Core.List.{List, [], _∷_, _++_, append-assoc, append-nil}
 use mathlib.Core.Bool.{Bool, true, false, cond}
 use mathlib.Core.Logic.{_⊎_, inl, inr, ⊎-elim}
-use Prim.Native.Nat.{ℕ, _+_, _<_}
+use Prim.Native.Nat.{ℕ, _<_}
 use native.Mathlib.Omega.{arith}
 use lib.ListN.{length}
 use lib.Dec.{eqb}
@@ -223,32 +223,84 @@ rows-space p s f g =
         ∙ ap (λ q. both q (every columnOf ls)) (column-more p l g)
         ∙ beside-both (costOf p) (columnOf l) (every columnOf ls)
 
--- no cost begins with the part that is read
-pub rows-unread :
-    (p s : List ℕ) → 0 < length p → Free 10 p → Free 32 p → ((t : List ℕ) → costOf (p ++ t) ≡ none) → rows (p ++ s) ≡ none
-unfolding columnsOf longer every both columnOf ahead
-rows-unread [] s l f g n = absurd (omega arith)
-rows-unread (a ∷ p) s l f g n = ap columnsOf (lines-longer a p s f) ∙ by (linesOf s)
-  where
-    column : (l : List ℕ) → columnOf ((a ∷ p) ++ l) ≡ none
-    column l = let o = some-piece 32 l in ap (every costOf) (pieces-ahead 32 (a ∷ p) l g) ∙ rw (o .is, n (o .first))
+-- the first piece is the whole text, or a separator stands behind it
+abbrev Leads : ℕ → List ℕ → List ℕ → Type 0
+Leads c p s = (s ≡ p) ⊎ ((r : List ℕ) × (s ≡ p ++ (c ∷ r)))
 
-    by : (o : Option (List (List ℕ))) → columnsOf (longer (a ∷ p) o) ≡ none
-    by none = refl
-    by (some []) = refl
-    by (some (l ∷ ls)) = ap (λ c. both c (every columnOf ls)) (column l)
+piece-back : (c : ℕ) (s p : List ℕ) (ps : List (List ℕ)) → pieces c s ≡ p ∷ ps → Leads c p s
+unfolding pieces onto
+piece-back c [] p ps e = inl cc
+piece-back c (b ∷ s) p ps e =
+    let o = some-piece c s in ⊎-elim ends (λ n. goes-on n o (piece-back c s (o .first) (o .others) (o .is))) (eq-or-ne b c)
+  where
+    ends : b ≡ c → Leads c p (b ∷ s)
+    ends q =
+        let h : [] ∷ pieces c s ≡ p ∷ ps = rw (eq-eqb b c q) at e in
+        let k : [] ≡ p = cc in
+        inr (s, ap (λ a. a ∷ s) q ∙ ap (λ x. x ++ (c ∷ s)) k)
+
+    goes-on : (b ≡ c → ⊥) → (o : Some c s) → Leads c (o .first) s → Leads c p (b ∷ s)
+    goes-on n o l =
+        let h : (b ∷ o .first) ∷ o .others ≡ p ∷ ps = rw (ne-eqb b c n, o .is) at e in
+        let k : b ∷ o .first ≡ p = cc in
+        ⊎-elim (λ q. inl (ap (λ x. b ∷ x) q ∙ k)) (λ r. inr (r .0, ap (λ x. b ∷ x) (r .1) ∙ ap (λ x. x ++ (c ∷ r .0)) k)) l
+
+both-front : {A : Type 0} (x : Option A) (o : Option (List A)) (ys : List A) → both x o ≡ some ys → (y : A) × (x ≡ some y)
+unfolding both
+both-front none o ys e = let z : _≡_ {A = ℕ} 0 1 = cc in absurd (omega arith)
+both-front (some a) o ys e = (a, refl)
+
+-- a rest that has a column begins with a cost, and a separator stands behind it
+pub record FirstCost (s : List ℕ) : Type 0 where
+  pub text : List ℕ
+  pub cost : ℕ
+  pub separator : ℕ
+  pub behind : List ℕ
+  pub splits : s ≡ text ++ (separator ∷ behind)
+  pub is-cost : costOf text ≡ some cost
+  pub is-separator : (separator ≡ 32) ⊎ (separator ≡ 10)
+
+pub rows-back : (s c : List ℕ) (cs : List (List ℕ)) → rows s ≡ some (c ∷ cs) → FirstCost s
+unfolding columnsOf columnOf every
+rows-back s c cs e = by (linesOf s) refl e
+  where
+    first : (l : List ℕ) (ls : List (List ℕ)) → FirstLine s l ls → Some 32 l → (d : List ℕ) → columnOf l ≡ some d → FirstCost s
+    first l ls f o d h =
+        let g : both (costOf (o .first)) (every costOf (o .others)) ≡ some d = ap (every costOf) (sym (o .is)) ∙ h in
+        let x = both-front (costOf (o .first)) (every costOf (o .others)) d g in
+        ⊎-elim
+        (λ q.
+        record {
+          text = o .first;
+          cost = x .0;
+          separator = 10;
+          behind = f .behind;
+          splits = f .splits ∙ ap (λ t. t ++ (10 ∷ f .behind)) q;
+          is-cost = x .1;
+          is-separator = inr refl;
+        })
+        (λ r.
+        record {
+          text = o .first;
+          cost = x .0;
+          separator = 32;
+          behind = r .0 ++ (10 ∷ f .behind);
+          splits = f .splits ∙ ap (λ t. t ++ (10 ∷ f .behind)) (r .1) ∙ append-assoc (o .first) (32 ∷ r .0) (10 ∷ f .behind);
+          is-cost = x .1;
+          is-separator = inl refl;
+        })
+        (piece-back 32 l (o .first) (o .others) (o .is))
+
+    by : (o : Option (List (List ℕ))) → linesOf s ≡ o → columnsOf o ≡ some (c ∷ cs) → FirstCost s
+    by none q h = let z : _≡_ {A = ℕ} 0 1 = cc in absurd (omega arith)
+    by (some []) q h = let z : _≡_ {A = ℕ} 0 1 = cc in absurd (omega arith)
+    by (some (l ∷ ls)) q h =
+        let x = both-front (columnOf l) (every columnOf ls) (c ∷ cs) h in
+        first l ls (lines-back s l ls q) (some-piece 32 l) (x .0) (x .1)
 
 -- what a cost makes of the columns behind its separator b
 abbrev pub put : Option ℕ → ℕ → Option (List (List ℕ)) → Option (List (List ℕ))
 put x b o = cond (eqb b 10) (both (both x (some [])) o) (beside x o)
-
-pub put-none : (b : ℕ) (o : Option (List (List ℕ))) → put none b o ≡ none
-unfolding both beside
-put-none b o = by (eqb b 10)
-  where
-    by : (t : Bool) → cond t (both (both none (some [])) o) (beside none o) ≡ none
-    by true = refl
-    by false = refl
 
 pub rows-put :
     (p : List ℕ) (b : ℕ) (s : List ℕ) → Free 10 p → Free 32 p → (b ≡ 32) ⊎ (b ≡ 10) → rows (p ++ (b ∷ s)) ≡ put (costOf p) b (rows s)

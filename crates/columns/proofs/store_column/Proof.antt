@@ -7,7 +7,7 @@ use native.Mathlib.Omega.{arith}
 use borrow.Author.Needs.{needs}
 use lib.ListN.{length, set, length-set}
 use denote.Ref.{now}
-use Rattle.digits.specs.Digits.{ReadCost}
+use Rattle.digits.specs.Digits.{ReadCost, cost-begins}
 use Rattle.digits.specs.declared.Cost.the-variants.{Is}
 use Rattle.columns.specs.declared.Column.{Column}
 use Rattle.columns.specs.declared.Column.the-variants.{Ends, Bad}
@@ -43,7 +43,7 @@ returns c =
     let l = c .before .before .before .loop in
     let input = now (c .before .before .before .before .before .before .args .input) in
     let not = subst (ReadCost input (l .i)) (c .enum-told .given .1) (c .before .before .read-cost .ensures) in
-    l .inv .3 (l .costs) Bad (column-bad input (l .i) (l .n) (l .costs) (l .costs) not)
+    l .inv .3 (l .costs) Bad (column-bad input (l .i) (l .n) (l .costs) not)
 
 -- the cost that was read
 cost :
@@ -63,7 +63,7 @@ returns-2 c =
     let input = now (c .before .before .before .before .before .before .before .before .args .input) in
     let v = c .before .before .v .given in
     l .inv .3 (l .costs) Bad
-    (column-full input (l .i) (l .n) (l .costs) (v .0 .0) (v .0 .1 .0) (cost (c .before .before)) (l .costs) (c .if1 .taken))
+    (column-full input (l .i) (l .n) (l .costs) (v .0 .0) (v .0 .1 .0) (cost (c .before .before)) (c .if1 .taken))
 
 mul-costs : tie.Need-mul-costs Inv-loop μ-loop
 mul-costs c = omega arith
@@ -81,10 +81,10 @@ add-n : tie.Need-add-n Inv-loop μ-loop
 add-n c = omega arith
 
 add-i : tie.Need-add-i Inv-loop μ-loop
-add-i c = let h = cost (c .before .before) .1 in omega arith
+add-i c = let h = cost (c .before .before) .within in omega arith
 
 shared-slice-read-if2 : tie.Need-shared-slice-read-if2 Inv-loop μ-loop
-shared-slice-read-if2 c = cost (c .before .before .before) .1
+shared-slice-read-if2 c = cost (c .before .before .before) .within
 
 same-length-3 : tie.Need-same-length-3 Inv-loop μ-loop
 same-length-3 c = let l = c .before .before .before .before .before .before .before .loop in length-set (l .costs) (l .n) _ ∙ l .inv .2
@@ -101,7 +101,11 @@ returns-3 c =
     (c .if2 .taken))
 
 loop-less : tie.Need-loop-less Inv-loop μ-loop
-loop-less c = let h = cost (c .before .before .before .before) .0 in let k = cost (c .before .before .before .before) .1 in omega arith
+loop-less c =
+    let e = c .before .before .before .before in
+    let h = cost-begins _ _ _ _ (cost e) in
+    let k = cost e .within in
+    omega arith
 
 loop-again : tie.Need-loop-again Inv-loop μ-loop
 loop-again c =
@@ -109,13 +113,13 @@ loop-again c =
     let input = now (c .before .before .before .before .before .before .before .before .before .before .args .input) in
     let v = c .before .before .before .before .v .given in
     let h = cost (c .before .before .before .before) in
-    let within = h .1 in
+    let within = h .within in
     let below = l .inv .1 in
     let more = c .before .before .if1 .left in (
       omega arith,
       omega arith,
       length-set (l .costs) (l .n) (v .0 .0) ∙ l .inv .2,
-      λ after r s. l .inv .3 after r (column-more input (l .i) (l .n) (l .costs) (v .0 .0) (v .0 .1 .0) h after r (c .if2 .left) s),
+      λ after r s. l .inv .3 after r (column-more input (l .i) (l .n) (l .costs) (v .0 .0) (v .0 .1 .0) h after r (omega arith) (c .if2 .left) s),
     )
 
 pub store-column-spec : {M : Type 1} → statement M

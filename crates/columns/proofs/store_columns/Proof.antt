@@ -50,7 +50,7 @@ returns c =
     let input = now (start .args .input) in
     let bad = subst (StoredColumn input (l .i) (l .m) (l .costs) (s .last .1 .1 .0)) (c .enum-told .given .1) (s .ensures) in
     l .inv .4 (s .last .1 .1 .0) Bad
-    (columns-bad (start .args .width) input (l .i) (l .m) (l .n) (l .costs) (s .last .1 .1 .0) (s .last .1 .1 .0)
+    (columns-bad (start .args .width) input (l .i) (l .m) (l .n) (l .costs) (s .last .1 .1 .0)
     (c .before .before .before .before .before .before .loop-test .taken) bad)
 
 -- the column that was stored
@@ -84,7 +84,7 @@ returns-2 c =
     let after = e .before .before .before .before .store-column .last .1 .1 .0 in
     let g = e .end .given .0 in
     l .inv .4 after Bad
-    (columns-unequal (start .args .width) (now (start .args .input)) (l .i) (l .m) (l .n) (l .costs) after (g .0) (g .1 .0) (column e) after
+    (columns-unequal (start .args .width) (now (start .args .input)) (l .i) (l .m) (l .n) (l .costs) after (g .0) (g .1 .0) (column e)
     (c .if1 .taken))
 
 add-n : tie.Need-add-n Inv-loop μ-loop

@@ -12,7 +12,7 @@ use Rattle.columns.proofs.store_matrix.Tie as tie
 returns : tie.Need-returns
 returns c =
     let a = c .before .before .before .args in
-    matrix-none (a .other) (now (a .input)) (a .at) (now (a .costs)) (c .if1 .taken)
+    matrix-none (a .width-if-none) (now (a .input)) (a .at) (now (a .costs)) (c .if1 .taken)
 
 store-column-requires : tie.Need-store-column-requires
 store-column-requires c κs = search needs
@@ -33,7 +33,7 @@ returns-2 c =
     let s = c .before .before .before .before .store-column in
     let within = start .pre .0 in
     let more = c .before .before .before .before .before .before .if1 .left in
-    matrix-bad (a .other) (now (a .input)) (a .at) (now (a .costs)) (s .last .1 .1 .0) (s .last .1 .1 .0) (omega arith)
+    matrix-bad (a .width-if-none) (now (a .input)) (a .at) (now (a .costs)) (s .last .1 .1 .0) (omega arith)
     (subst (StoredColumn (now (a .input)) (a .at) 0 (now (a .costs)) (s .last .1 .1 .0)) (c .enum-told .given .1) (s .ensures))
 
 -- the first column that was stored
@@ -73,7 +73,7 @@ returns-3 c =
     let middle = e .before .before .before .before .store-column .last .1 .1 .0 in
     let g = e .end .given .0 in
     let s = c .before .before .before .before .store-columns in
-    matrix-unequal (a .other) (now (a .input)) (a .at) (now (a .costs)) middle (g .0) (g .1 .0) (first e) (s .last .1 .1 .0)
+    matrix-unequal (a .width-if-none) (now (a .input)) (a .at) (now (a .costs)) middle (g .0) (g .1 .0) (first e) (s .last .1 .1 .0)
     (subst (StoredColumns (g .1 .0) (now (a .input)) (g .0) (g .1 .0) 1 middle (s .last .1 .1 .0)) (c .enum-told2 .given .1) (s .ensures))
 
 same-length-3 : tie.Need-same-length-3
@@ -87,7 +87,7 @@ returns-4 c =
     let middle = e .before .before .before .before .store-column .last .1 .1 .0 in
     let g = e .end .given .0 in
     let s = c .before .before .before .before .before .store-columns in
-    matrix-is (a .other) (now (a .input)) (a .at) (now (a .costs)) middle (g .0) (g .1 .0) (first e) (s .last .1 .1 .0)
+    matrix-is (a .width-if-none) (now (a .input)) (a .at) (now (a .costs)) middle (g .0) (g .1 .0) (first e) (s .last .1 .1 .0)
     (c .before .n .given .0 .0) (start .pre .1)
     (subst (StoredColumns (g .1 .0) (now (a .input)) (g .0) (g .1 .0) 1 middle (s .last .1 .1 .0)) (c .before .n .given .1) (s .ensures))
 

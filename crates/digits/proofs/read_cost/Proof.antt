@@ -27,15 +27,14 @@ returns-2 : tie.Need-returns-2
 returns-2 c =
     let a = c .before .before .before .before .before .before .args in
     let d = c .before .before .before .before .read-digits in
-    cost-unread (now (a .input)) (a .at) (d .result .end) (d .result .value) (d .ensures) (omega arith)
+    cost-unread (now (a .input)) (a .at) (d .result .end) (d .result .value) (d .ensures)
     (sym (c .before .is-separator .ensures) ∙ not-true _ (c .if2 .taken))
 
 returns-3 : tie.Need-returns-3
 returns-3 c =
     let a = c .before .before .before .before .before .before .before .args in
     let d = c .before .before .before .before .before .read-digits in
-    cost-missing (now (a .input)) (a .at) (d .result .end) (d .result .value) (d .ensures) (omega arith)
-    (sym (c .before .before .is-separator .ensures) ∙ not-false _ (c .before .if2 .left)) (c .if3 .taken)
+    cost-missing (now (a .input)) (a .at) (d .result .end) (d .result .value) (d .ensures) (c .if3 .taken)
 
 sub-is-padded : tie.Need-sub-is-padded
 sub-is-padded c = search needs
@@ -50,17 +49,16 @@ returns-4 : tie.Need-returns-4
 returns-4 c =
     let a = c .before .before .before .before .before .before .before .before .before .before .args in
     let d = c .before .before .before .before .before .before .before .before .read-digits in
-    cost-padded (now (a .input)) (a .at) (d .result .end) (d .result .value) (d .ensures) (omega arith)
-    (sym (c .before .before .before .before .before .is-separator .ensures) ∙ not-false _ (c .before .before .before .before .if2 .left))
-    (c .before .before .before .if3 .left) (sym (c .before .is-padded .ensures) ∙ c .if4 .taken)
+    cost-padded (now (a .input)) (a .at) (d .result .end) (d .result .value) (d .ensures) (c .before .before .before .if3 .left)
+    (sym (c .before .is-padded .ensures) ∙ c .if4 .taken)
 
 returns-5 : tie.Need-returns-5
 returns-5 c =
     let a = c .before .before .before .before .before .before .before .before .before .before .args in
     let d = c .before .before .before .before .before .before .before .before .read-digits in
-    cost-read (now (a .input)) (a .at) (d .result .end) (d .result .value) (d .ensures) (omega arith)
+    cost-read (now (a .input)) (a .at) (d .result .end) (d .result .value) (d .ensures) (c .before .before .before .if3 .left) (omega arith)
     (sym (c .before .before .before .before .before .is-separator .ensures) ∙ not-false _ (c .before .before .before .before .if2 .left))
-    (c .before .before .before .if3 .left) (sym (c .before .is-padded .ensures) ∙ c .if4 .left)
+    (sym (c .before .is-padded .ensures) ∙ c .if4 .left)
 
 pub read-cost-spec : {M : Type 1} → statement M
 read-cost-spec =

@@ -62,22 +62,26 @@ small c =
     let a = at-loop .before .before .args in
     begun-small (now (a .input)) (a .at) (at-loop .loop .i) (at-loop .loop .v) (at-loop .loop .inv) (few c)
 
+high :
+    (c : tie.Else2 Inv-loop μ-loop)
+    → getD (now (c .before .before .before .before .before .before .before .args .input)) (c .before .before .before .before .before .loop .i) 0 ≤ 57
+high c =
+    let at-loop = c .before .before .before .before .before in
+    digit-range (getD (now (at-loop .before .before .args .input)) (at-loop .loop .i) 0) (is-one (c .before)) .1
+
 mul-v : tie.Need-mul-v Inv-loop μ-loop
 mul-v c = let h = small c in omega arith
 
-sub-wide : tie.Need-sub-wide Inv-loop μ-loop
-sub-wide c = digit-range _ (is-one (c .before)) .0
+sub-v : tie.Need-sub-v Inv-loop μ-loop
+sub-v c = digit-range _ (is-one (c .before)) .0
 
-wide-requires : tie.Need-wide-requires Inv-loop μ-loop
-wide-requires c κs = tt
+cast-v : tie.Need-cast-v Inv-loop μ-loop
+cast-v c = let d = high c in omega arith
 
 add-v : tie.Need-add-v Inv-loop μ-loop
 add-v c =
-    let at-loop = c .before .before .before .before .before .before in
-    let b = getD (now (at-loop .before .before .args .input)) (at-loop .loop .i) 0 in
-    let h = small (c .before) in
-    let d : b ≤ 57 = digit-range b (is-one (c .before .before)) .1 in
-    let w : c .wide .result ≡ b - 48 = c .wide .ensures in
+    let h = small c in
+    let d = high c in
     omega arith
 
 add-i : tie.Need-add-i Inv-loop μ-loop
@@ -88,11 +92,10 @@ loop-less c = omega arith
 
 loop-again : tie.Need-loop-again Inv-loop μ-loop
 loop-again c =
-    let at-loop = c .before .before .before .before .before .before in
+    let at-loop = c .before .before .before .before .before in
     let a = at-loop .before .before .args in
-    rw (c .wide .ensures)
-    (begun-more (now (a .input)) (a .at) (at-loop .loop .i) (at-loop .loop .v) (at-loop .loop .inv)
-    (c .before .before .before .before .before .loop-test .taken) (few (c .before)) (is-one (c .before .before)))
+    begun-more (now (a .input)) (a .at) (at-loop .loop .i) (at-loop .loop .v) (at-loop .loop .inv)
+    (c .before .before .before .before .loop-test .taken) (few c) (is-one (c .before))
 
 returns-3 : tie.Need-returns-3 Inv-loop μ-loop
 returns-3 c =
@@ -113,8 +116,8 @@ read-digits-spec =
     sub-if2
     returns-2
     mul-v
-    sub-wide
-    wide-requires
+    sub-v
+    cast-v
     add-v
     add-i
     loop-less

@@ -8,9 +8,11 @@ use lib.ListN.{take, drop}
 use lib.Seq.{length-take-le}
 use denote.Ref.{now}
 use borrow.Author.Needs.{needs}
+use Rattle.refusal.specs.declared.Refusal.the-variants.{Sheet}
 use Rattle.reading.specs.Matrix.{matrix}
 use Rattle.scan.specs.Answers.{Scans}
 use Rattle.print.specs.Lines.{refusal-line}
+use Rattle.print.specs.Lengths.{refusal-short}
 use Rattle.read_print.specs.Answer.{PrintsReading}
 use Rattle.read_print.specs.Promise.{answers, answers-as}
 use Rattle.layout.specs.Answer.{Prints}
@@ -41,7 +43,7 @@ enum-told : tie.Need-enum-told
 enum-told c = search needs
 
 print-refusal-requires : tie.Need-print-refusal-requires
-print-refusal-requires c κs = search needs
+print-refusal-requires c κs = let l = refusal-short Sheet in omega arith
 
 same-length : tie.Need-same-length
 same-length c = search needs

@@ -1,9 +1,8 @@
 -- `path_text::put_labels` meets its contract: nothing, or the first label and the others behind it. Assumes nothing.
-use Prim.Native.Nat.{_+_}
-use mathlib.Core.Path.{_≡_, refl, sym, ap, _∙_}
+use mathlib.Core.Path.{_≡_, refl}
 use mathlib.Core.List.{_++_}
 use native.Mathlib.Omega.{arith}
-use lib.ListN.{drop}
+use lib.ListN.{getD, drop}
 use denote.Ref.{now}
 use borrow.Author.Needs.{needs}
 use Rattle.numerals.specs.Numerals.{decimal}
@@ -18,46 +17,44 @@ returns c =
     let s = c .before .before .before in
     rw (spaced-none (now (s .args .path)) (omega arith)) (record { next = omega arith; memory = refl })
 
-shared-slice-read-wide : tie.Need-shared-slice-read-wide
-shared-slice-read-wide c = search needs
+shared-slice-read-put-decimal : tie.Need-shared-slice-read-put-decimal
+shared-slice-read-put-decimal c = search needs
 
-wide-requires : tie.Need-wide-requires
-wide-requires c κs = search needs
+cast-put-decimal : tie.Need-cast-put-decimal
+cast-put-decimal c = let b = c .shared-slice-known2 .given 0 in omega arith
 
--- the first label, as it was widened, and the others
-parts : (c : tie.After-wide) → spaced (now (c .before .before .before .before .before .args .path)) ≡ decimal (c .wide .result) ++ following (drop 1 (now (c .before .before .before .before .before .args .path)))
-parts c =
-    let p = now (c .before .before .before .before .before .args .path) in
-    spaced-some p (omega arith) ∙ ap (λ x. decimal x ++ following (drop 1 p)) (sym (c .wide .ensures))
+-- the first label and the others
+parts : (c : tie.After-put-decimal-arg) → spaced (now (c .before .before .before .before .before .args .path)) ≡ decimal (getD (now (c .before .before .before .before .before .args .path)) 0 0) ++ following (drop 1 (now (c .before .before .before .before .before .args .path)))
+parts c = spaced-some (now (c .before .before .before .before .before .args .path)) (omega arith)
 
 put-decimal-requires : tie.Need-put-decimal-requires
 put-decimal-requires c κs =
-    let s = c .before .before .before .before .before .before in
-    let w = c .before in
+    let s = c .before .before .before .before .before in
     let p = now (s .args .path) in
-    front-room (spaced p) (decimal (w .wide .result)) (following (drop 1 p)) (now (s .args .out)) (s .args .n) (parts w) (s .pre)
+    front-room (spaced p) (decimal (getD p 0 0)) (following (drop 1 p)) (now (s .args .out)) (s .args .n) (parts c) (s .pre)
 
 put-following-requires : tie.Need-put-following-requires
 put-following-requires c κs =
-    let s = c .before .before .before .before .before .before .before .before .before .before in
-    let w = c .before .before .before .before .before in
+    let w = c .before .before .before .before in
+    let s = w .before .before .before .before .before in
     let d = c .before .before .before .put-decimal in
     let p = now (s .args .path) in
-    back-room (spaced p) (decimal (w .wide .result)) (following (drop 1 p)) (now (s .args .out)) (s .args .n) (parts w) (s .pre) (d .last .1 .0) (d .result) (d .ensures)
+    back-room (spaced p) (decimal (getD p 0 0)) (following (drop 1 p)) (now (s .args .out)) (s .args .n) (parts w) (s .pre) (d .last .1 .0) (d .result) (d .ensures)
 
 same-length : tie.Need-same-length
 same-length c = search needs
 
 returns-2 : tie.Need-returns-2
 returns-2 c =
-    let s = c .before .before .before .before .before .before .before .before .before .before .before .before .before in
-    let w = c .before .before .before .before .before .before .before .before in
+    let w = c .before .before .before .before .before .before .before in
+    let s = w .before .before .before .before .before in
     let d = c .before .before .before .before .before .before .put-decimal in
     let f = c .before .before .put-following in
     let p = now (s .args .path) in
-    both-stored (spaced p) (decimal (w .wide .result)) (following (drop 1 p)) (now (s .args .out)) (s .args .n) (parts w) (s .pre) (d .last .1 .0) (d .result) (d .ensures)
+    both-stored (spaced p) (decimal (getD p 0 0)) (following (drop 1 p)) (now (s .args .out)) (s .args .n) (parts w) (s .pre) (d .last .1 .0) (d .result) (d .ensures)
     (f .last .1 .0) (f .result) (f .ensures)
 
 pub put-labels-spec : {M : Type 1} → statement M
 put-labels-spec =
-    tie.close (tie.spec returns shared-slice-read-wide wide-requires put-decimal-requires put-following-requires same-length returns-2)
+    tie.close
+    (tie.spec returns shared-slice-read-put-decimal cast-put-decimal put-decimal-requires put-following-requires same-length returns-2)

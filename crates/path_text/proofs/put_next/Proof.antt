@@ -1,7 +1,6 @@
 -- `path_text::put_next` meets its contract: a space, and the label behind it. Assumes nothing.
-use Prim.Native.Nat.{_+_}
-use mathlib.Core.Path.{_≡_, sym, ap}
-use mathlib.Core.List.{[], _∷_, _++_}
+use mathlib.Core.Path.{refl}
+use mathlib.Core.List.{[], _∷_}
 use denote.Ref.{now}
 use Rattle.numerals.specs.Numerals.{decimal}
 use Rattle.numerals.specs.Pieces.{back-room, both-stored}
@@ -12,31 +11,24 @@ use Rattle.path_text.proofs.put_next.Tie as tie
 put-requires : tie.Need-put-requires
 put-requires c κs = search needs
 
-wide-requires : tie.Need-wide-requires
-wide-requires c κs = search needs
-
--- the label as it was widened
-label : (c : tie.After-wide) → 32 ∷ decimal (c .before .before .before .before .before .before .args .x) ≡ (32 ∷ []) ++ decimal (c .wide .result)
-label c = ap (λ x. 32 ∷ decimal x) (sym (c .wide .ensures))
-
 put-decimal-requires : tie.Need-put-decimal-requires
 put-decimal-requires c κs =
-    let s = c .before .before .before .before .before .before .before in
-    let p = c .before .before .before .before .put in
-    let x = c .before .wide .result in
-    back-room (32 ∷ decimal (s .args .x)) (32 ∷ []) (decimal x) (now (s .args .out)) (s .args .n) (label (c .before)) (s .pre) (p .last .1 .0) (p .result) (p .ensures)
+    let s = c .before .before .before .before .before .before in
+    let p = c .before .before .before .put in
+    let x = s .args .x in
+    back-room (32 ∷ decimal x) (32 ∷ []) (decimal x) (now (s .args .out)) (s .args .n) refl (s .pre) (p .last .1 .0) (p .result) (p .ensures)
 
 same-length : tie.Need-same-length
 same-length c = search needs
 
 returns : tie.Need-returns
 returns c =
-    let s = c .before .before .before .before .before .before .before .before .before .before in
-    let p = c .before .before .before .before .before .before .before .put in
+    let s = c .before .before .before .before .before .before .before .before .before in
+    let p = c .before .before .before .before .before .before .put in
     let d = c .before .before .put-decimal in
-    let x = c .before .before .before .before .wide .result in
-    both-stored (32 ∷ decimal (s .args .x)) (32 ∷ []) (decimal x) (now (s .args .out)) (s .args .n) (label (c .before .before .before .before)) (s .pre) (p .last .1 .0) (p .result) (p .ensures)
+    let x = s .args .x in
+    both-stored (32 ∷ decimal x) (32 ∷ []) (decimal x) (now (s .args .out)) (s .args .n) refl (s .pre) (p .last .1 .0) (p .result) (p .ensures)
     (d .last .1 .0) (d .result) (d .ensures)
 
 pub put-next-spec : {M : Type 1} → statement M
-put-next-spec = tie.close (tie.spec put-requires wide-requires put-decimal-requires same-length returns)
+put-next-spec = tie.close (tie.spec put-requires put-decimal-requires same-length returns)

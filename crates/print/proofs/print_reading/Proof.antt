@@ -10,7 +10,7 @@ use Rattle.numerals.specs.Numerals.{decimal}
 use Rattle.numerals.specs.Pieces.{front-room, back-room, both-stored}
 use Rattle.path_text.specs.Labels.{spaced}
 use Rattle.print.specs.Lines.{line, reading-lines}
-use Rattle.print.specs.Lengths.{reading-short, stored-wrote}
+use Rattle.print.specs.Lengths.{stored-wrote}
 use Rattle.print.proofs.print_reading.Statement.{statement}
 use Rattle.print.proofs.print_reading.Tie as tie
 
@@ -29,10 +29,7 @@ whole s = reading-lines (s .args .price) (now (s .args .word)) (now (s .args .pa
 
 -- they fit
 room : (c : tie.After-shared-slice-known2) → 0 + length (whole (c .before .before)) ≤ length (now (c .before .before .args .out))
-room c =
-    let s = c .before .before in
-    let short = reading-short (s .args .price) (now (s .args .word)) (now (s .args .path)) (omega arith) (s .pre .0) (s .pre .1) (λ i. omega (arith, c .shared-slice-known2 .given i)) in
-    omega arith
+room c = let fits = c .before .before .pre in omega arith
 
 put-number-line-requires : tie.Need-put-number-line-requires
 put-number-line-requires c κs =

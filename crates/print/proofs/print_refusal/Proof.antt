@@ -11,7 +11,7 @@ use Rattle.refusal.specs.Number.{numberOf}
 use Rattle.numerals.specs.Numerals.{decimal}
 use Rattle.numerals.specs.Pieces.{back-room, both-stored}
 use Rattle.print.specs.Lines.{line, refusal-line}
-use Rattle.print.specs.Lengths.{refusal-short, stored-wrote}
+use Rattle.print.specs.Lengths.{stored-wrote}
 use Rattle.print.proofs.print_refusal.Statement.{statement}
 use Rattle.print.proofs.print_refusal.Tie as tie
 
@@ -32,10 +32,7 @@ whole : (c : tie.After-number) → refusal-line (numberOf (c .before .before .be
 whole c = ap refusal-line (sym (c .number .ensures))
 
 room : (c : tie.After-number) → 0 + length (refusal-line (numberOf (c .before .before .before .before .before .before .before .args .r))) ≤ length (now (c .before .before .before .before .before .before .before .args .out))
-room c =
-    let e = c .number .ensures in
-    let short = refusal-short (numberOf (c .before .before .before .before .before .before .before .args .r)) (omega arith) in
-    omega arith
+room c = let fits = c .before .before .before .before .before .before .before .pre in omega arith
 
 put-number-line-requires : tie.Need-put-number-line-requires
 put-number-line-requires c κs =

@@ -2,7 +2,6 @@
 -- Assumes nothing.
 use Prim.Native.Nat.{_≤_}
 use mathlib.Core.Path.{sym, subst}
-use native.Mathlib.Omega.{arith}
 use lib.ListN.{length}
 use lib.Seq.{length-take-le}
 use denote.Ref.{now}
@@ -25,7 +24,9 @@ enum-known-answer : tie.Need-enum-known-answer
 enum-known-answer c = search needs
 
 print-refusal-requires : tie.Need-print-refusal-requires
-print-refusal-requires c κs = search needs
+print-refusal-requires c κs =
+    let s = c .before .before .before .before .before .before .before in
+    subst (λ a. length (answer-lines a (s .args .count) (now (s .args .path)) (now (s .args .word))) ≤ length (now (s .args .out))) (c .before .before .answer .given .1) (s .pre .1)
 
 enum-known-answer-2 : tie.Need-enum-known-answer-2
 enum-known-answer-2 c = search needs
@@ -40,12 +41,7 @@ print-reading-requires : tie.Need-print-reading-requires
 print-reading-requires c κs =
     let m = c .before .before .before .before in
     let s = start m in
-    let w = length-take-le (m .answer2 .given .0 .1 .0) (now (s .args .word)) (shown m .0) in
-    let p = length-take-le (s .args .count) (now (s .args .path)) (shown m .1) in
-    let h = shown m in
-    let path-few = s .pre .1 in
-    let word-few = s .pre .2 in
-    (omega arith, omega arith, s .pre .3)
+    subst (λ a. length (answer-lines a (s .args .count) (now (s .args .path)) (now (s .args .word))) ≤ length (now (s .args .out))) (m .answer2 .given .1) (s .pre .1)
 
 same-length : tie.Need-same-length
 same-length c = search needs

@@ -11,6 +11,7 @@ use Rattle.decode_phases.specs.Answers.{Lent}
 use Rattle.printed.specs.Printed.{answer-lines}
 use Rattle.read_print.specs.Answer.{PrintsReading}
 use Rattle.read_print.specs.Promise.{answers}
+use Rattle.read_print.specs.Longest.{reading-bound}
 use Rattle.read_print.specs.Steps.{Said, said, said-shown, said-lines}
 use Rattle.read_print.proofs.answer_reading.Statement.{statement}
 use Rattle.read_print.proofs.answer_reading.Tie as tie
@@ -37,6 +38,10 @@ reading c =
     said (now (s .args .alphabet)) (now (s .args .text)) (costs s) (before s) (left c) (reported (c .read .result)) (now (s .args .form)) (c .read .last .1 .1 .1 .1 .1 .0)
     (s .pre .0) (c .read .ensures)
 
+lines : (c : tie.After-read) → Printed (start c) (answer-lines (c .read .result) (start c .args .count) (left c .path) (left c .word))
+lines c =
+    let s = start c in said-lines (Printed s) (now (s .args .alphabet)) (costs s) (before s) (left c) (c .read .result) (reading c)
+
 read-requires : tie.Need-read-requires
 read-requires c κs = search needs
 
@@ -44,10 +49,9 @@ print-answer-requires : tie.Need-print-answer-requires
 print-answer-requires c κs =
     let r = c .before .before .before .before .before .before .before .before .before .before .before in
     let s = start r in
-    let path-kept = r .read .kept .1 .1 .1 .1 .1 .1 .0 in
-    let word-kept = r .read .kept .1 .1 .1 .1 .1 .1 .1 .0 in
-    let sized = s .pre .0 in
-    (said-shown (Printed s) (now (s .args .alphabet)) (costs s) (before s) (left r) (r .read .result) (reading r), omega arith, omega arith, s .pre .1)
+    let room = s .pre .1 in
+    let short = reading-bound (now (s .args .alphabet)) (now (s .args .text)) (costs s) (answer-lines (r .read .result) (s .args .count) (left r .path) (left r .word)) (lines r) in
+    (said-shown (Printed s) (now (s .args .alphabet)) (costs s) (before s) (left r) (r .read .result) (reading r), omega arith)
 
 same-length : tie.Need-same-length
 same-length c = search needs
@@ -70,7 +74,7 @@ returns c =
     let s = start r in
     let q = c .before .before .print-answer in
     answers (Printed s) (answer-lines (r .read .result) (s .args .count) (left r .path) (left r .word)) (now (s .args .out)) (q .last .1 .1 .1 .1 .0) (q .result)
-    (said-lines (Printed s) (now (s .args .alphabet)) (costs s) (before s) (left r) (r .read .result) (reading r)) (q .ensures)
+    (lines r) (q .ensures)
 
 pub answer-reading-spec : {M : Type 1} → statement M
 answer-reading-spec =

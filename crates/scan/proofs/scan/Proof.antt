@@ -43,6 +43,9 @@ returns-3 c =
 add-store-matrix : tie.Need-add-store-matrix
 add-store-matrix c = search needs
 
+add-store-matrix-2 : tie.Need-add-store-matrix-2
+add-store-matrix-2 c = search needs
+
 store-matrix-requires : tie.Need-store-matrix-requires
 store-matrix-requires c κs = search needs
 
@@ -101,6 +104,7 @@ scan-spec =
     line-end-requires-2
     returns-3
     add-store-matrix
+    add-store-matrix-2
     store-matrix-requires
     enum-known-width
     enum-told

@@ -1,0 +1,71 @@
+-- The columns from a place of the input on, by the cost that is read at the place: what it makes of the columns behind its separator, and
+-- that without a cost no column begins there. Assumes nothing.
+-- Used by Storing.
+use mathlib.Core.Path.{_≡_, sym, ap, _∙_}
+use mathlib.Core.Option.{some}
+use mathlib.Core.List.{List, [], _∷_, _++_}
+use mathlib.Core.Bool.{true}
+use mathlib.Core.Logic.{_⊎_, inl, inr, ⊎-elim}
+use Prim.Native.Nat.{ℕ, _+_, _-_, _<_}
+use native.Mathlib.Omega.{arith}
+use lib.ListN.{length, getD, take, drop, length-append, length-drop}
+use lib.Seq.{take-append-seam, getD-append-seam, getD-drop}
+use lib.Dec.{eqb}
+use borrow.Author.Tests.{eqb-true, eq-eqb}
+use Rattle.lists.specs.Each.{drop-here}
+use Rattle.lists.specs.Order.{and-left, and-right, or-either, or-left, or-right}
+use Rattle.expression.specs.Repetition.{digits}
+use Rattle.sheet_text.specs.Rows.{Free, rows, FirstCost, rows-back, put, rows-put}
+use Rattle.digits.specs.Places.{part, part-rest}
+use Rattle.digits.specs.Digits.{digit, separator, digit-range, cost-back, CostAt, ReadCost, cost-begins}
+use Rattle.digits.specs.declared.Cost.the-variants as cost
+
+digits-free : (c : ℕ) (p : List ℕ) → c < 48 → digits p ≡ true → Free c p
+digits-free c [] l h = tt
+digits-free c (b ∷ p) l h = (
+  (λ e. let r = digit-range b (and-left (digit b) (digits p) h) in omega arith),
+  digits-free c p l (and-right (digit b) (digits p) h),
+)
+
+separator-is : (b : ℕ) → separator b ≡ true → (b ≡ 32) ⊎ (b ≡ 10)
+separator-is b s = ⊎-elim (λ k. inl (eqb-true b 32 k)) (λ k. inr (eqb-true b 10 k)) (or-either (eqb b 32) (eqb b 10) s)
+
+is-separator : (b : ℕ) → (b ≡ 32) ⊎ (b ≡ 10) → separator b ≡ true
+is-separator b (inl e) = or-left (eqb b 32) (eqb b 10) (eq-eqb b 32 e)
+is-separator b (inr e) = or-right (eqb b 32) (eqb b 10) (eq-eqb b 10 e)
+
+pub cost-rows :
+    (input : List ℕ) (at v e : ℕ) → ReadCost input at (cost.Is v e)
+    → rows (drop at input) ≡ put (some v) (getD input e 0) (rows (drop (e + 1) input))
+cost-rows input at v e h =
+    let f = cost-begins input at e v h in
+    let p = part at e input in
+    let b = getD input e 0 in
+    let d = cost-back p v (h .is) .are in
+    let s : drop at input ≡ p ++ (b ∷ drop (e + 1) input) =
+    part-rest input at e (omega arith) ∙ ap (λ r. p ++ r) (drop-here 0 input e (h .within)) in
+    ap rows s
+    ∙ rows-put p b (drop (e + 1) input) (digits-free 10 p (omega arith) d) (digits-free 32 p (omega arith) d) (separator-is b (h .ends))
+    ∙ ap (λ x. put x b (rows (drop (e + 1) input))) (h .is)
+
+first-cost : (input : List ℕ) (at : ℕ) (f : FirstCost (drop at input)) → CostAt input at (at + length (f .text)) (f .cost)
+first-cost input at f =
+    let k : at + length (f .text) - at ≡ length (f .text) = omega arith in
+    let rest = f .separator ∷ f .behind in
+    let n = ap length (f .splits) ∙ length-append (f .text) rest in
+    let m = length-drop at input in
+    let b : getD input (at + length (f .text)) 0 ≡ f .separator =
+    sym (getD-drop at input (length (f .text)) 0)
+    ∙ ap (λ s. getD s (length (f .text)) 0) (f .splits)
+    ∙ getD-append-seam (f .text) (f .separator) (f .behind) 0 in
+    let p : part at (at + length (f .text)) input ≡ f .text =
+    ap (λ j. take j (drop at input)) k ∙ ap (take (length (f .text))) (f .splits) ∙ take-append-seam (f .text) rest in
+    record {
+      is = rw p (f .is-cost);
+      within = omega arith;
+      ends = rw b (is-separator (f .separator) (f .is-separator));
+    }
+
+pub no-column :
+    (input : List ℕ) (at : ℕ) → ReadCost input at cost.Not → (c : List ℕ) (cs : List (List ℕ)) → rows (drop at input) ≡ some (c ∷ cs) → ⊥
+no-column input at n c cs e = let f = rows-back (drop at input) c cs e in n (at + length (f .text)) (f .cost) (first-cost input at f)
