@@ -1,5 +1,5 @@
 -- The document's form of `ab*` over the alphabet `ab`, by computation: encoded, valid, read back. Assumes nothing.
--- Computed examples: nothing leans on them.
+-- Computed examples: nothing uses them.
 use Prim.Native.Nat.{ℕ}
 use mathlib.Core.Path.{_≡_, refl}
 use mathlib.Core.Bool.{true, false, _&&_, _||_}

@@ -1,5 +1,5 @@
 -- Document 01's compile lines, and ties of refusals, computed from the definitions. Assumes nothing.
--- Computed examples: nothing leans on them.
+-- Computed examples: nothing uses them.
 use Prim.Native.Nat.{ℕ}
 use Prim.Native.String.{String}
 use mathlib.Core.Path.{_≡_, refl}

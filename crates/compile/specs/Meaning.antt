@@ -1,6 +1,6 @@
 -- Demand 2, stated at Compile: the form that it writes is valid, and accepts a word exactly if the expression's set of words, by its
 -- text, has it. Assumes nothing.
--- Used in kavurehy, read_text and reader.
+-- Used in kavurehy, read_print, read_text and reader.
 use Prim.Native.Nat.{ℕ, _≤_}
 use mathlib.Core.Path.{_≡_, refl, sym, ap, _∙_, subst}
 use mathlib.Core.Bool.{Bool, true, false, not, _&&_}

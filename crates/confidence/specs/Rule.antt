@@ -1,5 +1,5 @@
 -- The cost is what document 01's sentence says: the largest whole n with 2ⁿ × c⁸ ≤ 2⁶⁴. Assumes nothing.
--- For the reader: nothing leans on it.
+-- For the reader: nothing uses it.
 use Prim.Native.Nat.{ℕ, zero, suc, _*_, _^_, _≤_, _<_}
 use mathlib.Core.Path.{_≡_, refl, ap, _∙_}
 use mathlib.Core.Bool.{Bool, true, false}

@@ -1,5 +1,5 @@
 -- The checks one by one: which refusal is given, and what is known of an input that passes them all. Assumes nothing.
--- Used by the proofs; in decode, decode_phases, kavurehy, read_text and read_word.
+-- Used by the proofs; in decode, decode_phases, kavurehy, read_print, read_text and read_word.
 use Prim.Native.Nat.{ℕ, _+_, _*_, _<_, _≤_}
 use mathlib.Core.Path.{_≡_, ap, _∙_}
 use mathlib.Core.Bool.{true, false, not, _||_}

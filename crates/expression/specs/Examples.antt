@@ -1,6 +1,6 @@
 -- Texts read by computation: the expression lines of document 01, the readings taken of its brackets and braces, a case for each refusal
 -- and for each tie of places. Assumes nothing.
--- Computed examples: nothing leans on them.
+-- Computed examples: nothing uses them.
 use mathlib.Core.Path.{_≡_, refl}
 use mathlib.Core.List.{List, [], _∷_, _++_}
 use mathlib.Core.Bool.{Bool, true, false, _&&_}

@@ -1,5 +1,5 @@
 -- The labels of words: a set has a word exactly if it has a label, and a word's labels are those of the alphabet. Assumes nothing.
--- For the reader: nothing leans on it.
+-- For the reader: nothing uses it.
 use mathlib.Core.Path.{_≡_, refl, ap, _∙_}
 use mathlib.Core.Logic.{_↔_, inl, inr}
 use mathlib.Core.List.{List, [], _∷_}

@@ -1,6 +1,6 @@
 -- A refusal stands at the leftmost fault (document 01, "What is turned away": "among 4 to 8 the one leftmost in the text").
 -- Assumes nothing.
--- For the reader: nothing leans on it.
+-- For the reader: nothing uses it.
 use mathlib.Core.Path.{_≡_}
 use mathlib.Core.List.{List, [], _∷_, _++_}
 use Prim.Native.Nat.{ℕ, _≤_}

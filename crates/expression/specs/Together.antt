@@ -1,6 +1,6 @@
 -- Texts put together: what stands behind an expression's text and more room for groups change nothing, `r|s` means the words of r or
 -- of s, and the modifier `?` means nothing. Assumes nothing.
--- For the reader: nothing leans on it.
+-- For the reader: nothing uses it.
 use mathlib.Core.Path.{_≡_, refl}
 use mathlib.Core.Logic.{_↔_, Iff·rfl, Iff·symm, Iff·trans, _⊎_, inl, inr, ⊎-elim, ⊎-map}
 use mathlib.Core.List.{List, [], _∷_, _++_, append-assoc}

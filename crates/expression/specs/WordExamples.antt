@@ -1,6 +1,6 @@
 -- Small sets of words: a range goes by byte value, a complement stays within the alphabet, a repetition joins as many words as it
 -- allows, `|` means either side. Assumes nothing.
--- Computed examples: nothing leans on them.
+-- Computed examples: nothing uses them.
 use mathlib.Core.Path.{_≡_, refl, ap, _∙_}
 use mathlib.Core.Logic.{_↔_, inr}
 use mathlib.Core.List.{List, [], _∷_}

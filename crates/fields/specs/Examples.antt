@@ -1,5 +1,5 @@
 -- Lines and fields read by computation. Assumes nothing.
--- Computed examples: nothing leans on them.
+-- Computed examples: nothing uses them.
 use mathlib.Core.Path.{_≡_, refl}
 use mathlib.Core.List.{[], _∷_}
 use mathlib.Core.Bool.{true, false}

@@ -1,5 +1,5 @@
 -- What a line of the vectors says: its fields, which have tabs between them, and the numbers in a field. Assumes nothing.
--- Used by the contracts, the proofs and 3 files of specs/.
+-- Used by the contracts, the proofs, Examples, Narrow and Numbers.
 use mathlib.Core.List.{List, [], _∷_, map}
 use mathlib.Core.Bool.{Bool, false, cond, _&&_}
 use Prim.Native.Nat.{ℕ, _+_, _*_, _%_}

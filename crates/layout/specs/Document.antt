@@ -1,5 +1,5 @@
 -- Document 01's sheet and some of its lines to try, as inputs of the sheet program and what is printed for each. Assumes nothing.
--- Computed examples: nothing leans on them.
+-- Computed examples: nothing uses them.
 use mathlib.Core.Path.{refl}
 use mathlib.Core.Option.{some, none}
 use mathlib.Core.List.{[], _∷_, flatMap, flatten}

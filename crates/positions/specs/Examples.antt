@@ -1,5 +1,5 @@
 -- Some expressions with their letters, computed. Assumes nothing.
--- Computed examples: nothing leans on them.
+-- Computed examples: nothing uses them.
 use Prim.Native.Nat.{ℕ}
 use Prim.Native.Char.{code}
 use mathlib.Core.Path.{_≡_, refl}

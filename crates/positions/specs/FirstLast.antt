@@ -1,6 +1,6 @@
 -- A letter may be first, or last, exactly if some word so begins, or ends, there (document 01, "Opening and the compiled form"), a word
 -- being written by the numbers of its letters, and each set having a label. Assumes nothing.
--- For the reader: nothing leans on it.
+-- For the reader: nothing uses it.
 use Prim.Native.Nat.{ℕ, zero, suc, _+_, _≤_}
 use mathlib.Core.Path.{_≡_, refl, sym, ap}
 use mathlib.Core.Logic.{_⊎_, inl, inr, _↔_, ⊎-elim}

@@ -1,6 +1,6 @@
 -- The three demands, as theorems on what Read promises. Past the checks with memory enough means: no refusal but 16 applies, so Compile
 -- gives a form and the checks of the matrix and the memory pass. Assumes nothing.
--- For the reader: nothing leans on it.
+-- For the reader: nothing uses it.
 use Prim.Native.Nat.{ℕ, _<_, _≤_}
 use mathlib.Core.Path.{_≡_, ap, _∙_}
 use mathlib.Core.Logic.{_⊎_, inl, inr}

@@ -1,5 +1,5 @@
 -- One column's costs raised by the same amount throughout: the same path is best, and costs that much more. Assumes nothing.
--- For the reader: nothing leans on it.
+-- For the reader: nothing uses it.
 use Prim.Native.Nat.{ℕ, _+_, _≤_, _<_}
 use mathlib.Core.Path.{_≡_, refl, sym, _∙_}
 use mathlib.Core.Option.{Option, some, none}

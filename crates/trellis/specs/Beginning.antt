@@ -1,6 +1,6 @@
 -- The cheapest beginning to a state: the least price of all that leads to it from the start over the first columns, TOP where none is
 -- below. The first row, each row from the one before, and the cost to go that the last row gives. Assumes nothing.
--- For the reader: nothing leans on it.
+-- For the reader: nothing uses it.
 use Prim.Native.Nat.{ℕ, suc, _+_}
 use mathlib.Core.Path.{_≡_, refl, sym, ap, _∙_, subst}
 use mathlib.Core.List.{List, [], _∷_, _++_}
