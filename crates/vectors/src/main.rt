@@ -10,8 +10,6 @@
 //   J NAME WORD             Judge                          T WORD          Judge of the form with each of its bits turned
 //   D NAME COSTS WIDTH COLUMNS PATH-ROOM WORD-ROOM WORK-ROOM LAST            Decode; the LAST work words are printed
 //   R TEXT COSTS WIDTH COLUMNS PATH-ROOM WORD-ROOM WORK-ROOM LAST ALPHABET   Read
-mod calls;
-mod forms;
 mod matrices;
 
 use libc::STDIN_FILENO;
@@ -19,13 +17,13 @@ use libc::STDIN_FILENO;
 // Runs a call.
 fn run(call: u8, line: &[u8], form: &mut [u32]) {
     if call == b'C' || call == b'S' {
-        calls::labels(line, call == b'C');
+        vector_calls::labels(line, call == b'C');
     } else if call == b'P' {
-        calls::costs(line);
+        vector_calls::costs(line);
     } else if call == b'J' {
-        forms::judge(line, form);
+        vector_calls::judge(line, form);
     } else if call == b'T' {
-        forms::turn(line, form);
+        vector_calls::turn(line, form);
     } else if call == b'D' || call == b'R' {
         matrices::run(line, call == b'R', form);
     }
@@ -35,7 +33,7 @@ fn run(call: u8, line: &[u8], form: &mut [u32]) {
 fn one(line: &[u8], form: &mut [u32], words: usize) -> usize {
     let call = characters::peek(line, 0);
     if call == b'E' {
-        return forms::compile(fields::field(line, 1), fields::field(line, 2), form);
+        return vector_calls::compile(fields::field(line, 1), fields::field(line, 2), form);
     }
     if call == b'F' {
         return fields::numbers(fields::field(line, 1), true, form);

@@ -1,10 +1,10 @@
--- `vectors::forms::turned_word` is safe: there are 32 bits. Assumes nothing.
+-- `vector_calls::forms::turned_word` is safe: there are 32 bits. Assumes nothing.
 use mathlib.Core.Path.{_≡_}
 use Prim.Native.Nat.{_≤_, _-_}
 use lib.ListN.{length}
 use borrow.Author.Needs.{needs}
-use Rattle.vectors.proofs.forms.turned_word.Statement.{statement}
-use Rattle.vectors.proofs.forms.turned_word.Tie as tie
+use Rattle.vector_calls.proofs.forms.turned_word.Statement.{statement}
+use Rattle.vector_calls.proofs.forms.turned_word.Tie as tie
 
 abbrev Inv-loop : tie.InvT-loop
 Inv-loop form₀ word i b₀ t5 form b = (b ≤ 32) × (length form ≡ length form₀)

@@ -1,10 +1,10 @@
--- `vectors::forms::turn_all` stays within its list and ends. Assumes nothing.
+-- `vector_calls::forms::turn_all` stays within its list and ends. Assumes nothing.
 use mathlib.Core.Path.{_≡_}
 use Prim.Native.Nat.{_-_}
 use lib.ListN.{length}
 use borrow.Author.Needs.{needs}
-use Rattle.vectors.proofs.forms.turn_all.Statement.{statement}
-use Rattle.vectors.proofs.forms.turn_all.Tie as tie
+use Rattle.vector_calls.proofs.forms.turn_all.Statement.{statement}
+use Rattle.vector_calls.proofs.forms.turn_all.Tie as tie
 
 abbrev Inv-loop : tie.InvT-loop
 Inv-loop form₀ word i₀ form i = length form ≡ length form₀
