@@ -62,6 +62,16 @@ fn give_three(counts: &mut [u32; 3], x: u32, y: usize, z: usize, number: u32) ->
     number
 }
 
+// Hands back the answer of a call that fills one list, where the caller knows the length.
+pub fn hand_number(answer: Counted) -> u32
+    ensures { λ r. ⌜ r ≡ reported answer .number ⌝ }
+{
+    match answer {
+        Counted::Filled(_) => 0,
+        Counted::Refused(row) => number(row),
+    }
+}
+
 // Hands back the answer of a call that fills one list.
 pub fn hand_length(answer: Counted, counts: &mut [u32; 1]) -> u32
     requires { ⌜ reported answer .filled < 2 ^ 32 ⌝ }

@@ -3,9 +3,8 @@
 use answers::hand_decoded;
 use answers::hand_judgement;
 use answers::hand_length;
+use answers::hand_number;
 use answers::hand_reading;
-use refusal::Counted;
-use refusal::number;
 ghost use lib.ListN.{length};
 ghost use Rattle.collapse.specs.Calls.{collapse-call};
 ghost use Rattle.spread.specs.Calls.{spread-call};
@@ -119,8 +118,5 @@ pub extern "C" fn kavurehy_read(
 pub extern "C" fn kavurehy_costs(confidences: &[u8], costs: &mut [u32]) -> u32
     ensures { λ r. ⌜ FillsPlain (costs-call (now (confidences .entry)) (length (now (costs .entry)))) (now (costs .entry)) (now (costs .exit)) r ⌝ }
 {
-    match confidence::costs(confidences, costs) {
-        Counted::Filled(_) => 0,
-        Counted::Refused(row) => number(row),
-    }
+    hand_number(confidence::costs(confidences, costs))
 }
