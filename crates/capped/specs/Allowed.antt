@@ -5,10 +5,10 @@ use mathlib.Core.Bool.{Bool, cond}
 use lib.Dec.{eqb}
 use Rattle.trellis.specs.Impossible.{TOP}
 
--- v, or TOP if the label is barred
-abbrev pub unless : (label barred v : ℕ) → ℕ
-unless label barred v = cond (eqb label barred) TOP v
+-- v, or TOP if the label is the one that the path is on
+abbrev pub unless-equal : (label own v : ℕ) → ℕ
+unless-equal label own v = cond (eqb label own) TOP v
 
 -- v, or TOP if the letter may not be first
-abbrev pub provided : Bool → ℕ → ℕ
-provided first v = cond first v TOP
+abbrev pub if-first : Bool → ℕ → ℕ
+if-first first v = cond first v TOP

@@ -1,5 +1,5 @@
 // Costs that stop at TOP, the mark for the impossible: the lesser of two, the sum, and a cost that stands only where a letter's label is
-// not barred, where a letter may be first, or where a path may end.
+// another, where a letter may be first, or where a path may end.
 use form_words::label;
 use form_words::may_be_first;
 use form_words::may_end;
@@ -10,7 +10,7 @@ ghost use Rattle.automaton.specs.Form.{lettersOf, labelOf, followOf, endsOf};
 ghost use Rattle.automaton.specs.Valid.{Valid};
 ghost use Rattle.trellis.specs.Impossible.{TOP as top, plus as plusOf};
 ghost use Rattle.trellis.specs.Cells.{ending};
-ghost use Rattle.capped.specs.Allowed.{unless, provided};
+ghost use Rattle.capped.specs.Allowed.{unless-equal, if-first};
 
 // The mark for the impossible: no path of usable costs reaches this price.
 pub const TOP: u32 = 1000000000;
@@ -32,12 +32,12 @@ pub fn plus(c: u32, v: u32) -> u32
     least(TOP, least(c, TOP) + v)
 }
 
-// v, or TOP if letter j has the barred label.
-pub fn unless_barred(form: &[u32], j: usize, barred: usize, v: u32) -> u32
+// v, or TOP if the label of letter j is `own`, the label that the path is on.
+pub fn unless_equal(form: &[u32], j: usize, own: usize, v: u32) -> u32
     requires { ⌜ j < length (now form) ⌝ }
-    ensures { λ r. ⌜ r ≡ unless (labelOf (now (form .entry)) j) barred v ⌝ }
+    ensures { λ r. ⌜ r ≡ unless-equal (labelOf (now (form .entry)) j) own v ⌝ }
 {
-    if label(form, j) == barred {
+    if label(form, j) == own {
         return TOP;
     }
     v
@@ -46,7 +46,7 @@ pub fn unless_barred(form: &[u32], j: usize, barred: usize, v: u32) -> u32
 // v, or TOP if letter j may not be first.
 pub fn if_first(form: &[u32], j: usize, v: u32) -> u32
     requires { ⌜ Valid (now form) × (1 ≤ j) × (j ≤ lettersOf (now form)) ⌝ }
-    ensures { λ r. ⌜ r ≡ provided (followOf (now (form .entry)) 0 j) v ⌝ }
+    ensures { λ r. ⌜ r ≡ if-first (followOf (now (form .entry)) 0 j) v ⌝ }
 {
     if may_be_first(form, j) {
         return v;

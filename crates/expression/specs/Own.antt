@@ -12,7 +12,7 @@ use borrow.Author.Tests.{eqb-true}
 use Rattle.refusal.specs.declared.Refusal.{Refusal}
 use Rattle.refusal.specs.declared.Refusal.the-variants as row
 use Rattle.refusal.specs.Number.{numberOf}
-use Rattle.expression.specs.Text.{Reads, found, next, rest, in-front, split, enclosed}
+use Rattle.expression.specs.Text.{Reads, found, one-of, next, rest, in-front, split, enclosed}
 use Rattle.expression.specs.Says.{Says, enclosed-says}
 
 -- a text that begins with a sign is that sign and the rest
@@ -20,9 +20,9 @@ pub next-is : (c : Char) (s : List ℕ) → next c s ≡ true → s ≡ code c �
 next-is c [] e = let z : _≡_ {A = ℕ} 0 1 = cc in absurd (omega arith)
 next-is c (b ∷ s) e = ap (λ (k : ℕ). k ∷ s) (eqb-true b (code c) e)
 
--- one of rows 4 to 8
+-- a row that is given by its place in the text: "among 4 to 8 the one leftmost"
 abbrev pub Textual : Refusal → Type 0
-Textual n = (4 ≤ numberOf n) × (numberOf n ≤ 8)
+Textual n = one-of (4 ∷ 5 ∷ 6 ∷ 7 ∷ 8 ∷ []) (numberOf n) ≡ true
 
 -- the fault stands at the front of s
 abbrev pub Here : List ℕ → Refusal → List ℕ → Type 0
@@ -32,7 +32,7 @@ pub here : (s : List ℕ) (n : Refusal) → Textual n → Here s n s
 here s n t = (t, refl)
 
 pub misplaced : (s : List ℕ) → Here s row.MisplacedSign s
-misplaced s = here s row.MisplacedSign (omega arith, omega arith)
+misplaced s = here s row.MisplacedSign refl
 
 -- f answers from the bytes of s in front of r, whatever stands behind them
 pub record Own {W R : Type 0} (f : W → List ℕ → R) (gives : List ℕ → R) (s r : List ℕ) : Type 0 where

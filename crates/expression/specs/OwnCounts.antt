@@ -78,7 +78,7 @@ braces w s = enclosed row.Count w counts (split "}" s)
 
 braces-says : (w s : List ℕ) → Says (ACount braces s) (Here w) (braces w s)
 braces-says w s =
-    says-map _ (ACount braces s) (Here w) (braces w s) (enclosed-own row.Count w counts (split "}") s (omega arith, omega arith) (split-ends "}" s))
+    says-map _ (ACount braces s) (Here w) (braces w s) (enclosed-own row.Count w counts (split "}") s refl (split-ends "}" s))
     (λ c r h. (h .0, rw (h .2) at (counts-in-range (h .1))))
 
 sign-says : (s : List ℕ) → Says (ACount {W = Unit {0}} (λ _. sign) s) (Here s) (sign s)

@@ -34,7 +34,7 @@ inside-says : (f : List Range → Set) (w s : List ℕ) → Says (OwnAs (inside 
 unfolding inside then
 inside-says f w s =
     then-says _ (OwnAs (inside f) s) (Here w) (Here w) (enclosed row.Bracket w members (closed s)) _
-    (enclosed-own row.Bracket w members closed s (omega arith, omega arith) (closed-ends s)) (λ n r h. h)
+    (enclosed-own row.Bracket w members closed s refl (closed-ends s)) (λ n r h. h)
     (λ rs r h. own-map (λ w t. enclosed row.Bracket w members (closed t)) (found rs) (λ x. then x (λ rs r. found (f rs) r)) s r (h .0))
 
 inside-none : (f : List Range → Set) (w : List ℕ) → inside f w [] ≡ fault row.Bracket w
@@ -43,7 +43,7 @@ inside-none f w = refl
 
 bracket-says : (w s : List ℕ) → Says (OwnAs bracket s) (Here w) (bracket w s)
 unfolding bracket
-bracket-says w [] = rw (inside-none only w) (here w row.Bracket (omega arith, omega arith))
+bracket-says w [] = rw (inside-none only w) (here w row.Bracket refl)
 bracket-says w (b ∷ s) =
     branch-says (OwnAs bracket (b ∷ s)) (Here w) (eqb b (code "^")) _ _
     (λ e. says-map (OwnAs (inside except) s) _ (Here w) (inside except w s) (inside-says except w s)
@@ -89,7 +89,7 @@ module _ (A : List ℕ) where
   unfolding labelled-set then
   labelled-set-says s =
       then-says (Alone a-set s) (ASet s) (Here s) (Here s) (a-set s) _ (a-set-says s) (λ n r h. h)
-      (λ c r o. branch-says (ASet s) (Here s) (eqb (labelsOf A c) 0) _ _ (λ e. here s row.Foreign (omega arith, omega arith)) (by c r o))
+      (λ c r o. branch-says (ASet s) (Here s) (eqb (labelsOf A c) 0) _ _ (λ e. here s row.Foreign refl) (by c r o))
     where
       by : (c : Set) (r : List ℕ) → Alone a-set s c r → eqb (labelsOf A c) 0 ≡ false → ASet s c r
       by c r o e =

@@ -26,7 +26,7 @@ module _ (A : List ℕ) where
   module _ (f : Mode → ℕ → List ℕ → Reads Tree) (h : Sound f) where
     grouped-sound : (d : ℕ) (s : List ℕ) → next "(" s ≡ true → Says (Front A m-group d s) (Stop A m-group d s) (grouped (f m-alternation) d s)
     unfolding grouped
-    grouped-sound zero s k = stop-here A zero m-group s row.Depth s ((omega arith, omega arith), refl)
+    grouped-sound zero s k = stop-here A zero m-group s row.Depth s (refl, refl)
     grouped-sound (suc d) s k =
         then-says _ _ _ (Stop A m-group (suc d) s) (f m-alternation d (rest s)) _ (h m-alternation d (rest s)) (λ n r g. group-stop A d s n r k g)
         (λ t s₁ g. branch-says (Front A m-group (suc d) s) (Stop A m-group (suc d) s) (next ")" s₁) _ _

@@ -17,7 +17,7 @@ use Rattle.automaton.specs.Valid.{Valid, first-letter, follow-arc, arc-follow}
 use Rattle.trellis.specs.Impossible.{TOP}
 use Rattle.trellis.specs.Cells.{ByArc}
 use Rattle.form.specs.Starts.{Begins, range-source, source-range}
-use Rattle.capped.specs.Allowed.{unless, provided}
+use Rattle.capped.specs.Allowed.{unless-equal, if-first}
 
 -- a list of numbers that are at most TOP, for the letters 1 to 127
 pub record Candidates (cs : List ℕ) : Type 0 where
@@ -28,16 +28,16 @@ pub record Candidates (cs : List ℕ) : Type 0 where
 abbrev pub candidate : List ℕ → ℕ → ℕ
 candidate cs j = getD cs j 0
 
--- a candidate is offered, unless its label is barred
-pub least-unless : (label barred c : ℕ) → c ≤ TOP → Least TOP (λ n. (label ≡ barred → ⊥) × (n ≡ c)) (unless label barred c)
-least-unless label barred c h = by (eqb label barred) refl
+-- a candidate is offered, unless its label is `own`
+pub least-unless : (label own c : ℕ) → c ≤ TOP → Least TOP (λ n. (label ≡ own → ⊥) × (n ≡ c)) (unless-equal label own c)
+least-unless label own c h = by (eqb label own) refl
   where
     Offered : ℕ → Type 0
-    Offered n = (label ≡ barred → ⊥) × (n ≡ c)
+    Offered n = (label ≡ own → ⊥) × (n ≡ c)
 
-    by : (t : Bool) → eqb label barred ≡ t → Least TOP Offered (cond t TOP c)
-    by true e = least-none Offered (λ n o. o .0 (eqb-true label barred e))
-    by false e = least-same Offered (λ n o. (eqb-false label barred e, o)) (λ n o. o .1) (least-one c h)
+    by : (t : Bool) → eqb label own ≡ t → Least TOP Offered (cond t TOP c)
+    by true e = least-none Offered (λ n o. o .0 (eqb-true label own e))
+    by false e = least-same Offered (λ n o. (eqb-false label own e, o)) (λ n o. o .1) (least-one c h)
 
 -- the candidates, and the arcs of letter i, which stand from b up to e
 pub record Arcs (f cs : List ℕ) (i b e : ℕ) : Type 0 where
@@ -54,12 +54,12 @@ pub record Offers (f cs : List ℕ) (i all other : ℕ) : Type 0 where
   pub along-other : Least TOP (ByArc (view f) (candidate cs) i (labelOf f i)) other
 
 -- what the arc word at k offers
-abbrev pub Along : (f cs : List ℕ) (barred k n : ℕ) → Type 0
-Along f cs barred k n = (labelOf f (target (getD f k 0)) ≡ barred → ⊥) × (n ≡ candidate cs (target (getD f k 0)))
+abbrev pub Along : (f cs : List ℕ) (own k n : ℕ) → Type 0
+Along f cs own k n = (labelOf f (target (getD f k 0)) ≡ own → ⊥) × (n ≡ candidate cs (target (getD f k 0)))
 
 -- the least of the arc words from b up to k
-abbrev pub LeastAlong : (f cs : List ℕ) (b barred k v : ℕ) → Type 0
-LeastAlong f cs b barred k v = Least TOP (Among b k (Along f cs barred)) v
+abbrev pub LeastAlong : (f cs : List ℕ) (b own k v : ℕ) → Type 0
+LeastAlong f cs b own k v = Least TOP (Among b k (Along f cs own)) v
 
 -- the loop over the arc words from b up to e, at k
 pub record Sofar (f cs : List ℕ) (own b e all other k : ℕ) : Type 0 where
@@ -101,7 +101,7 @@ module _ {f cs : List ℕ} {i b e : ℕ} (arcs : Arcs f cs i b e) where
       -- one arc more; no letter has the label 0
       pub sofar-more :
           (j : ℕ) → j ≡ target (getD f k 0)
-          → Sofar f cs own b e (min all (candidate cs j)) (min other (unless (labelOf f j) own (candidate cs j))) (k + 1)
+          → Sofar f cs own b e (min all (candidate cs j)) (min other (unless-equal (labelOf f j) own (candidate cs j))) (k + 1)
       sofar-more j at = rw at
           (let t = arc-target in
           let low = arcs .valid .letter (target (getD f k 0)) (t .0) (t .1) .low in
@@ -127,8 +127,8 @@ module _ {f cs : List ℕ} {i b e : ℕ} (arcs : Arcs f cs i b e) where
           along-other = over (labelOf f i) (rw (same, q) at (sofar .along-other));
         }
       where
-        to : (barred n : ℕ) → Among b e (Along f cs barred) n → ByArc (view f) (candidate cs) i barred n
-        to barred n o =
+        to : (own n : ℕ) → Among b e (Along f cs own) n → ByArc (view f) (candidate cs) i own n
+        to own n o =
             let k = o .0 in
             let p = arcs .first .past in
             let q = arcs .next .inside in
@@ -140,14 +140,14 @@ module _ {f cs : List ℕ} {i b e : ℕ} (arcs : Arcs f cs i b e) where
               o .3 .1,
             )
 
-        from : (barred n : ℕ) → ByArc (view f) (candidate cs) i barred n → Among b e (Along f cs barred) n
-        from barred n o =
+        from : (own n : ℕ) → ByArc (view f) (candidate cs) i own n → Among b e (Along f cs own) n
+        from own n o =
             let a = follow-arc f i (o .0) (arcs .low) (o .1) in
             let r = source-range f i b e (arcs .first) (arcs .next) (a .index) (a .past) (a .inside) (a .from) in
             (a .index, r .0, r .1, (λ z. o .2 (sym (ap (labelOf f) (a .to)) ∙ z), o .3 ∙ sym (ap (candidate cs) (a .to))))
 
-        over : (barred : ℕ) {v : ℕ} → LeastAlong f cs b barred e v → Least TOP (ByArc (view f) (candidate cs) i barred) v
-        over barred l = least-same (ByArc (view f) (candidate cs) i barred) (to barred) (from barred) l
+        over : (own : ℕ) {v : ℕ} → LeastAlong f cs b own e v → Least TOP (ByArc (view f) (candidate cs) i own) v
+        over own l = least-same (ByArc (view f) (candidate cs) i own) (to own) (from own) l
 
 -- what letter j offers to state 0, if it may be first
 abbrev pub ToFirst : (f cs : List ℕ) (j n : ℕ) → Type 0
@@ -158,10 +158,10 @@ module _ (f cs : List ℕ) (good : Candidates cs) where
   first-start = least-start 1 (ToFirst f cs)
 
   pub first-more :
-      {j v : ℕ} → 1 ≤ j → Least TOP (Among 1 j (ToFirst f cs)) v → Least TOP (Among 1 (j + 1) (ToFirst f cs)) (min v (provided (followOf f 0 j) (candidate cs j)))
+      {j v : ℕ} → 1 ≤ j → Least TOP (Among 1 j (ToFirst f cs)) v → Least TOP (Among 1 (j + 1) (ToFirst f cs)) (min v (if-first (followOf f 0 j) (candidate cs j)))
   first-more {j} low l = least-more 1 (ToFirst f cs) low l (by (followOf f 0 j) refl)
     where
-      by : (t : Bool) → followOf f 0 j ≡ t → Least TOP (ToFirst f cs j) (provided t (candidate cs j))
+      by : (t : Bool) → followOf f 0 j ≡ t → Least TOP (ToFirst f cs j) (if-first t (candidate cs j))
       by true e = least-same (ToFirst f cs j) (λ n q. (e, q)) (λ n o. o .1) (least-one (candidate cs j) (good .top j))
       by false e = least-none (ToFirst f cs j) (λ n o. not-both (followOf f 0 j) (o .0) e)
 

@@ -3,7 +3,7 @@ use capped::TOP;
 use capped::if_first;
 use capped::least;
 use capped::plus;
-use capped::unless_barred;
+use capped::unless_equal;
 use form_words::label;
 use form_words::letters;
 use form_words::target;
@@ -36,7 +36,7 @@ pub fn along_arcs(form: &[u32], candidates: &[u32], i: usize, b: usize, e: usize
         let j = target(form, k);
         let v = candidates[j];
         all = least(all, v);
-        other = least(other, unless_barred(form, j, own, v));
+        other = least(other, unless_equal(form, j, own, v));
         k += 1;
     }
     Offers { all, other }

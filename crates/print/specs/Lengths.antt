@@ -4,13 +4,11 @@ use Prim.Native.Nat.{ℕ, _+_, _<_, _≤_}
 use mathlib.Core.Path.{_≡_}
 use mathlib.Core.List.{List, [], _∷_, _++_, append-nil}
 use native.Mathlib.Omega.{arith}
-use lib.Dec.{lit<}
 use lib.ListN.{length, length-append}
 use Rattle.lists.specs.Each.{Each}
 use Rattle.lists.specs.Written.{Wrote, Stored, filling-none, filling-stored, filling-all}
 use Rattle.refusal.specs.declared.Refusal.{Refusal}
-use Rattle.refusal.specs.declared.Refusal.the-variants as row
-use Rattle.refusal.specs.Number.{numberOf}
+use Rattle.refusal.specs.Number.{numberOf, number-between}
 use Rattle.numerals.specs.Numerals.{decimal}
 use Rattle.numerals.specs.Decimal.{decimal-short}
 use Rattle.path_text.specs.Labels.{spaced}
@@ -41,24 +39,4 @@ reading-short price word path a b c h =
 
 -- a number of at most 2 digits
 pub refusal-short : (n : Refusal) → length (refusal-line (numberOf n)) ≤ 11
-refusal-short n = let p = decimal-short 1 (numberOf n) (few n) in let l = length-line (decimal (numberOf n)) in omega arith
-  where
-    few : (n : Refusal) → numberOf n < 100
-    few row.Alphabet = lit< tt
-    few row.TextLength = lit< tt
-    few row.TextByte = lit< tt
-    few row.MisplacedSign = lit< tt
-    few row.Depth = lit< tt
-    few row.Count = lit< tt
-    few row.Bracket = lit< tt
-    few row.Foreign = lit< tt
-    few row.Letters = lit< tt
-    few row.FormMemory = lit< tt
-    few row.BadForm = lit< tt
-    few row.Matrix = lit< tt
-    few row.Cost = lit< tt
-    few row.OutputMemory = lit< tt
-    few row.Work = lit< tt
-    few row.NoReading = lit< tt
-    few row.Label = lit< tt
-    few row.Sheet = lit< tt
+refusal-short n = let p = decimal-short 1 (numberOf n) (number-between n .1) in let l = length-line (decimal (numberOf n)) in omega arith

@@ -11,7 +11,7 @@ use Rattle.refusal.specs.declared.Refusal.{Refusal}
 use Rattle.refusal.specs.declared.Refusal.the-variants.{NoReading}
 use Rattle.refusal.specs.declared.Checked.{Checked}
 use Rattle.refusal.specs.declared.Checked.the-variants.{Passed, Refused}
-use Rattle.refusal.specs.Number.{numberOf}
+use Rattle.refusal.specs.Number.{numberOf, number-between}
 use Rattle.refusal.specs.Verdict.{Verdict, passed, refused, first-refusal}
 use Rattle.refusal.specs.Report.{Report, turned-away}
 use Rattle.answers.specs.Decoded.{read}
@@ -28,7 +28,6 @@ use Rattle.decode_checks.specs.Checks.{needed, matrix-checks}
 use Rattle.decode_phases.specs.Answers.{Lent, rooms, outcome-report, path-of, word-of, Answers, Checks}
 use Rattle.spelling.specs.Spelling.{characters}
 use Rattle.read_text.specs.Promise.{ReadsBy, Reads}
-use Rattle.read_word.specs.Words.{number-some}
 use Rattle.print.specs.Lines.{reading-lines, refusal-line}
 use Rattle.printed.specs.Printed.{Shown, answer-lines}
 use Rattle.read_print.specs.Promise.{Sized}
@@ -36,7 +35,7 @@ use Rattle.read_print.specs.Answer.{form-room, lent-rooms, PrintsOutcome
 
 -- a report is a refusal's or a reading's, never both
 never-both : (n : Refusal) (p k l : ℕ) → read p k l ≡ turned-away n → ⊥
-never-both n p k l e = let q = ap (λ (r : Report). r .number) e in let m = number-some n in omega arith
+never-both n p k l e = let q = ap (λ (r : Report). r .number) e in let m = number-between n .0 in omega arith
 
 same-line : (m n : Refusal) → turned-away m ≡ turned-away n → refusal-line (numberOf m) ≡ refusal-line (numberOf n)
 same-line m n e = ap (λ (r : Report). refusal-line (r .number)) e

@@ -9,6 +9,7 @@ use Rattle.lists.specs.Written.{written, take-written, written-fits}
 use Rattle.refusal.specs.declared.Refusal.{Refusal}
 use Rattle.refusal.specs.declared.Checked.{Checked}
 use Rattle.refusal.specs.declared.Checked.the-variants.{Passed, Refused}
+use Rattle.refusal.specs.Number.{number-between}
 use Rattle.refusal.specs.Verdict.{Verdict, passed, refused, first-refusal}
 use Rattle.refusal.specs.Report.{Report, turned-away, counted, report, filling, Fills}
 use Rattle.automaton.specs.Automaton.{Accepts}
@@ -21,7 +22,7 @@ use Rattle.compile.specs.Meaning.{Means, compiled-means}
 use Rattle.decode_checks.specs.Checks.{needed, matrix-checks}
 use Rattle.decode_phases.specs.Answers.{Lent, rooms, Answers, Checks}
 use Rattle.spelling.specs.Spelling.{characters}
-use Rattle.read_word.specs.Words.{ReadsAccepted, number-some}
+use Rattle.read_word.specs.Words.{ReadsAccepted}
 use Rattle.read_text.specs.Promise.{Reads}
 
 -- Past Compile, with the form f: rows 12 to 15, or the outcome for the words that the form accepts.
@@ -65,7 +66,7 @@ module _ (A s form after : List ℕ) where
       by :
           (v : Verdict (List ℕ)) → compile-call A s (length form) ≡ v → counted n ≡ report v → after ≡ written (filling v) form
           → Compiled A s form after n
-      by (refused m) e r w = absurd (let q = ap (λ (x : Report). x .number) r in let k = number-some m in omega arith)
+      by (refused m) e r w = absurd (let q = ap (λ (x : Report). x .number) r in let k = number-between m .0 in omega arith)
       by (passed f) e r w = record { words = f; call = e; count = ap (λ (x : Report). x .filled) r; memory = w }
 
   -- refused by Compile
@@ -76,7 +77,7 @@ module _ (A s form after : List ℕ) where
     where
       by : (v : Verdict (List ℕ)) → compile-call A s (length form) ≡ v → turned-away n ≡ report v → Reads A s M form after lent lent (turned-away n)
       by (refused m) e r = record { memory = h .memory; reads = rw e (r, refl) }
-      by (passed f) e r = absurd (let q = ap (λ (x : Report). x .number) r in let k = number-some n in omega arith)
+      by (passed f) e r = absurd (let q = ap (λ (x : Report). x .number) r in let k = number-between n .0 in omega arith)
 
   module _ (n : ℕ) (c : Compiled A s form after n) where
     pub compiled-fits : n ≤ length after

@@ -9,9 +9,7 @@ use lib.ListN.{length, getD, take, length-map}
 use Rattle.lists.specs.Each.{Each}
 use Rattle.lists.specs.Written.{written, length-written, written-over, take-written}
 use Rattle.refusal.specs.declared.Refusal.{Refusal}
-use Rattle.refusal.specs.declared.Refusal.the-variants.{Alphabet, TextLength, TextByte, MisplacedSign, Depth, Count, Bracket, Foreign, Letters}
-use Rattle.refusal.specs.declared.Refusal.the-variants.{FormMemory, BadForm, Matrix as MatrixRow, Cost, OutputMemory, Work, NoReading, Label, Sheet}
-use Rattle.refusal.specs.Number.{numberOf}
+use Rattle.refusal.specs.Number.{number-between}
 use Rattle.refusal.specs.Report.{Report, turned-away}
 use Rattle.answers.specs.Decoded.{read}
 use Rattle.ctc.specs.Collapse.{collapse, collapse-each, collapse-letters, collapse-shorter}
@@ -26,27 +24,6 @@ use Rattle.spelling.specs.Spelling.{characters, Labels, Spelt}
 -- what Read answers past its checks, by the words that the form accepts, the word written as characters
 abbrev pub ReadsAccepted : (A f : List ℕ) (M : Matrix) (before after : Lent) (answer : Report) → Type 0
 ReadsAccepted A f M = Answers (Accepts (view f)) (characters A) (length f) M (needed (M .count) (lettersOf f))
-
--- no row has the number 0
-pub number-some : (n : Refusal) → 1 ≤ numberOf n
-number-some Alphabet = omega arith
-number-some TextLength = omega arith
-number-some TextByte = omega arith
-number-some MisplacedSign = omega arith
-number-some Depth = omega arith
-number-some Count = omega arith
-number-some Bracket = omega arith
-number-some Foreign = omega arith
-number-some Letters = omega arith
-number-some FormMemory = omega arith
-number-some BadForm = omega arith
-number-some MatrixRow = omega arith
-number-some Cost = omega arith
-number-some OutputMemory = omega arith
-number-some Work = omega arith
-number-some NoReading = omega arith
-number-some Label = omega arith
-number-some Sheet = omega arith
 
 path-each : (M : Matrix) (t : ℕ) (p : List ℕ) → PathFrom M t p → Each (λ x. x < M .width) p
 path-each M t [] h = tt
@@ -93,7 +70,7 @@ module _ (f : List ℕ) (M : Matrix) (before after : Lent) where
             → after .path ≡ written (path-of o) (before .path) → after .word ≡ written (word-of labels o) (before .word)
             → ReadsAccepted A f M before after (turned-away n)
         by none h e u v = record { outcome = none; is = h; answered = e; path = u; word = v; work = a .work; size = a .size }
-        by (some b) h e u v = absurd (let q = ap (λ (r : Report). r .number) e in let m = number-some n in omega arith)
+        by (some b) h e u v = absurd (let q = ap (λ (r : Report). r .number) e in let m = number-between n .0 in omega arith)
 
     module _ (p n : ℕ) (a : DecodeAnswers f M before after (read p n 0)) where
       -- its word's labels are those of the alphabet

@@ -17,20 +17,12 @@ use Rattle.automaton.specs.Valid.{Valid, follow-target, valid-proper}
 use Rattle.form.specs.Starts.{ArcStarts}
 use Rattle.trellis.specs.Impossible.{TOP, plus}
 use Rattle.trellis.specs.CostToGo.{CostToGo}
-use Rattle.trellis.specs.Extended.{extended, AtLetter}
+use Rattle.trellis.specs.Extended.{extended, AtLetter, at-letter}
 use Rattle.trellis.specs.Cells.{ByArc, blanks-cell, letter-cell}
 use Rattle.trellis.specs.Table.{Row}
 use Rattle.offers.specs.Offers.{candidate}
 use Rattle.offers.specs.Column.{Ahead, onward, CandidatesOf}
 use Rattle.row.specs.Letters.{states, LettersFilled}
-
--- the letter that a state is on or behind
-pub at-letter : (s : ℕ) → AtLetter ((s + 1) / 2) s
-at-letter s = by (eq-or-ne s (2 * ((s + 1) / 2)))
-  where
-    by : (s ≡ 2 * ((s + 1) / 2)) ⊎ (s ≡ 2 * ((s + 1) / 2) → ⊥) → AtLetter ((s + 1) / 2) s
-    by (inl e) = inr e
-    by (inr d) = inl (omega arith)
 
 -- the costs of column t stand at `at`
 abbrev pub ColumnAt : Matrix → ℕ → List ℕ → ℕ → Type 0
@@ -99,9 +91,9 @@ module _ {f : List ℕ} (valid : Valid f) {costs : List ℕ} {at : ℕ} {before 
 module _ {f : List ℕ} (valid : Valid f) (costs : List ℕ) (at : ℕ) (before : List ℕ) (here next : ℕ) (cs : List ℕ) (given : CandidatesOf f costs at before next cs)
     (work : List ℕ) (room : here < length work) (letters : LettersFilled f cs (getD costs at 0) before work here next (lettersOf f + 1)) where
   -- arcs lead to letters, whose candidates are given
-  along : (i barred m : ℕ) → Least TOP (ByArc (view f) (candidate cs) i barred) m → Least TOP (ByArc (view f) (onward f costs at before next) i barred) m
-  along i barred m l =
-      least-same (ByArc (view f) (onward f costs at before next) i barred) (λ n o. (o .0, o .1, o .2, o .3 ∙ same (o .0) (o .1)))
+  along : (i own m : ℕ) → Least TOP (ByArc (view f) (candidate cs) i own) m → Least TOP (ByArc (view f) (onward f costs at before next) i own) m
+  along i own m l =
+      least-same (ByArc (view f) (onward f costs at before next) i own) (λ n o. (o .0, o .1, o .2, o .3 ∙ same (o .0) (o .1)))
       (λ n o. (o .0, o .1, o .2, o .3 ∙ sym (same (o .0) (o .1)))) l
     where
       same : (j : ℕ) → followOf f i j ≡ true → candidate cs j ≡ onward f costs at before next j

@@ -17,8 +17,8 @@ use Rattle.expression.specs.Text.{provided}
 use Rattle.sheet_text.specs.Sheet.{both, linesOf, Sheet, fitting, laid, sheetFrom, sheetOf, widthOr, matrixOf}
 use Rattle.sheet_text.specs.Rows.{lines-end, lines-open, lines-none, columnsOf, rows}
 use Rattle.digits.specs.Places.{part, part-length, part-rest, LineEnd}
-use Rattle.columns.specs.Matrices.{StoredMatrix}
-use Rattle.columns.specs.declared.Body.the-variants as body
+use Rattle.sheet_columns.specs.Matrices.{StoredMatrix}
+use Rattle.sheet_columns.specs.declared.Body.the-variants as body
 use Rattle.scan.specs.Answers.{answerOf, Scans}
 use Rattle.scan.specs.declared.Scanned.the-variants as scanned
 

@@ -1,7 +1,7 @@
 // The sheet's input layout (document 01, "Confidences and the sheet program"): where its lines end, and its costs into lent memory.
-use columns::Body;
-use columns::store_matrix;
 use digits::line_end;
+use sheet_columns::Body;
+use sheet_columns::store_matrix;
 ghost use mathlib.Core.Path.{_≡_};
 ghost use lib.ListN.{length};
 ghost use Rattle.scan.specs.Answers.{Scans};

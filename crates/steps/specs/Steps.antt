@@ -1,5 +1,5 @@
 -- The states that a step from a state leads to, as the code marks them: the state itself, the blanks after its letter, and the letters
--- that may stand behind it and whose label is not barred. Assumes nothing.
+-- that may stand behind it and whose label is another. Assumes nothing.
 -- Used by the contracts and the proofs; in column and trace.
 use Prim.Native.Nat.{ℕ, _+_, _*_, _-_, _/_, _%_, _≤_, _<_}
 use mathlib.Core.Path.{_≡_, refl, sym, _∙_, subst}
@@ -8,33 +8,33 @@ use mathlib.Core.List.{List}
 use mathlib.Core.Logic.{_⊎_, inl, inr}
 use native.Mathlib.Omega.{arith}
 use lib.ListN.{length, getD, set as put}
-use Rattle.lists.specs.Order.{not-both, eq-or-ne}
+use Rattle.lists.specs.Order.{not-both}
 use Rattle.lists.specs.Marks.{Has, Marks, Turns, marks-none, marks-one, marks-same, marks-then}
 use Rattle.automaton.specs.Automaton.{Automaton, Proper}
 use Rattle.automaton.specs.Form.{lettersOf, alphabetOf, view, target}
 use Rattle.automaton.specs.Valid.{Valid, ArcAt, follow-arc, arc-follow, follow-target, valid-proper}
 use Rattle.form.specs.Starts.{Begins, range-source, source-range}
-use Rattle.trellis.specs.Extended.{OnLetter, AtLetter, Step, stay, pass, arc, rest, leave}
+use Rattle.trellis.specs.Extended.{OnLetter, AtLetter, at-letter, Step, stay, pass, arc, rest, leave}
 use Rattle.trellis.specs.Reached.{entering, entering-blanks, entering-letter, Reached}
 
 -- a step leads from state s to state u
 abbrev pub Onto : Automaton → (s u : ℕ) → Type 0
 Onto A s u = Step A s (entering A u) u
 
--- u is the state on letter j, whose label is not the barred one
-abbrev pub Unbarred : Automaton → (barred j u : ℕ) → Type 0
-Unbarred A barred j u = OnLetter j u × (A .label j ≡ barred → ⊥)
+-- u is the state on letter j, whose label is not `own`, the one that the path is on
+abbrev pub OtherLetter : Automaton → (own j u : ℕ) → Type 0
+OtherLetter A own j u = OnLetter j u × (A .label j ≡ own → ⊥)
 
 -- the same, of a letter that may stand behind letter i
-abbrev pub Led : Automaton → (barred i j u : ℕ) → Type 0
-Led A barred i j u = (A .follow i j ≡ true) × Unbarred A barred j u
+abbrev pub Led : Automaton → (own i j u : ℕ) → Type 0
+Led A own i j u = (A .follow i j ≡ true) × OtherLetter A own j u
 
-abbrev pub Behind : Automaton → (barred i u : ℕ) → Type 0
-Behind A barred i u = (j : ℕ) × Led A barred i j u
+abbrev pub Behind : Automaton → (own i u : ℕ) → Type 0
+Behind A own i u = (j : ℕ) × Led A own i j u
 
 -- the same, of the target of the arc word at n
-abbrev pub TargetOf : List ℕ → (barred n u : ℕ) → Type 0
-TargetOf f barred n u = Unbarred (view f) barred (target (getD f n 0)) u
+abbrev pub TargetOf : List ℕ → (own n u : ℕ) → Type 0
+TargetOf f own n u = OtherLetter (view f) own (target (getD f n 0)) u
 
 -- all states of the set are states of the form
 abbrev pub Within : List ℕ → List Bool → Type 0
@@ -43,14 +43,6 @@ Within f set = (s : ℕ) → Has set s → s ≤ 2 * lettersOf f
 -- state s is in the set, and a step leads from it to u
 abbrev pub From : Automaton → List Bool → (s u : ℕ) → Type 0
 From A set s u = Has set s × Onto A s u
-
--- the letter that a state is on or behind
-pub at-letter : (s : ℕ) → AtLetter ((s + 1) / 2) s
-at-letter s = by (eq-or-ne (s % 2) 0)
-  where
-    by : (s % 2 ≡ 0) ⊎ (s % 2 ≡ 0 → ⊥) → AtLetter ((s + 1) / 2) s
-    by (inl e) = inr (omega arith)
-    by (inr n) = inl (omega arith)
 
 -- the label of a state is one of the alphabet
 pub entering-high : (f : List ℕ) → Valid f → (u : ℕ) → u ≤ 2 * lettersOf f → entering (view f) u ≤ alphabetOf f
@@ -64,7 +56,7 @@ entering-high f valid u h = by (at-letter u)
     by (inr o) = let e = entering-blanks (view f) ((u + 1) / 2) u o in omega arith
 
 module _ {k : ℕ} {A : Automaton} (proper : Proper k A) (i s u : ℕ) where
-  -- a step from a state on or behind letter i; in blanks the barred label is the blank, which no letter has
+  -- a step from a state on or behind letter i; in blanks `own` is the blank, which no letter has
   onto : AtLetter i s → ((u ≡ s) ⊎ (u ≡ 2 * i)) ⊎ Behind A (entering A s) i u → Onto A s u
   onto (inl o) (inl (inl e)) = stay i o (entering-letter A i u (omega arith)) (omega arith)
   onto (inl o) (inl (inr e)) = pass i o (entering-blanks A i u e) e
@@ -93,39 +85,39 @@ module _ {k : ℕ} {A : Automaton} (proper : Proper k A) (i s u : ℕ) where
 
 -- One letter, marked or not.
 
-module _ (A : Automaton) (barred j : ℕ) (set : List Bool) where
-  pub letter-marked : 1 ≤ j → 2 * j - 1 < length set → (A .label j ≡ barred → ⊥) → Marks (Unbarred A barred j) set (put set (2 * j - 1) true)
+module _ (A : Automaton) (own j : ℕ) (set : List Bool) where
+  pub letter-marked : 1 ≤ j → 2 * j - 1 < length set → (A .label j ≡ own → ⊥) → Marks (OtherLetter A own j) set (put set (2 * j - 1) true)
   letter-marked l h n =
-      marks-same (λ u. u ≡ 2 * j - 1) (Unbarred A barred j) set (put set (2 * j - 1) true) (λ u e. (omega arith, n)) (λ u q. let o = q .0 in omega arith)
+      marks-same (λ u. u ≡ 2 * j - 1) (OtherLetter A own j) set (put set (2 * j - 1) true) (λ u e. (omega arith, n)) (λ u q. let o = q .0 in omega arith)
       (marks-one (2 * j - 1) set h)
 
-  pub letter-barred : A .label j ≡ barred → Marks (Unbarred A barred j) set set
-  letter-barred e = marks-none (Unbarred A barred j) set (λ u q. q .1 e)
+  pub letter-equal : A .label j ≡ own → Marks (OtherLetter A own j) set set
+  letter-equal e = marks-none (OtherLetter A own j) set (λ u q. q .1 e)
 
   module _ (i : ℕ) where
-    pub led-marked : (after : List Bool) → A .follow i j ≡ true → Marks (Unbarred A barred j) set after → Marks (Led A barred i j) set after
-    led-marked after f = marks-same (Unbarred A barred j) (Led A barred i j) set after (λ u q. (f, q)) (λ u q. q .1)
+    pub led-marked : (after : List Bool) → A .follow i j ≡ true → Marks (OtherLetter A own j) set after → Marks (Led A own i j) set after
+    led-marked after f = marks-same (OtherLetter A own j) (Led A own i j) set after (λ u q. (f, q)) (λ u q. q .1)
 
-    pub led-not : A .follow i j ≡ false → Marks (Led A barred i j) set set
-    led-not f = marks-none (Led A barred i j) set (λ u q. not-both (A .follow i j) (q .0) f)
+    pub led-not : A .follow i j ≡ false → Marks (Led A own i j) set set
+    led-not f = marks-none (Led A own i j) set (λ u q. not-both (A .follow i j) (q .0) f)
 
 -- All letters behind letter i: the first letters, or the targets of its arcs.
 
-module _ (f : List ℕ) (valid : Valid f) (barred : ℕ) (set after : List Bool) where
-  pub firsts-marked : Marks (Turns (Led (view f) barred 0) 1 (lettersOf f + 1)) set after → Marks (Behind (view f) barred 0) set after
-  firsts-marked = marks-same (Turns (Led (view f) barred 0) 1 (lettersOf f + 1)) (Behind (view f) barred 0) set after there back
+module _ (f : List ℕ) (valid : Valid f) (own : ℕ) (set after : List Bool) where
+  pub firsts-marked : Marks (Turns (Led (view f) own 0) 1 (lettersOf f + 1)) set after → Marks (Behind (view f) own 0) set after
+  firsts-marked = marks-same (Turns (Led (view f) own 0) 1 (lettersOf f + 1)) (Behind (view f) own 0) set after there back
     where
-      there : (u : ℕ) → Turns (Led (view f) barred 0) 1 (lettersOf f + 1) u → Behind (view f) barred 0 u
+      there : (u : ℕ) → Turns (Led (view f) own 0) 1 (lettersOf f + 1) u → Behind (view f) own 0 u
       there u (j, low, high, q) = (j, q)
 
-      back : (u : ℕ) → Behind (view f) barred 0 u → Turns (Led (view f) barred 0) 1 (lettersOf f + 1) u
+      back : (u : ℕ) → Behind (view f) own 0 u → Turns (Led (view f) own 0) 1 (lettersOf f + 1) u
       back u (j, q) = let t = follow-target f valid 0 j (q .0) in (j, t .0, (let h = t .1 in omega arith), q)
 
   module _ (i b e : ℕ) (letter : 1 ≤ i) (first : Begins f i b) (next : Begins f (i + 1) e) where
-    pub targets-marked : Marks (Turns (TargetOf f barred) b e) set after → Marks (Behind (view f) barred i) set after
-    targets-marked = marks-same (Turns (TargetOf f barred) b e) (Behind (view f) barred i) set after there back
+    pub targets-marked : Marks (Turns (TargetOf f own) b e) set after → Marks (Behind (view f) own i) set after
+    targets-marked = marks-same (Turns (TargetOf f own) b e) (Behind (view f) own i) set after there back
       where
-        there : (u : ℕ) → Turns (TargetOf f barred) b e u → Behind (view f) barred i u
+        there : (u : ℕ) → Turns (TargetOf f own) b e u → Behind (view f) own i u
         there u (n, low, high, q) =
             let p = first .past in
             let h = next .inside in
@@ -133,11 +125,11 @@ module _ (f : List ℕ) (valid : Valid f) (barred : ℕ) (set after : List Bool)
             record { index = n; past = omega arith; inside = omega arith; from = range-source f i b e first next n low high; to = refl } in
             (target (getD f n 0), (arc-follow f i (target (getD f n 0)) letter a, q))
 
-        back : (u : ℕ) → Behind (view f) barred i u → Turns (TargetOf f barred) b e u
+        back : (u : ℕ) → Behind (view f) own i u → Turns (TargetOf f own) b e u
         back u (j, (g, q)) =
             let a = follow-arc f i j letter g in
             let r = source-range f i b e first next (a .index) (a .past) (a .inside) (a .from) in
-            (a .index, r .0, r .1, subst (λ m. Unbarred (view f) barred m u) (sym (a .to)) q)
+            (a .index, r .0, r .1, subst (λ m. OtherLetter (view f) own m u) (sym (a .to)) q)
 
 -- All that a step from state s leads to, and all that a step from the set leads to.
 

@@ -13,7 +13,7 @@ ghost use Rattle.automaton.specs.Form.{lettersOf, view};
 ghost use Rattle.automaton.specs.Valid.{Valid};
 ghost use Rattle.form.specs.Starts.{Begins, ArcStarts};
 ghost use Rattle.trellis.specs.Reached.{entering as enteringOf, Reached};
-ghost use Rattle.steps.specs.Steps.{Onto, Unbarred, Led, Behind, TargetOf, From, Within};
+ghost use Rattle.steps.specs.Steps.{Onto, OtherLetter, Led, Behind, TargetOf, From, Within};
 
 // The label of each step into state u: the blank, or that of its letter.
 pub fn entering(form: &[u32], u: usize) -> usize
@@ -26,74 +26,74 @@ pub fn entering(form: &[u32], u: usize) -> usize
     label(form, (u + 1) / 2)
 }
 
-// Marks the state on letter j, unless its label is barred.
-fn mark_letter(form: &[u32], barred: usize, j: usize, set: &mut [bool; 255])
+// Marks the state on letter j, unless its label is `own`, the label that the path is on.
+fn mark_letter(form: &[u32], own: usize, j: usize, set: &mut [bool; 255])
     requires { ⌜ Valid (now form) × (1 ≤ j) × (j ≤ lettersOf (now form)) × (length (now set) ≡ 255) ⌝ }
-    ensures { λ _. ⌜ Marks (Unbarred (view (now (form .entry))) barred j) (now (set .entry)) (now (set .exit)) ⌝ }
+    ensures { λ _. ⌜ Marks (OtherLetter (view (now (form .entry))) own j) (now (set .entry)) (now (set .exit)) ⌝ }
 {
-    if label(form, j) != barred {
+    if label(form, j) != own {
         set[2 * j - 1] = true;
     }
 }
 
-// Marks the state on letter j if it may be first, unless its label is barred.
-fn mark_first(form: &[u32], barred: usize, j: usize, set: &mut [bool; 255])
+// Marks the state on letter j if it may be first, unless its label is `own`.
+fn mark_first(form: &[u32], own: usize, j: usize, set: &mut [bool; 255])
     requires { ⌜ Valid (now form) × (1 ≤ j) × (j ≤ lettersOf (now form)) × (length (now set) ≡ 255) ⌝ }
-    ensures { λ _. ⌜ Marks (Led (view (now (form .entry))) barred 0 j) (now (set .entry)) (now (set .exit)) ⌝ }
+    ensures { λ _. ⌜ Marks (Led (view (now (form .entry))) own 0 j) (now (set .entry)) (now (set .exit)) ⌝ }
 {
     if may_be_first(form, j) {
-        mark_letter(form, barred, j, set);
+        mark_letter(form, own, j, set);
     }
 }
 
 // Marks the states on letters that may be first.
-fn mark_firsts(form: &[u32], barred: usize, set: &mut [bool; 255])
+fn mark_firsts(form: &[u32], own: usize, set: &mut [bool; 255])
     requires { ⌜ Valid (now form) × (length (now set) ≡ 255) ⌝ }
-    ensures { λ _. ⌜ Marks (Behind (view (now (form .entry))) barred 0) (now (set .entry)) (now (set .exit)) ⌝ }
+    ensures { λ _. ⌜ Marks (Behind (view (now (form .entry))) own 0) (now (set .entry)) (now (set .exit)) ⌝ }
 {
     let l = letters(form);
     let mut j = 1;
     while j <= l {
-        mark_first(form, barred, j, set);
+        mark_first(form, own, j, set);
         j += 1;
     }
 }
 
 // Marks the states on the targets of the arcs from b up to e.
-fn mark_targets(form: &[u32], barred: usize, b: usize, e: usize, set: &mut [bool; 255])
+fn mark_targets(form: &[u32], own: usize, b: usize, e: usize, set: &mut [bool; 255])
     requires { ⌜ Valid (now form) × (lettersOf (now form) < b) × (b ≤ e) × (e ≤ length (now form)) × (length (now set) ≡ 255) ⌝ }
-    ensures { λ _. ⌜ Marks (Turns (TargetOf (now (form .entry)) barred) b e) (now (set .entry)) (now (set .exit)) ⌝ }
+    ensures { λ _. ⌜ Marks (Turns (TargetOf (now (form .entry)) own) b e) (now (set .entry)) (now (set .exit)) ⌝ }
 {
     let mut n = b;
     while n < e {
-        mark_letter(form, barred, target(form, n), set);
+        mark_letter(form, own, target(form, n), set);
         n += 1;
     }
 }
 
 // Marks the states on letters that may stand behind letter i, whose arcs stand from b up to e.
-fn mark_behind(form: &[u32], barred: usize, i: usize, b: usize, e: usize, set: &mut [bool; 255])
+fn mark_behind(form: &[u32], own: usize, i: usize, b: usize, e: usize, set: &mut [bool; 255])
     requires { ⌜ Valid (now form) × Begins (now form) i b × Begins (now form) (i + 1) e × (length (now set) ≡ 255) ⌝ }
-    ensures { λ _. ⌜ Marks (Behind (view (now (form .entry))) barred i) (now (set .entry)) (now (set .exit)) ⌝ }
+    ensures { λ _. ⌜ Marks (Behind (view (now (form .entry))) own i) (now (set .entry)) (now (set .exit)) ⌝ }
 {
     if i == 0 {
-        mark_firsts(form, barred, set);
+        mark_firsts(form, own, set);
         return;
     }
-    mark_targets(form, barred, b, e, set);
+    mark_targets(form, own, b, e, set);
 }
 
 // Marks the states that a step from state s leads to: itself, the blanks after its letter, and the letters that may stand behind it.
-// From a letter no arc leads to an equal label; in blanks the label that is barred is the blank, which no letter has.
+// From a letter no arc leads to an equal label; in blanks `own` is the blank, which no letter has.
 fn mark_steps(form: &[u32], begins: &[usize], s: usize, set: &mut [bool; 255])
     requires { ⌜ Valid (now form) × ArcStarts (now form) (now begins) × (s ≤ 2 * lettersOf (now form)) × (length (now set) ≡ 255) ⌝ }
     ensures { λ _. ⌜ Marks (Onto (view (now (form .entry))) s) (now (set .entry)) (now (set .exit)) ⌝ }
 {
     let i = (s + 1) / 2;
-    let barred = entering(form, s);
+    let own = entering(form, s);
     set[s] = true;
     set[2 * i] = true;
-    mark_behind(form, barred, i, begins[i], begins[i + 1], set);
+    mark_behind(form, own, i, begins[i], begins[i + 1], set);
 }
 
 // Marks the states that a step from state s leads to, if it is in the set.

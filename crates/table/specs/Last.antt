@@ -11,10 +11,10 @@ use Rattle.lists.specs.Order.{eq-or-ne}
 use Rattle.lists.specs.Outside.{Outside, outside-none, outside-set, outside-then}
 use Rattle.reading.specs.Matrix.{Matrix}
 use Rattle.automaton.specs.Form.{lettersOf, endsOf, view}
+use Rattle.trellis.specs.Extended.{at-letter}
 use Rattle.trellis.specs.Cells.{ending, last-cell}
 use Rattle.trellis.specs.Table.{Row}
 use Rattle.row.specs.Letters.{states}
-use Rattle.row.specs.Rows.{at-letter}
 
 -- the last row, at `base`: what there is to pay where no column is left
 pub record LastFilled (f before after : List ℕ) (base : ℕ) : Type 0 where

@@ -83,7 +83,7 @@ pub fn member(text: &[u8], at: usize, b: u8) -> bool
 }
 
 // How many labels of the alphabet the set has that begins here.
-fn labels(alphabet: &[u8], text: &[u8], at: usize) -> usize
+fn count_labels(alphabet: &[u8], text: &[u8], at: usize) -> usize
     requires { ⌜ SetAt (now text) at ⌝ }
     ensures { λ r. ⌜ r ≡ labelsOf (now (alphabet .entry)) (setAt (now (text .entry)) at) ⌝ }
 {
@@ -96,14 +96,14 @@ fn labels(alphabet: &[u8], text: &[u8], at: usize) -> usize
     n
 }
 
-// The set that begins here, as a part of the text: 8 if the alphabet has none of its labels.
+// The set that begins here, as a part of the text; 8 if no label of the alphabet is in it.
 pub fn set(alphabet: &[u8], text: &[u8], at: usize) -> Part
     ensures { λ r. ⌜ r ≡ partOf (now (alphabet .entry)) (now (text .entry)) (set-tree (now (alphabet .entry)) (drop at (now (text .entry)))) ⌝ }
 {
     match set_end(text, at) {
         End::Refused(x) => Part::Refused(x),
         End::At(e) => {
-            let n = labels(alphabet, text, at);
+            let n = count_labels(alphabet, text, at);
             if n == 0 {
                 return Part::Refused(Refusal::Foreign);
             }

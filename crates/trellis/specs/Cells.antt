@@ -27,9 +27,9 @@ last-cell A M t i s o = by (A .ends i) refl
     by true e = togo-ends (extended A) M t s (may-end A i s o .1 e)
     by false e = togo-never (extended A) M t s (λ m. not-both (A .ends i) (may-end A i s o .0 m) e)
 
--- what the arcs of letter i offer, those to a letter of label `barred` left out; 0 bars none
-abbrev pub ByArc : Automaton → (candidate : ℕ → ℕ) → (i barred : ℕ) → ℕ → Type 0
-ByArc A candidate i barred n = (j : ℕ) × (A .follow i j ≡ true) × (A .label j ≡ barred → ⊥) × (n ≡ candidate j)
+-- what the arcs of letter i offer, those to a letter of label `own` left out; with 0, all
+abbrev pub ByArc : Automaton → (candidate : ℕ → ℕ) → (i own : ℕ) → ℕ → Type 0
+ByArc A candidate i own n = (j : ℕ) × (A .follow i j ≡ true) × (A .label j ≡ own → ⊥) × (n ≡ candidate j)
 
 module _ {k : ℕ} {A : Automaton} (proper : Proper k A) (M : Matrix) (t n : ℕ) (row candidate : ℕ → ℕ)
     (next : (s : ℕ) → s ≤ 2 * A .letters → CostToGo (extended A) M (t + 1) n s (row s))

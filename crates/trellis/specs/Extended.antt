@@ -1,7 +1,7 @@
 -- The extended states of an automaton (document 01, "Extended states and decoding"): the steps of a path through them, and where it may
 -- end. Assumes nothing.
 -- Used by 5 files of specs/; in column, decode_phases, row, steps, table and trace.
-use Prim.Native.Nat.{ℕ, _+_, _*_, _≤_, _<_}
+use Prim.Native.Nat.{ℕ, _+_, _*_, _/_, _≤_, _<_}
 use mathlib.Core.Path.{_≡_, refl}
 use mathlib.Core.Bool.{true, _&&_}
 use mathlib.Core.List.{List, [], _∷_}
@@ -9,6 +9,7 @@ use mathlib.Core.Logic.{_↔_, _⊎_, inl, inr}
 use native.Mathlib.Omega.{arith}
 use lib.Dec.{eqb, ltb}
 use Rattle.lists.specs.Each.{Each}
+use Rattle.lists.specs.Order.{eq-or-ne}
 use Rattle.automaton.specs.Automaton.{Automaton, Proper}
 use Rattle.trellis.specs.Graph.{Graph, Leads, Way}
 
@@ -40,6 +41,13 @@ extended A = record { Step = Step A; Ends = MayEnd A }
 -- letter i is the one that the state is on or behind; 0 if there is none yet
 abbrev pub AtLetter : (i s : ℕ) → Type 0
 AtLetter i s = OnLetter i s ⊎ InBlanks i s
+
+pub at-letter : (s : ℕ) → AtLetter ((s + 1) / 2) s
+at-letter s = by (eq-or-ne s (2 * ((s + 1) / 2)))
+  where
+    by : (s ≡ 2 * ((s + 1) / 2)) ⊎ (s ≡ 2 * ((s + 1) / 2) → ⊥) → AtLetter ((s + 1) / 2) s
+    by (inl e) = inr e
+    by (inr d) = inl (omega arith)
 
 pub may-end : (A : Automaton) (i s : ℕ) → AtLetter i s → MayEnd A s ↔ (A .ends i ≡ true)
 may-end A i s o = (ends o, may o)

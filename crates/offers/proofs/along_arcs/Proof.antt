@@ -39,8 +39,8 @@ shared-slice-read-v c = let h = letter (c .before) in let size = c .before .befo
 least-requires : tie.Need-least-requires Inv-loop μ-loop
 least-requires c κs = search needs
 
-unless-barred-requires : tie.Need-unless-barred-requires Inv-loop μ-loop
-unless-barred-requires c κs = let h = letter (c .before .before) in let long = c .before .before .before .before .before .before .before .before .pre .valid .long in omega arith
+unless-equal-requires : tie.Need-unless-equal-requires Inv-loop μ-loop
+unless-equal-requires c κs = let h = letter (c .before .before) in let long = c .before .before .before .before .before .before .before .before .pre .valid .long in omega arith
 
 least-requires-2 : tie.Need-least-requires-2 Inv-loop μ-loop
 least-requires-2 c κs = search needs
@@ -53,7 +53,7 @@ loop-less c = omega (arith, c .before .before .before .before .before .loop-test
 
 loop-again : tie.Need-loop-again Inv-loop μ-loop
 loop-again c =
-    rw (c .before .before .least .ensures, c .least2 .ensures, c .before .unless-barred .ensures)
+    rw (c .before .before .least .ensures, c .least2 .ensures, c .before .unless-equal .ensures)
     (sofar-more (c .before .before .before .before .before .before .before .before .before .before .pre) (c .before .before .before .before .before .before .loop .inv) (c .before .before .before .before .before .loop-test .taken) (c .before .before .before .before .target .result) (c .before .before .before .before .target .ensures))
 
 returns : tie.Need-returns Inv-loop μ-loop
@@ -71,7 +71,7 @@ along-arcs-spec =
     mul-v
     shared-slice-read-v
     least-requires
-    unless-barred-requires
+    unless-equal-requires
     least-requires-2
     add-k
     loop-less

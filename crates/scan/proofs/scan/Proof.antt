@@ -4,7 +4,7 @@ use native.Mathlib.Omega.{arith}
 use borrow.Author.Needs.{needs}
 use denote.Ref.{now}
 use Prim.Native.Nat.{_+_}
-use Rattle.columns.specs.Matrices.{StoredMatrix}
+use Rattle.sheet_columns.specs.Matrices.{StoredMatrix}
 use Rattle.scan.specs.Whole.{scans-bad, sheet-long, sheet-no-line, sheet-one-line, sheet-unfit, scans-sheet}
 use Rattle.scan.proofs.scan.Statement.{statement}
 use Rattle.scan.proofs.scan.Tie as tie

@@ -15,7 +15,7 @@ mark-firsts-requires c κs = let p = c .before .before .before .pre in (p .0, p 
 returns : tie.Need-returns
 returns c =
     let a = c .before .before .before .before .args in
-    subst (λ i. Marks (Behind (view (now (a .form))) (a .barred) i) (now (a .set)) (c .mark-firsts .last .1 .1 .0)) (sym (c .before .before .if1 .taken))
+    subst (λ i. Marks (Behind (view (now (a .form))) (a .own) i) (now (a .set)) (c .mark-firsts .last .1 .1 .0)) (sym (c .before .before .if1 .taken))
     (c .mark-firsts .ensures)
 
 mark-targets-requires : tie.Need-mark-targets-requires
@@ -30,7 +30,7 @@ returns-2 c =
     let a = c .before .before .before .before .args in
     let p = c .before .before .before .before .pre in
     let d = c .before .before .if1 .left in
-    targets-marked (now (a .form)) (p .0) (a .barred) (now (a .set)) (c .mark-targets .last .1 .1 .1 .1 .0) (a .i) (a .b) (a .e) (omega arith) (p .1) (p .2)
+    targets-marked (now (a .form)) (p .0) (a .own) (now (a .set)) (c .mark-targets .last .1 .1 .1 .1 .0) (a .i) (a .b) (a .e) (omega arith) (p .1) (p .2)
     (c .mark-targets .ensures)
 
 pub mark-behind-spec : {M : Type 1} → statement M

@@ -4,7 +4,7 @@ use native.Mathlib.Omega.{arith}
 use denote.Ref.{now}
 use borrow.Author.Needs.{needs}
 use Rattle.automaton.specs.Form.{view}
-use Rattle.steps.specs.Steps.{letter-marked, letter-barred}
+use Rattle.steps.specs.Steps.{letter-marked, letter-equal}
 use Rattle.steps.proofs.mark_letter.Statement.{statement}
 use Rattle.steps.proofs.mark_letter.Tie as tie
 
@@ -23,13 +23,13 @@ element-write-set c = search needs
 returns : tie.Need-returns
 returns c =
     let a = c .before .before .before .args in
-    letter-marked (view (now (a .form))) (a .barred) (a .j) (now (a .set)) (omega arith) (omega arith)
+    letter-marked (view (now (a .form))) (a .own) (a .j) (now (a .set)) (omega arith) (omega arith)
     (λ e. c .if1 .taken (c .before .label .ensures ∙ e))
 
 returns-2 : tie.Need-returns-2
 returns-2 c =
     let a = c .before .before .before .args in
-    letter-barred (view (now (a .form))) (a .barred) (a .j) (now (a .set)) (sym (c .before .label .ensures) ∙ c .if1 .left)
+    letter-equal (view (now (a .form))) (a .own) (a .j) (now (a .set)) (sym (c .before .label .ensures) ∙ c .if1 .left)
 
 pub mark-letter-spec : {M : Type 1} → statement M
 mark-letter-spec = tie.close (tie.spec label-requires mul-set sub-set element-write-set returns returns-2)

@@ -9,7 +9,8 @@ use borrow.Author.Needs.{needs}
 use Rattle.lists.specs.Marks.{Marks}
 use Rattle.automaton.specs.Form.{view}
 use Rattle.trellis.specs.Reached.{entering}
-use Rattle.steps.specs.Steps.{Behind, steps-marked, at-letter}
+use Rattle.trellis.specs.Extended.{at-letter}
+use Rattle.steps.specs.Steps.{Behind, steps-marked}
 use Rattle.steps.proofs.mark_steps.Statement.{statement}
 use Rattle.steps.proofs.mark_steps.Tie as tie
 

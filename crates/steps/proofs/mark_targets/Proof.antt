@@ -5,21 +5,21 @@ use native.Mathlib.Omega.{arith}
 use denote.Ref.{now}
 use Rattle.lists.specs.Marks.{Marks, Turns, turns-none, turns-more}
 use Rattle.automaton.specs.Form.{view}
-use Rattle.steps.specs.Steps.{Unbarred, TargetOf}
+use Rattle.steps.specs.Steps.{OtherLetter, TargetOf}
 use Rattle.steps.proofs.mark_targets.Statement.{statement}
 use Rattle.steps.proofs.mark_targets.Tie as tie
 
 abbrev Inv-loop : tie.InvT-loop
-Inv-loop form barred b e set₀ n₀ set n = (b ≤ n) × (n ≤ e) × Marks (Turns (TargetOf form barred) b n) set₀ set
+Inv-loop form own b e set₀ n₀ set n = (b ≤ n) × (n ≤ e) × Marks (Turns (TargetOf form own) b n) set₀ set
 
 abbrev μ-loop : tie.MeasureT-loop
-μ-loop form barred b e set₀ n₀ set n = e - n
+μ-loop form own b e set₀ n₀ set n = e - n
 
 loop-holds : tie.Need-loop-holds Inv-loop μ-loop
 loop-holds c =
     let a = c .before .args in
     let p = c .before .pre in
-    (omega arith, p .2, turns-none (TargetOf (now (a .form)) (a .barred)) (a .b) (now (a .set)))
+    (omega arith, p .2, turns-none (TargetOf (now (a .form)) (a .own)) (a .b) (now (a .set)))
 
 target-requires : tie.Need-target-requires Inv-loop μ-loop
 target-requires c κs = let p = c .before .before .before .pre in omega arith
@@ -45,8 +45,8 @@ loop-again c =
     let after = c .mark-letter .last .1 .1 .1 .0 in (
       omega arith,
       omega arith,
-      turns-more (TargetOf (now (a .form)) (a .barred)) (a .b) (l .n) (now (a .set)) (l .set) after (l .inv .0) (l .inv .2)
-          (subst (λ j. Marks (Unbarred (view (now (a .form))) (a .barred) j) (l .set) after) (c .before .before .target .ensures) (c .mark-letter .ensures)),
+      turns-more (TargetOf (now (a .form)) (a .own)) (a .b) (l .n) (now (a .set)) (l .set) after (l .inv .0) (l .inv .2)
+          (subst (λ j. Marks (OtherLetter (view (now (a .form))) (a .own) j) (l .set) after) (c .before .before .target .ensures) (c .mark-letter .ensures)),
     )
 
 returns : tie.Need-returns Inv-loop μ-loop
@@ -54,7 +54,7 @@ returns c =
     let a = c .before .before .before .args in
     let l = c .before .loop in
     let end : l .n ≡ a .e = omega arith in
-    subst (λ n. Marks (Turns (TargetOf (now (a .form)) (a .barred)) (a .b) n) (now (a .set)) (l .set)) end (l .inv .2)
+    subst (λ n. Marks (Turns (TargetOf (now (a .form)) (a .own)) (a .b) n) (now (a .set)) (l .set)) end (l .inv .2)
 
 pub mark-targets-spec : {M : Type 1} → statement M
 mark-targets-spec = tie.close (tie.spec Inv-loop μ-loop loop-holds target-requires mark-letter-requires add-n loop-less loop-again returns)

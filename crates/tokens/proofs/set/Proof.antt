@@ -17,8 +17,8 @@ enum-known-x c = search needs
 enum-known-e : tie.Need-enum-known-e
 enum-known-e c = search needs
 
-labels-requires : tie.Need-labels-requires
-labels-requires c κs =
+count-labels-requires : tie.Need-count-labels-requires
+count-labels-requires c κs =
     let start = c .before .before .before .before .before .before in
     let after-set-end = c .before .before .before in
     let A = now (start .args .alphabet) in
@@ -34,8 +34,8 @@ returns c =
     let A = now (start .args .alphabet) in
     let text = now (start .args .text) in
     let at = start .args .at in
-    part-foreign A text (drop at text) _ (c .before .labels .result) (sym (after-e .e .given .1) ∙ after-set-end .set-end .ensures)
-    (c .before .labels .ensures) (c .if1 .taken)
+    part-foreign A text (drop at text) _ (c .before .count-labels .result) (sym (after-e .e .given .1) ∙ after-set-end .set-end .ensures)
+    (c .before .count-labels .ensures) (c .if1 .taken)
 
 capped-at-128-requires : tie.Need-capped-at-128-requires
 capped-at-128-requires c κs = search needs
@@ -58,8 +58,8 @@ returns-3 c =
     let A = now (start .args .alphabet) in
     let text = now (start .args .text) in
     let at = start .args .at in
-    ap (part.Read (after-e .e .given .0 .0)) (c .capped-at-128 .ensures) ∙ part-labels A text (drop at text) _ (after-labels .labels .result)
-    (sym (after-e .e .given .1) ∙ after-set-end .set-end .ensures) (after-labels .labels .ensures) (c .before .if1 .left)
+    ap (part.Read (after-e .e .given .0 .0)) (c .capped-at-128 .ensures) ∙ part-labels A text (drop at text) _ (after-labels .count-labels .result)
+    (sym (after-e .e .given .1) ∙ after-set-end .set-end .ensures) (after-labels .count-labels .ensures) (c .before .if1 .left)
 
 pub set-spec : {M : Type 1} → statement M
-set-spec = tie.close (tie.spec set-end-requires enum-known-x enum-known-e labels-requires returns capped-at-128-requires returns-2 returns-3)
+set-spec = tie.close (tie.spec set-end-requires enum-known-x enum-known-e count-labels-requires returns capped-at-128-requires returns-2 returns-3)

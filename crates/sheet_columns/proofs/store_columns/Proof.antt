@@ -1,4 +1,4 @@
--- `columns::store_columns` meets its contract: what it answers from the place i on, with the columns stored so far, it answers from the start.
+-- `sheet_columns::store_columns` meets its contract: what it answers from the place i on, with the columns stored so far, it answers from the start.
 -- Assumes nothing.
 use Prim.Native.Nat.{ℕ, _+_, _-_, _≤_}
 use mathlib.Core.Path.{_≡_, refl, _∙_, subst}
@@ -7,12 +7,12 @@ use native.Mathlib.Omega.{arith}
 use borrow.Author.Needs.{needs}
 use lib.ListN.{length}
 use denote.Ref.{now}
-use Rattle.columns.specs.declared.Column.the-variants.{Ends}
-use Rattle.columns.specs.declared.Columns.{Columns}
-use Rattle.columns.specs.declared.Columns.the-variants.{Count, Bad}
-use Rattle.columns.specs.Storing.{StoredColumn, StoredColumns, columns-end, columns-bad, columns-unequal, columns-more}
-use Rattle.columns.proofs.store_columns.Statement.{statement}
-use Rattle.columns.proofs.store_columns.Tie as tie
+use Rattle.sheet_columns.specs.declared.Column.the-variants.{Ends}
+use Rattle.sheet_columns.specs.declared.Columns.{Columns}
+use Rattle.sheet_columns.specs.declared.Columns.the-variants.{Count, Bad}
+use Rattle.sheet_columns.specs.Storing.{StoredColumn, StoredColumns, columns-end, columns-bad, columns-unequal, columns-more}
+use Rattle.sheet_columns.proofs.store_columns.Statement.{statement}
+use Rattle.sheet_columns.proofs.store_columns.Tie as tie
 
 abbrev Inv-loop : tie.InvT-loop
 Inv-loop input at costs₀ width i₀ m₀ n₀ costs i m n =

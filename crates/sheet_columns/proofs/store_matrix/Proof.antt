@@ -1,13 +1,13 @@
--- `columns::store_matrix` meets its contract: the first column gives the width of the others. Assumes nothing.
+-- `sheet_columns::store_matrix` meets its contract: the first column gives the width of the others. Assumes nothing.
 use mathlib.Core.Path.{subst}
 use native.Mathlib.Omega.{arith}
 use borrow.Author.Needs.{needs}
 use denote.Ref.{now}
-use Rattle.columns.specs.declared.Column.the-variants.{Ends}
-use Rattle.columns.specs.Storing.{StoredColumn, StoredColumns}
-use Rattle.columns.specs.Matrices.{matrix-none, matrix-bad, matrix-unequal, matrix-is}
-use Rattle.columns.proofs.store_matrix.Statement.{statement}
-use Rattle.columns.proofs.store_matrix.Tie as tie
+use Rattle.sheet_columns.specs.declared.Column.the-variants.{Ends}
+use Rattle.sheet_columns.specs.Storing.{StoredColumn, StoredColumns}
+use Rattle.sheet_columns.specs.Matrices.{matrix-none, matrix-bad, matrix-unequal, matrix-is}
+use Rattle.sheet_columns.proofs.store_matrix.Statement.{statement}
+use Rattle.sheet_columns.proofs.store_matrix.Tie as tie
 
 returns : tie.Need-returns
 returns c =

@@ -1,4 +1,4 @@
--- `columns::store_column` meets its contract: what it answers from the place i on, with the costs stored so far, it answers from the start.
+-- `sheet_columns::store_column` meets its contract: what it answers from the place i on, with the costs stored so far, it answers from the start.
 -- Assumes nothing.
 use Prim.Native.Nat.{ℕ, _+_, _-_, _≤_}
 use mathlib.Core.Path.{_≡_, refl, _∙_, subst}
@@ -9,11 +9,11 @@ use lib.ListN.{length, set, length-set}
 use denote.Ref.{now}
 use Rattle.digits.specs.Digits.{ReadCost, cost-begins}
 use Rattle.digits.specs.declared.Cost.the-variants.{Is}
-use Rattle.columns.specs.declared.Column.{Column}
-use Rattle.columns.specs.declared.Column.the-variants.{Ends, Bad}
-use Rattle.columns.specs.Storing.{StoredColumn, column-bad, column-full, column-last, column-more}
-use Rattle.columns.proofs.store_column.Statement.{statement}
-use Rattle.columns.proofs.store_column.Tie as tie
+use Rattle.sheet_columns.specs.declared.Column.{Column}
+use Rattle.sheet_columns.specs.declared.Column.the-variants.{Ends, Bad}
+use Rattle.sheet_columns.specs.Storing.{StoredColumn, column-bad, column-full, column-last, column-more}
+use Rattle.sheet_columns.proofs.store_column.Statement.{statement}
+use Rattle.sheet_columns.proofs.store_column.Tie as tie
 
 abbrev Inv-loop : tie.InvT-loop
 Inv-loop input at costs₀ m i₀ n₀ costs i n =

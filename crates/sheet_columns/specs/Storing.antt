@@ -19,11 +19,11 @@ use Rattle.sheet_text.specs.Sheet.{both}
 use Rattle.sheet_text.specs.Rows.{rows, rows-end, rows-some, beside, put}
 use Rattle.digits.specs.Digits.{ReadCost, cost-begins}
 use Rattle.digits.specs.declared.Cost.the-variants as cost
-use Rattle.columns.specs.Rests.{cost-rows, no-column}
-use Rattle.columns.specs.declared.Column.{Column}
-use Rattle.columns.specs.declared.Column.the-variants as column
-use Rattle.columns.specs.declared.Columns.{Columns}
-use Rattle.columns.specs.declared.Columns.the-variants as columns
+use Rattle.sheet_columns.specs.Rests.{cost-rows, no-column}
+use Rattle.sheet_columns.specs.declared.Column.{Column}
+use Rattle.sheet_columns.specs.declared.Column.the-variants as column
+use Rattle.sheet_columns.specs.declared.Columns.{Columns}
+use Rattle.sheet_columns.specs.declared.Columns.the-variants as columns
 
 -- The first 16,384 places hold anything, and nothing else of the memory is changed.
 pub record Spoilt (before after : List ℕ) : Type 0 where

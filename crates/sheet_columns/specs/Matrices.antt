@@ -15,11 +15,11 @@ use Rattle.lists.specs.Order.{and-left, and-right, and-both}
 use Rattle.lists.specs.Written.{written, written-none, stored-then}
 use Rattle.sheet_text.specs.Sheet.{both, equal-columns, fitting, widthOr}
 use Rattle.sheet_text.specs.Rows.{rows, rows-end, rows-some}
-use Rattle.columns.specs.Storing.{Spoilt, spoilt-stored, StoredColumn, StoredColumns, wide, both-back, flatten-more}
-use Rattle.columns.specs.declared.Column.the-variants as column
-use Rattle.columns.specs.declared.Columns.the-variants as columns
-use Rattle.columns.specs.declared.Body.{Body}
-use Rattle.columns.specs.declared.Body.the-variants as body
+use Rattle.sheet_columns.specs.Storing.{Spoilt, spoilt-stored, StoredColumn, StoredColumns, wide, both-back, flatten-more}
+use Rattle.sheet_columns.specs.declared.Column.the-variants as column
+use Rattle.sheet_columns.specs.declared.Columns.the-variants as columns
+use Rattle.sheet_columns.specs.declared.Body.{Body}
+use Rattle.sheet_columns.specs.declared.Body.the-variants as body
 
 pub record AllColumns (if-none : ℕ) (input : List ℕ) (at : ℕ) (before after : List ℕ) (width count : ℕ) : Type 0 where
   pub columns : List (List ℕ)

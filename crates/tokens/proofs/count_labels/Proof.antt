@@ -1,4 +1,4 @@
--- `tokens::labels` meets its contract: those counted and those from i on are all. Assumes nothing.
+-- `tokens::count_labels` meets its contract: those counted and those from i on are all. Assumes nothing.
 use native.Mathlib.Omega.{arith}
 use denote.Ref.{now}
 use Prim.Native.Nat.{_≤_, _-_, _+_}
@@ -8,8 +8,8 @@ use Rattle.expression.specs.Letters.{labelsOf}
 use Rattle.expression.specs.Tree.{member}
 use Rattle.tokens.specs.Answers.{setAt}
 use Rattle.tokens.specs.Sets.{labels-none, labels-more, labels-end, at-most-one}
-use Rattle.tokens.proofs.labels.Statement.{statement}
-use Rattle.tokens.proofs.labels.Tie as tie
+use Rattle.tokens.proofs.count_labels.Statement.{statement}
+use Rattle.tokens.proofs.count_labels.Tie as tie
 
 abbrev Inv-loop : tie.InvT-loop
 Inv-loop alphabet text at n₀ i₀ n i = (i ≤ length alphabet) × (n ≤ i) ×
@@ -63,8 +63,8 @@ returns c =
     labels-end (now (start .args .alphabet)) (setAt (now (start .args .text)) (start .args .at)) (c .before .loop .i) (c .before .loop .n)
     (omega arith) (c .before .loop .inv .2)
 
-pub labels-spec : {M : Type 1} → statement M
-labels-spec =
+pub count-labels-spec : {M : Type 1} → statement M
+count-labels-spec =
     tie.close
     (tie.spec
     Inv-loop

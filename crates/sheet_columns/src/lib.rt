@@ -3,8 +3,8 @@ use digits::Cost;
 use digits::read_cost;
 ghost use Prim.Native.Nat.{_≤_};
 ghost use lib.ListN.{length};
-ghost use Rattle.columns.specs.Storing.{StoredColumn, StoredColumns};
-ghost use Rattle.columns.specs.Matrices.{StoredMatrix};
+ghost use Rattle.sheet_columns.specs.Storing.{StoredColumn, StoredColumns};
+ghost use Rattle.sheet_columns.specs.Matrices.{StoredMatrix};
 
 // The place behind a column line, and how many costs are stored with its own.
 enum Column {
