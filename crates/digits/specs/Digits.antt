@@ -1,5 +1,5 @@
 -- The digits at a place of a sheet, and the cost that they make with what stands behind them. Assumes nothing.
--- Used by the contracts and the proofs; in columns.
+-- Used by the contracts and the proofs; in sheet_columns.
 use mathlib.Core.Path.{_≡_, refl, sym, ap, ap₂, _∙_, subst}
 use mathlib.Core.Option.{some}
 use mathlib.Core.List.{List, [], _∷_, _++_}

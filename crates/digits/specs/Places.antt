@@ -1,5 +1,5 @@
 -- The part of an input from one place up to another, and where a line ends. Assumes nothing.
--- Used by the contracts, the proofs and Digits; in columns and scan.
+-- Used by the contracts, the proofs and Digits; in scan and sheet_columns.
 use mathlib.Core.Path.{_≡_, sym, ap, _∙_}
 use mathlib.Core.List.{List, [], _∷_, _++_}
 use mathlib.Core.Logic.{⊎-elim}

@@ -1,6 +1,6 @@
 -- The columns that the rest of a sheet holds, from any place on: what the rest's first line or first number makes of them.
 -- Assumes nothing.
--- Used by Limits and Parts; in columns, digits and scan.
+-- Used by Limits and Parts; in digits, scan and sheet_columns.
 use mathlib.Core.Path.{_≡_, refl, sym, ap, _∙_}
 use mathlib.Core.Option.{Option, some, none}
 use mathlib.Core.List.{List, [], _∷_, _++_, append-assoc, append-nil}

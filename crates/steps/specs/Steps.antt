@@ -1,7 +1,7 @@
 -- The states that a step from a state leads to, as the code marks them: the state itself, the blanks after its letter, and the letters
 -- that may stand behind it and whose label is another. Assumes nothing.
 -- Used by the contracts and the proofs; in column and trace.
-use Prim.Native.Nat.{ℕ, _+_, _*_, _-_, _/_, _%_, _≤_, _<_}
+use Prim.Native.Nat.{ℕ, _+_, _*_, _-_, _/_, _≤_, _<_}
 use mathlib.Core.Path.{_≡_, refl, sym, _∙_, subst}
 use mathlib.Core.Bool.{Bool, true, false}
 use mathlib.Core.List.{List}
