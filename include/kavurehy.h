@@ -3,7 +3,8 @@
 
    A list is passed as a pointer to its first element and its number of elements. The pointer is never null, also where the number is 0,
    and points to so many readable elements; lent memory (pointers that are not const, and the counts) is writable and overlaps no other
-   list of the call. A call keeps no pointer.
+   list of the call. A call keeps no pointer. Stack is not counted by the proofs: compile and read were seen to use up to 266 kB, the
+   other calls less than 4 kB.
 
    Each call returns 0, or the number of the refusal that applies:
       1 alphabet       not 1 to 95 distinct bytes, each 32 to 126
@@ -44,7 +45,7 @@ extern "C" {
 uint32_t kavurehy_compile(const uint8_t *alphabet, size_t alphabet_length, const uint8_t *text, size_t text_length, uint32_t *form,
                           size_t form_memory, uint32_t counts[1]);
 
-/* accepted[0] is 1 if the form accepts the word of labels 1 to K, and 0 if it does not. Refusals: 11, 17. */
+/* accepted[0] is 1 if the form accepts the word of labels 1 to K, and 0 if it does not, or at a refusal. Refusals: 11, 17. */
 uint32_t kavurehy_judge(const uint32_t *form, size_t form_length, const uint8_t *word, size_t word_length, uint32_t accepted[1]);
 
 /* Writes the word that a path of labels 0 to k collapses to: each run of equal neighbours merged into one, then the blanks deleted.

@@ -22,6 +22,7 @@ pub enum Refusal {
     Work = 15,
     NoReading = 16,
     Label = 17,
+    /// Given by the sheet program alone.
     Sheet = 18,
 }
 

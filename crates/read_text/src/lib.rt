@@ -1,5 +1,5 @@
 // From an alphabet, the text of an expression and a matrix by its parts to what is read: Compile, the checks, and what its form reads
-// (document 01, demand 3).
+// (demand 3).
 use answers::Reading;
 use decode_checks::check_matrix;
 use form_words::letters;

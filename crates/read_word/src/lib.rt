@@ -1,4 +1,4 @@
-// Read past its checks (document 01, demand 3).
+// Read past its checks (demand 3).
 use answers::Decoded;
 use answers::Reading;
 use decode_phases::decode_valid;

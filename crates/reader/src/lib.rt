@@ -1,5 +1,5 @@
 // Read: from an alphabet, the text of an expression and a matrix of costs to the cheapest path whose collapse is a word of the expression,
-// with the word as characters (document 01, demand 3).
+// with the word as characters (demand 3).
 use answers::Reading;
 use decode::Matrix;
 use decode::matrix_of;
@@ -10,13 +10,13 @@ ghost use Rattle.reading.specs.Matrix.{matrix};
 ghost use Rattle.read_text.specs.Promise.{Reads};
 
 // Document 01's Read. Its promise is `Reads` (read_text, specs/Promise.antt); demand 3, clause by clause:
-// - "the cheapest rival": the field `is` of `Answers`, an `Outcome` for the words of the text; where it is a path, `Best` says of it
+// - the cheapest rival: the field `is` of `Answers`, an `Outcome` for the words of the text; where it is a path, `Best` says of it
 //   `qualifies` (a rival: one label a column, its collapse a word) and `least`;
-// - "the first by labels among equals": `first` of `Best`;
-// - "'no reading' exactly when there is no rival": an `Outcome` is none with a proof that no list is a rival, and there is one outcome;
-// - "the word is the path's collapse", as characters: the field `word`;
-// - "the price is the path's own": the field `answered`;
-// - "past the checks with memory enough", no refusal but 16 applies: `compile-call` passes, and so do `matrix-checks`.
+// - the first by labels among equals: `first` of `Best`;
+// - 'no reading' exactly when there is none: an `Outcome` is none with a proof that no list is a rival, and there is one outcome;
+// - the word is the path's collapse, as characters: the field `word`;
+// - the price is the path's own: the field `answered`;
+// - past the checks with memory enough, no refusal but 16 applies: `compile-call` passes, and so do `matrix-checks`.
 // The same stands as theorems in specs/Demands.antt. Nothing of it speaks of states.
 pub fn read_matrix(
     alphabet: &[u8],

@@ -78,7 +78,7 @@ unfoldable pub laid : List ℕ → List ℕ → Option (List (List ℕ)) → Opt
 laid a t none = none
 laid a t (some cs) = provided (fitting cs) (some (record { alphabet = a; text = t; columns = cs }))
 
--- the alphabet line, the expression line and the column lines: "There may be no column line."
+-- the alphabet line, the expression line and the column lines: "There may be no column line".
 unfoldable pub sheetFrom : Option (List (List ℕ)) → Option Sheet
 sheetFrom none = none
 sheetFrom (some []) = none

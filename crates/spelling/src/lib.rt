@@ -1,4 +1,4 @@
-// A word's labels as characters of the alphabet, written in place of the labels (document 01, demand 3: the word is the path's collapse).
+// A word's labels as characters of the alphabet, written in place of the labels (demand 3).
 use labels::wide;
 ghost use Rattle.spelling.specs.Spelling.{Labels, Spelt};
 

@@ -28,7 +28,7 @@ pub fn either(mut branches: Vec<Rc<Tree>>) -> Rc<Tree> {
     }
 }
 
-pub enum Sign {
+enum Sign {
     Open,
     Close,
     Bar,

@@ -1,5 +1,5 @@
 //! What document 01 says, said again in plain Rust as directly as its sentences go. Nothing here is taken from the Rattle code;
-//! where there is a choice of method, another one is taken. `input` makes random input, `tally` counts answers.
+//! parser, matcher and search go other ways than it, and `ranked` breaks ties in another. `input` makes random input, `tally` counts answers.
 
 pub mod bracket;
 pub mod call;

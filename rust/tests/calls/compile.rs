@@ -92,6 +92,20 @@ fn words_of_texts() {
     assert!(yes >= CASES / 10 && no >= CASES / 10, "{yes} {no}");
 }
 
+/// The text for which Compile calls itself deepest, on a thread with less than half as much stack again as was seen (FIGURES.md).
+#[test]
+fn deepest_text() {
+    let compile = || {
+        kavurehy::compile(
+            b"ab",
+            b"((((((((((((((((a{127}))))))))))))))))",
+            &mut vec![0; FORM_WORDS],
+        )
+    };
+    let thread = std::thread::Builder::new().stack_size(384 * 1024);
+    assert_eq!(thread.spawn(compile).unwrap().join().unwrap(), Ok(254));
+}
+
 /// A word of at most 60 labels: one of the expression's if it is not longer, at times with one label changed.
 fn word(r: &mut Random, tree: &Tree, k: usize) -> Vec<u8> {
     let mut word = Vec::new();

@@ -181,15 +181,17 @@ fn small_matrices() {
 #[test]
 fn damaged_forms() {
     let mut r = random("damaged_forms");
-    let mut tally = Tally::default();
     for kind in 0..KINDS {
         for _ in 0..LEAST / 10 {
             let mut call = Call::small(&mut r);
             call.form = damaged(&mut r, kind);
-            assert_eq!(call.hold_small(&mut tally), Err(11), "damage {kind}");
+            assert_eq!(
+                call.hold_small(&mut Tally::default()),
+                Err(11),
+                "damage {kind}"
+            );
         }
     }
-    tally.demand("decode of damaged forms", LEAST, &[11]);
 }
 
 #[test]

@@ -10,8 +10,8 @@ mod lines;
 mod matrix;
 mod read;
 mod read_call;
-mod readings;
 mod support;
+mod texts;
 
 /// How often each call answers each of its numbers, at least, on the random input of its test.
 const LEAST: usize = 500;

@@ -47,7 +47,7 @@ fn costs(r: &mut Random, number: usize) -> Vec<u32> {
     (0..number).map(|_| cost()).collect()
 }
 
-/// The most columns of which all lists of labels 0 to K can be gone through: at most 9,216 lists.
+/// The most columns of which all lists of labels 0 to K can be gone through: at most 9,261 lists.
 pub fn few_columns(k: usize) -> usize {
     match k {
         1 => 10,
