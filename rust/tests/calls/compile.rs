@@ -92,7 +92,7 @@ fn words_of_texts() {
     assert!(yes >= CASES / 10 && no >= CASES / 10, "{yes} {no}");
 }
 
-/// The text for which Compile calls itself deepest, on a thread with less than half as much stack again as was seen (FIGURES.md).
+/// The text for which Compile was seen to use the most stack, on a thread with less than half as much again (FIGURES.md).
 #[test]
 fn deepest_text() {
     let compile = || {
