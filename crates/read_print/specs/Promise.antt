@@ -1,20 +1,11 @@
--- What the call asks and promises of lent memory. Assumes nothing.
--- Used by the contracts, the proofs and Steps; in layout.
+-- What the call promises of the output memory. Assumes nothing.
+-- Used by the contracts and the proofs; in layout.
 use Prim.Native.Nat.{ℕ, _≤_}
 use mathlib.Core.Path.{_≡_, sym, ap, _∙_}
 use mathlib.Core.List.{List}
 use native.Mathlib.Omega.{arith}
 use lib.ListN.{length, take}
 use Rattle.lists.specs.Written.{Wrote, take-written, written-fits}
-use Rattle.decode_phases.specs.Answers.{Lent}
-use Rattle.read_print.specs.Answer.{form-room}
-
--- The memory that the program lends Read.
-pub record Sized (form : List ℕ) (lent : Lent) : Type 0 where
-  pub words : length form ≡ form-room
-  pub path : length (lent .path) ≡ 255
-  pub word : length (lent .word) ≡ 255
-  pub work : length (lent .work) ≡ 16384
 
 -- Bytes of which `Printed` holds stand in front of the output memory, and nothing else of it is changed; the answer is their number.
 pub record Answers (Printed : List ℕ → Type 0) (out out′ : List ℕ) (answer : ℕ) : Type 0 where

@@ -30,7 +30,6 @@ use Rattle.spelling.specs.Spelling.{characters}
 use Rattle.read_text.specs.Promise.{ReadsBy, Reads}
 use Rattle.print.specs.Lines.{reading-lines, refusal-line}
 use Rattle.printed.specs.Printed.{Shown, answer-lines}
-use Rattle.read_print.specs.Promise.{Sized}
 use Rattle.read_print.specs.Answer.{form-room, lent-rooms, PrintsOutcome, PrintsChecked, PrintsCompiled, PrintsReading}
 
 -- a report is a refusal's or a reading's, never both
@@ -39,6 +38,13 @@ never-both n p k l e = let q = ap (λ (r : Report). r .number) e in let m = numb
 
 same-line : (m n : Refusal) → turned-away m ≡ turned-away n → refusal-line (numberOf m) ≡ refusal-line (numberOf n)
 same-line m n e = ap (λ (r : Report). refusal-line (r .number)) e
+
+-- The memory that the program lends Read.
+pub record Sized (form : List ℕ) (lent : Lent) : Type 0 where
+  pub words : length form ≡ form-room
+  pub path : length (lent .path) ≡ 255
+  pub word : length (lent .word) ≡ 255
+  pub work : length (lent .work) ≡ 16384
 
 sized-rooms : (form : List ℕ) (before : Lent) → Sized form before → rooms before ≡ lent-rooms
 sized-rooms form before h = cc (h .path, h .word, h .work)

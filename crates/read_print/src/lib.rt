@@ -5,24 +5,35 @@ ghost use Prim.Native.Nat.{_≤_};
 ghost use lib.ListN.{length};
 ghost use Rattle.reading.specs.Matrix.{matrix};
 ghost use Rattle.read_print.specs.Answer.{longest, PrintsReading};
-ghost use Rattle.read_print.specs.Promise.{Sized, Answers};
+ghost use Rattle.read_print.specs.Promise.{Answers};
 
-// Reads an alphabet, a text and a matrix, and prints what Read answers; the number of bytes.
+// Reads an alphabet, a text and a matrix, and prints what Read answers; the number of bytes. The memory that document 01 has the program
+// lend Read is local.
 pub fn answer_reading(
     alphabet: &[u8],
     text: &[u8],
     costs: &[u32],
     width: usize,
     count: usize,
-    form: &mut [u32],
-    path: &mut [u8],
-    word: &mut [u8],
-    work: &mut [u32],
     out: &mut [u8],
 ) -> usize
-    requires { ⌜ Sized (now form) (record { path = now path; word = now word; work = now work }) × (longest ≤ length (now out)) ⌝ }
+    requires { ⌜ longest ≤ length (now out) ⌝ }
     ensures { λ r. ⌜ Answers (PrintsReading (now (alphabet .entry)) (now (text .entry)) (matrix (now (costs .entry)) width count)) (now (out .entry)) (now (out .exit)) r ⌝ }
 {
-    let answer = reader::read(alphabet, text, costs, width, count, form, path, word, work);
-    print_answer(answer, count, path, word, out)
+    let mut form = [0u32; 16384];
+    let mut path = [0u8; 255];
+    let mut word = [0u8; 255];
+    let mut work = [0u32; 16384];
+    let answer = reader::read(
+        alphabet,
+        text,
+        costs,
+        width,
+        count,
+        &mut form,
+        &mut path,
+        &mut word,
+        &mut work,
+    );
+    print_answer(answer, count, &path, &word, out)
 }
