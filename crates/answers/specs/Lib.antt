@@ -1,4 +1,3 @@
 pub mod Judgement
 pub mod Decoded
 pub mod Reading
-pub mod Handed

@@ -1,10 +1,10 @@
 // The calls exported for C and Rust, and nothing else. A list is passed as a pointer and a length; each call answers 0 or the number
 // of the refusal, and hands its counts back through an array, zeros at a refusal.
-use answers::hand_decoded;
-use answers::hand_judgement;
-use answers::hand_length;
-use answers::hand_number;
-use answers::hand_reading;
+use handed::hand_judgement;
+use handed::hand_length;
+use handed::hand_number;
+use handed_paths::hand_decoded;
+use handed_paths::hand_reading;
 ghost use lib.ListN.{length};
 ghost use Rattle.collapse.specs.Calls.{collapse-call};
 ghost use Rattle.spread.specs.Calls.{spread-call};

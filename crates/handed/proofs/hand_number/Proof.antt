@@ -1,10 +1,10 @@
--- `answers::hand_number` meets its contract. Assumes nothing.
+-- `handed::hand_number` meets its contract. Assumes nothing.
 use mathlib.Core.Path.{sym, ap, _∙_}
 use borrow.Author.Needs.{needs}
 use Rattle.refusal.specs.declared.Counted.{Counted}
 use Rattle.refusal.specs.Report.{reported}
-use Rattle.answers.proofs.hand_number.Statement.{statement}
-use Rattle.answers.proofs.hand_number.Tie as tie
+use Rattle.handed.proofs.hand_number.Statement.{statement}
+use Rattle.handed.proofs.hand_number.Tie as tie
 
 enum-told : tie.Need-enum-told
 enum-told c = search needs

@@ -1,11 +1,11 @@
 -- An answer handed back as a number and a list of counts. Assumes nothing.
--- Used by the contracts and the proofs; in kavurehy.
+-- Used by the contracts and the proofs; in handed_paths and kavurehy.
 use Prim.Native.Nat.{ℕ}
 use mathlib.Core.Path.{_≡_}
 use mathlib.Core.Bool.{cond}
 use mathlib.Core.List.{List, [], _∷_}
 use Rattle.refusal.specs.Report.{Report}
 use Rattle.answers.specs.Judgement.{Judgement}
 
 -- Which counts of a report are handed back, in their order.
 
