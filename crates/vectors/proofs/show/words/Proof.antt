@@ -1,15 +1,20 @@
--- `show::words` stays within its list and ends. Assumes nothing.
-use Prim.Native.Nat.{_≤_, _-_}
-use lib.ListN.{length}
+-- `vectors::show::words` stays within its list and ends. Assumes nothing.
+use Prim.Native.Nat.{_-_}
 use borrow.Author.Needs.{needs}
-use Rattle.show.proofs.words.Statement.{statement}
-use Rattle.show.proofs.words.Tie as tie
+use Rattle.vectors.proofs.show.words.Statement.{statement}
+use Rattle.vectors.proofs.show.words.Tie as tie
 
 abbrev Inv-loop : tie.InvT-loop
-Inv-loop list i₀ i = i ≤ length list
+Inv-loop list n m i₀ i = Unit {0}
 
 abbrev μ-loop : tie.MeasureT-loop
-μ-loop list i₀ i = length list - i
+μ-loop list n m i₀ i = n - i
+
+say-requires : tie.Need-say-requires Inv-loop μ-loop
+say-requires c κs = search needs
+
+start-requires : tie.Need-start-requires Inv-loop μ-loop
+start-requires c κs = search needs
 
 loop-holds : tie.Need-loop-holds Inv-loop μ-loop
 loop-holds c = search needs
@@ -35,12 +40,17 @@ loop-again c = search needs
 returns : tie.Need-returns Inv-loop μ-loop
 returns c = search needs
 
+returns-2 : tie.Need-returns-2 Inv-loop μ-loop
+returns-2 c = search needs
+
 pub words-spec : {M : Type 1} → statement M
 words-spec =
     tie.close
     (tie.spec
     Inv-loop
     μ-loop
+    say-requires
+    start-requires
     loop-holds
     mul-word
     shared-slice-read-word
@@ -48,4 +58,5 @@ words-spec =
     add-i
     loop-less
     loop-again
-    returns)
+    returns
+    returns-2)
