@@ -2,10 +2,6 @@
 use super::parts;
 use super::show;
 
-fn wide(x: u32) -> usize {
-    x as usize
-}
-
 // With this memory; the form's length.
 fn compiled(line: &[u8], form: &mut [u32]) -> usize {
     let mut counts = [0u32; 1];
@@ -15,7 +11,7 @@ fn compiled(line: &[u8], form: &mut [u32]) -> usize {
         form,
         &mut counts,
     );
-    let words = wide(counts[0]);
+    let words = show::wide(counts[0]);
     show::filled(refused, words);
     words
 }
@@ -25,7 +21,7 @@ pub fn compile(line: &[u8], form: &mut [u32; 16258]) -> usize {
     let mut small = [9u32; 10];
     show::field(line, 2);
     compiled(line, &mut small);
-    show::words(&small, 10, 10);
+    show::words(&small, 0, 10);
     show::say(show::BAR);
     let words = compiled(line, form);
     show::say(show::END);
@@ -63,12 +59,12 @@ pub fn labels(name: usize, line: &[u8], given: &[u8]) {
     } else {
         kavurehy::kavurehy_spread(k, given, &mut memory[..room], &mut counts)
     };
-    answer(name, given, refused, wide(counts[0]));
+    answer(name, given, refused, show::wide(counts[0]));
     filled_bytes(&memory, room);
 }
 
 fn filled_words(list: &[u32; 256], n: usize) {
-    show::words(list, n, n);
+    show::words(list, 0, n);
 }
 
 // The costs of confidences, one for each.

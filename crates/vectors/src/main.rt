@@ -19,31 +19,26 @@ use libc::STDIN_FILENO;
 
 // A call on the list given, as bytes or as words.
 fn call(kind: u8, line: &[u8], given: &[u8], costs: &[u32], form: &[u32]) {
-    if kind == b'C' {
-        calls::labels(show::COLLAPSE, line, given);
-    } else if kind == b'S' {
-        calls::labels(show::SPREAD, line, given);
-    } else if kind == b'P' {
-        calls::costs(line, given);
-    } else if kind == b'J' {
-        calls::judge(line, given, form);
-    } else if kind == b'D' {
-        matrices::decode(line, costs, form);
-    } else if kind == b'R' {
-        matrices::read(line, costs);
+    match kind {
+        b'C' => calls::labels(show::COLLAPSE, line, given),
+        b'S' => calls::labels(show::SPREAD, line, given),
+        b'P' => calls::costs(line, given),
+        b'J' => calls::judge(line, given, form),
+        b'D' => matrices::decode(line, costs, form),
+        _ => matrices::read(line, costs),
     }
     show::say(show::END);
 }
 
-// The field that holds the list.
+// The field of the list given.
 fn place(kind: u8) -> usize {
-    if kind == b'P' {
-        return 1;
+    match kind {
+        b'P' => 1,
+        _ => 2,
     }
-    2
 }
 
-// A call; the form has so many words.
+// The form has so many words.
 fn run(kind: u8, line: &[u8], form: &[u32], words: usize) {
     let mut given = [0u8; 256];
     let mut costs = [0u32; 768];
@@ -53,26 +48,23 @@ fn run(kind: u8, line: &[u8], form: &[u32], words: usize) {
     call(
         kind,
         line,
-        parts::bytes(&given, n),
-        parts::words(&costs, m),
+        &given[..n],
+        &costs[..m],
         parts::words(form, words),
     );
 }
 
 // Does what the line says; how many words the form has for the lines behind it.
 fn one(line: &[u8], form: &mut [u32; 16258], words: usize) -> usize {
-    let kind = characters::peek(line, 0);
-    if kind == b'E' {
-        return calls::compile(line, form);
+    match characters::peek(line, 0) {
+        b'E' => calls::compile(line, form),
+        b'F' => fields::numbers(fields::field(line, 1), true, form),
+        b'N' => parts::size(line, 1),
+        kind => {
+            run(kind, line, form, words);
+            words
+        }
     }
-    if kind == b'F' {
-        return fields::numbers(fields::field(line, 1), true, form);
-    }
-    if kind == b'N' {
-        return parts::size(line, 1);
-    }
-    run(kind, line, form, words);
-    words
 }
 
 fn all(input: &[u8], form: &mut [u32; 16258]) {

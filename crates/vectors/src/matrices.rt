@@ -6,7 +6,8 @@ use super::show;
 fn memory(line: &[u8], path: &[u8; 256], word: &[u8; 256], work: &[u32; 65281]) {
     show::memory(path, parts::size(line, 5));
     show::memory(word, parts::size(line, 6));
-    show::words(work, parts::room(line, 7, 65281), parts::size(line, 8));
+    let room = parts::room(line, 7, 65281);
+    show::words(work, room - parts::room(line, 8, room), room);
 }
 
 pub fn decode(line: &[u8], costs: &[u32], form: &[u32]) {

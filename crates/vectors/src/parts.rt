@@ -15,18 +15,10 @@ pub fn room(line: &[u8], k: usize, most: usize) -> usize
     fields::room(fields::field(line, k), most)
 }
 
-// The first n bytes, or all.
-pub fn bytes(list: &[u8], n: usize) -> &[u8] {
-    if n < list.len() {
-        return &list[..n];
+// The first n words of a form, or all.
+pub fn words(form: &[u32], n: usize) -> &[u32] {
+    if n < form.len() {
+        return &form[..n];
     }
-    list
-}
-
-// The first n words, or all.
-pub fn words(list: &[u32], n: usize) -> &[u32] {
-    if n < list.len() {
-        return &list[..n];
-    }
-    list
+    form
 }

@@ -43,17 +43,17 @@ pub fn field(line: &[u8], k: usize) {
 }
 
 // A number behind a space.
-fn number(n: u64) {
+fn number(n: usize) {
     say(SPACE);
-    io::print_decimal(STDOUT_FILENO, n);
+    io::print_decimal(STDOUT_FILENO, n as u64);
 }
 
 fn byte(x: u8) {
-    number(x as u64);
+    number(x as usize);
 }
 
-fn word(x: u32) {
-    number(x as u64);
+pub fn wide(x: u32) -> usize {
+    x as usize
 }
 
 // The first n bytes of a list, or all.
@@ -71,34 +71,26 @@ pub fn memory(list: &[u8], n: usize) {
     bytes(list, n);
 }
 
-// Where the last m of n words begin.
-fn start(n: usize, m: usize) -> usize {
-    if m < n {
-        return n - m;
-    }
-    0
-}
-
-// The last m words, or all, of memory of n words, behind a bar.
-pub fn words(list: &[u32], n: usize, m: usize) {
+// The words from one place to another, or to the end, behind a bar.
+pub fn words(list: &[u32], from: usize, to: usize) {
     say(BAR);
-    let mut i = start(n, m);
-    while i < n && i < list.len() {
-        word(list[i]);
+    let mut i = from;
+    while i < to && i < list.len() {
+        number(wide(list[i]));
         i += 1;
     }
 }
 
 fn named(k: usize, n: u32) {
     say(k);
-    word(n);
+    number(wide(n));
 }
 
 // What a call answered that fills one list.
 pub fn filled(refused: u32, n: usize) {
     if refused == 0 {
         say(FILLED);
-        number(n as u64);
+        number(n);
     } else {
         named(REFUSED, refused);
     }
