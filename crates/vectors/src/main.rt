@@ -1,6 +1,6 @@
-// Runs the exported calls on the lines of standard input: document 01's examples, edges, damaged forms, each refusal. A line has a letter for
-// what is to be done and its fields, each behind a tab; lists are numbers with a space between. Path, word, work and cost memory, and
-// the ten words of E, are filled with 9 beforehand and printed afterwards.
+// Runs the exported calls on the lines of standard input: document 01's examples, edges, damaged forms, each refusal. A line has a
+// letter for what is to be done and its fields, each behind a tab; lists are numbers with a space between. Path, word, work and cost
+// memory, and the ten words of E, are filled with 9 beforehand and printed afterwards.
 //
 //   C K PATH ROOM           Collapse                       S K WORD ROOM   Spread
 //   P CONFIDENCES ROOM      the costs of confidences
