@@ -1,11 +1,13 @@
 -- What a line of the vectors says: its fields, which have tabs between them, and the numbers in a field. Assumes nothing.
 -- Used by the contracts, the proofs, Examples, Narrow and Numbers.
+use mathlib.Core.Path.{_≡_, sym}
 use mathlib.Core.List.{List, [], _∷_, map}
 use mathlib.Core.Bool.{Bool, false, cond, _&&_}
-use Prim.Native.Nat.{ℕ, _+_, _*_, _%_}
+use Prim.Native.Nat.{ℕ, _+_, _*_, _%_, _≤_}
 use Prim.Native.Char.{code}
-use lib.ListN.{getD, take}
+use lib.ListN.{length, getD, take}
 use lib.Dec.{eqb, ltb}
+use lib.Seq.{length-take-le}
 use Rattle.sheet_text.specs.Sheet.{pieces}
 
 -- field k of a line; empty where the line has fewer fields
@@ -41,3 +43,10 @@ low x = x % 256
 -- the first 256 numbers of a field, as bytes
 abbrev pub labelsOf : List ℕ → List ℕ
 labelsOf field = map low (take 256 (numbersOf false field))
+
+-- the first n of a list are n; both parts are stated, so that a proof of `&list[..n]` finds them
+abbrev pub Counts : ℕ → List ℕ → Type 0
+Counts n l = (n ≤ length l) × (n ≡ length (take n l))
+
+pub counts : (n : ℕ) (l : List ℕ) → n ≤ length l → Counts n l
+counts n l h = (h, sym (length-take-le n l h))

@@ -5,7 +5,7 @@ ghost use mathlib.Core.List.{map};
 ghost use Prim.Native.Nat.{_-_, _≤_, min};
 ghost use lib.ListN.{length, take, drop};
 ghost use Rattle.lists.specs.Written.{Stored, Wrote};
-ghost use Rattle.fields.specs.Fields.{fieldOf, numbersOf, sizeOf, low, labelsOf};
+ghost use Rattle.fields.specs.Fields.{fieldOf, numbersOf, sizeOf, low, labelsOf, Counts};
 ghost use Rattle.fields.specs.Numbers.{ended, onward};
 
 // Where field k begins: behind the k-th tab, or at the end.
@@ -78,7 +78,7 @@ fn push(list: &mut [u32], n: usize, v: u32, b: u8) -> usize
 // The numbers of a field go into `list`, as many as it has room for; how many there are.
 pub fn numbers(field: &[u8], hexadecimal: bool, list: &mut [u32]) -> usize
     ensures { λ r. ⌜ Wrote (take (length (now (list .entry))) (numbersOf hexadecimal (now (field .entry)))) (now (list .entry)) (now (list .exit)) r ⌝ }
-    ensures { λ r. ⌜ r ≤ length (now (list .exit)) ⌝ }
+    ensures { λ r. ⌜ Counts r (now (list .exit)) ⌝ }
 {
     if field.len() == 0 {
         return 0;
@@ -137,7 +137,7 @@ fn narrow(list: &[u32], n: usize, bytes: &mut [u8]) -> usize
 // The numbers of a field as bytes, at most 256; how many there are.
 pub fn labels(field: &[u8], bytes: &mut [u8]) -> usize
     ensures { λ r. ⌜ Wrote (take (length (now (bytes .entry))) (labelsOf (now (field .entry)))) (now (bytes .entry)) (now (bytes .exit)) r ⌝ }
-    ensures { λ r. ⌜ r ≤ length (now (bytes .exit)) ⌝ }
+    ensures { λ r. ⌜ Counts r (now (bytes .exit)) ⌝ }
 {
     let mut list = [0u32; 256];
     let n = numbers(field, false, &mut list);

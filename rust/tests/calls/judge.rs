@@ -1,4 +1,4 @@
-//! Judge: random forms, words along their walks and beside them, damaged forms.
+//! Judge: random forms, words along their walks and beside them, damaged forms, forms with a bit turned.
 use crate::forms::{damaged, flipped, random_form, KINDS};
 use crate::LEAST;
 use kavurehy::{raw, Refusal};
@@ -100,4 +100,47 @@ fn judge() {
         }
     }
     tally.demand("judge", LEAST, &[0, 11, 17]);
+}
+
+/// ab*, a+, letters that no path goes through, and (a|b)*, each with words over its labels.
+const TURNED: [(&[u32], &[&[u8]]); 4] = [
+    (
+        &[0x10020002, 0x20000301, 0x20000202, 0x30000102, 0x30000202],
+        &[&[1, 2], &[], &[1], &[2], &[1, 1], &[1, 2, 2]],
+    ),
+    (
+        &[0x10010001, 0x20000301, 0x30000101],
+        &[&[], &[1], &[1, 1, 1]],
+    ),
+    (
+        &[0x10020103, 0x20000301, 0x20000202, 0x20000002, 0x30000103],
+        &[&[], &[1], &[2], &[1, 2]],
+    ),
+    (
+        &[
+            0x10020102, 0x20000301, 0x20000302, 0x30000101, 0x30000102, 0x30000201, 0x30000202,
+        ],
+        &[&[], &[2], &[1, 2], &[2, 2, 1]],
+    ),
+];
+
+#[test]
+fn judge_with_each_bit_turned() {
+    let mut tally = Tally::default();
+    let (mut yes, mut no) = (0, 0);
+    for (form, words) in TURNED {
+        for bit in 0..32 * form.len() {
+            let mut turned = form.to_vec();
+            turned[bit / 32] ^= 1 << (bit % 32);
+            for word in words {
+                match hold(&turned, word, &mut tally) {
+                    Some(true) => yes += 1,
+                    Some(false) => no += 1,
+                    None => {}
+                }
+            }
+        }
+    }
+    assert!(yes > 0 && no > 0, "{yes} words accepted, {no} rejected");
+    tally.demand("judge with a bit turned", 1, &[0, 11]);
 }

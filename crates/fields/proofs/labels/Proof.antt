@@ -1,5 +1,6 @@
 -- `fields::labels` meets its contract. Assumes nothing.
 use borrow.Author.Needs.{needs}
+use Rattle.fields.specs.Fields.{counts}
 use Rattle.fields.specs.Narrow.{wrote-front}
 use Rattle.fields.proofs.labels.Statement.{statement}
 use Rattle.fields.proofs.labels.Tie as tie
@@ -23,7 +24,7 @@ returns : tie.Need-returns
 returns c =
     let numbers = c .before .before .before .before .before .before .numbers in
     let narrow = c .before .before .narrow in
-    (rw (wrote-front (numbers .ensures .0)) at (narrow .ensures .0), narrow .ensures .1)
+    (rw (wrote-front (numbers .ensures .0)) at (narrow .ensures .0), counts _ _ (narrow .ensures .1))
 
 pub labels-spec : {M : Type 1} → statement M
 labels-spec =

@@ -4,6 +4,7 @@ use Prim.Native.Nat.{_-_, _≤_}
 use native.Mathlib.Omega.{arith}
 use denote.Ref.{now}
 use lib.ListN.{length, drop}
+use Rattle.fields.specs.Fields.{counts}
 use Rattle.fields.specs.Numbers.{coming, Read, read-none, read-length, read-within, read-more, read-empty, read-last}
 use Rattle.fields.proofs.numbers.Statement.{statement}
 use Rattle.fields.proofs.numbers.Tie as tie
@@ -17,7 +18,7 @@ abbrev μ-loop : tie.MeasureT-loop
 returns : tie.Need-returns Inv-loop μ-loop
 returns c =
     let s = c .before .before .before .args in
-    (read-empty (s .hexadecimal) (now (s .field)) (now (s .list)) (c .if1 .taken), omega arith)
+    (read-empty (s .hexadecimal) (now (s .field)) (now (s .list)) (c .if1 .taken), counts 0 (now (s .list)) (omega arith))
 
 loop-holds : tie.Need-loop-holds Inv-loop μ-loop
 loop-holds c =
@@ -78,7 +79,7 @@ returns-2 c =
     let push = c .before .before .push2 in (
       read-last (s .hexadecimal) (now (s .field)) (now (s .list)) (l .list) (push .last .0) (l .i) (l .n) (l .v) (push .result)
           (c .before .before .before .before .loop-test .left) (l .inv .1) (push .ensures .0),
-      push .ensures .1,
+      counts _ _ (push .ensures .1),
     )
 
 pub numbers-spec : {M : Type 1} → statement M

@@ -1,5 +1,4 @@
 -- `vectors::all` stays within its list and ends. Assumes nothing.
-use mathlib.Core.Path.{_≡_}
 use Prim.Native.Nat.{_≤_, _-_}
 use native.Mathlib.Omega.{arith}
 use lib.ListN.{length}
@@ -10,7 +9,7 @@ use Rattle.vectors.proofs.all.Statement.{statement}
 use Rattle.vectors.proofs.all.Tie as tie
 
 abbrev Inv-loop : tie.InvT-loop
-Inv-loop input form₀ at₀ words₀ form at words = (at ≤ length input) × (length form ≡ length form₀)
+Inv-loop input form₀ at₀ words₀ form at words = Unit {0}
 
 abbrev μ-loop : tie.MeasureT-loop
 μ-loop input form₀ at₀ words₀ form at words = length input - at
@@ -28,11 +27,10 @@ part-one-start : tie.Need-part-one-start Inv-loop μ-loop
 part-one-start c = search needs
 
 -- the line ends within the input
-within : (c : tie.After-find Inv-loop μ-loop) → c .find .result ≤ length (now (c .before .before .before .before .before .args .input))
+within : (c : tie.After-find Inv-loop μ-loop) → c .find .result ≤ length (now (c .before .before .before .before .args .input))
 within c =
     let l = c .before .before .loop in
-    let w = next-within 10 (now (c .before .before .before .before .before .args .input)) (l .at) (l .inv .0) in
-    let e = c .find .ensures in
+    let w = next-within 10 (now (c .before .before .before .before .args .input)) (l .at) (omega arith) in
     omega arith
 
 part-one-end : tie.Need-part-one-end Inv-loop μ-loop
@@ -41,26 +39,17 @@ part-one-end c = within c
 one-requires : tie.Need-one-requires Inv-loop μ-loop
 one-requires c κs = search needs
 
-same-length : tie.Need-same-length Inv-loop μ-loop
-same-length c = search needs
-
-returns : tie.Need-returns Inv-loop μ-loop
-returns c = search needs
-
 add-at : tie.Need-add-at Inv-loop μ-loop
-add-at c = let w = within (c .before .before .before .before .before .before) in search needs
+add-at c = let w = within (c .before .before .before) in search needs
 
 loop-less : tie.Need-loop-less Inv-loop μ-loop
 loop-less c = search needs
 
 loop-again : tie.Need-loop-again Inv-loop μ-loop
-loop-again c = let w = within (c .before .before .before .before .before .before) in search needs
+loop-again c = search needs
 
-same-length-2 : tie.Need-same-length-2 Inv-loop μ-loop
-same-length-2 c = search needs
-
-returns-2 : tie.Need-returns-2 Inv-loop μ-loop
-returns-2 c = search needs
+returns : tie.Need-returns Inv-loop μ-loop
+returns c = search needs
 
 pub all-spec : {M : Type 1} → statement M
 all-spec =
@@ -74,10 +63,7 @@ all-spec =
     part-one-start
     part-one-end
     one-requires
-    same-length
-    returns
     add-at
     loop-less
     loop-again
-    same-length-2
-    returns-2)
+    returns)

@@ -1,15 +1,14 @@
--- `show::bytes` stays within its list and ends. Assumes nothing.
-use Prim.Native.Nat.{_≤_, _-_}
-use lib.ListN.{length}
+-- `vectors::show::bytes` stays within its list and ends. Assumes nothing.
+use Prim.Native.Nat.{_-_}
 use borrow.Author.Needs.{needs}
-use Rattle.show.proofs.bytes.Statement.{statement}
-use Rattle.show.proofs.bytes.Tie as tie
+use Rattle.vectors.proofs.show.bytes.Statement.{statement}
+use Rattle.vectors.proofs.show.bytes.Tie as tie
 
 abbrev Inv-loop : tie.InvT-loop
-Inv-loop list i₀ i = i ≤ length list
+Inv-loop list n i₀ i = Unit {0}
 
 abbrev μ-loop : tie.MeasureT-loop
-μ-loop list i₀ i = length list - i
+μ-loop list n i₀ i = n - i
 
 loop-holds : tie.Need-loop-holds Inv-loop μ-loop
 loop-holds c = search needs
@@ -32,6 +31,9 @@ loop-again c = search needs
 returns : tie.Need-returns Inv-loop μ-loop
 returns c = search needs
 
+returns-2 : tie.Need-returns-2 Inv-loop μ-loop
+returns-2 c = search needs
+
 pub bytes-spec : {M : Type 1} → statement M
 bytes-spec =
     tie.close
@@ -44,4 +46,5 @@ bytes-spec =
     add-i
     loop-less
     loop-again
-    returns)
+    returns
+    returns-2)

@@ -1,0 +1,77 @@
+// Compile and Judge, Collapse and Spread, the costs of confidences.
+use super::parts;
+use super::show;
+
+// With this memory; the form's length.
+fn compiled(line: &[u8], form: &mut [u32]) -> usize {
+    let mut counts = [0u32; 1];
+    let refused = kavurehy::kavurehy_compile(
+        fields::field(line, 1),
+        fields::field(line, 2),
+        form,
+        &mut counts,
+    );
+    let words = show::wide(counts[0]);
+    show::filled(refused, words);
+    words
+}
+
+// With memory for ten words, then with all; the form's length.
+pub fn compile(line: &[u8], form: &mut [u32; 16258]) -> usize {
+    let mut small = [9u32; 10];
+    show::field(line, 2);
+    compiled(line, &mut small);
+    show::words(&small, 0, 10);
+    show::say(show::BAR);
+    let words = compiled(line, form);
+    show::say(show::END);
+    words
+}
+
+pub fn judge(line: &[u8], word: &[u8], form: &[u32]) {
+    let mut accepted = [0u32; 1];
+    let refused = kavurehy::kavurehy_judge(form, word, &mut accepted);
+    show::field(line, 1);
+    show::say(show::COLON);
+    show::judged(refused, accepted[0]);
+}
+
+// A call's name, the list given, and the answer.
+fn answer(name: usize, given: &[u8], refused: u32, n: usize) {
+    show::say(name);
+    show::bytes(given, given.len());
+    show::say(show::COLON);
+    show::filled(refused, n);
+}
+
+fn filled_bytes(list: &[u8; 512], n: usize) {
+    show::memory(list, n);
+}
+
+// Collapse, or Spread.
+pub fn labels(name: usize, line: &[u8], given: &[u8]) {
+    let mut memory = [9u8; 512];
+    let mut counts = [0u32; 1];
+    let k = parts::size(line, 1);
+    let room = parts::room(line, 3, 512);
+    let refused = if name == show::COLLAPSE {
+        kavurehy::kavurehy_collapse(k, given, &mut memory[..room], &mut counts)
+    } else {
+        kavurehy::kavurehy_spread(k, given, &mut memory[..room], &mut counts)
+    };
+    answer(name, given, refused, show::wide(counts[0]));
+    filled_bytes(&memory, room);
+}
+
+fn filled_words(list: &[u32; 256], n: usize) {
+    show::words(list, 0, n);
+}
+
+// The costs of confidences, one for each.
+pub fn costs(line: &[u8], given: &[u8]) {
+    let mut memory = [9u32; 256];
+    let room = parts::room(line, 2, 256);
+    let refused = kavurehy::kavurehy_costs(given, &mut memory[..room]);
+    answer(show::COSTS, given, refused, given.len());
+    filled_words(&memory, room);
+}

@@ -1,0 +1,125 @@
+// Prints answers and lists on standard output. What is written is compared with the stored output; no contract can speak of it.
+use libc::STDOUT_FILENO;
+
+// The words that are printed, by their places in `say`.
+const SPACE: usize = 0;
+
+pub const BAR: usize = 1;
+
+pub const COLON: usize = 2;
+
+pub const END: usize = 3;
+
+const REFUSED: usize = 4;
+
+const FILLED: usize = 5;
+
+const ACCEPTED: usize = 6;
+
+const REJECTED: usize = 7;
+
+const PRICE: usize = 8;
+
+const LENGTH: usize = 9;
+
+const FORM: usize = 10;
+
+pub const COLLAPSE: usize = 11;
+
+pub const SPREAD: usize = 12;
+
+pub const COSTS: usize = 13;
+
+pub fn say(k: usize) {
+    field(
+        b" \t |\t:\t\n\t refused\t filled\t accepted\t rejected\t price\t length\t form\tcollapse\tspread\tcosts",
+        k,
+    );
+}
+
+// Field k of a line.
+pub fn field(line: &[u8], k: usize) {
+    io::write_all(STDOUT_FILENO, fields::field(line, k));
+}
+
+// A number behind a space.
+fn number(n: usize) {
+    say(SPACE);
+    io::print_decimal(STDOUT_FILENO, n as u64);
+}
+
+fn byte(x: u8) {
+    number(x as usize);
+}
+
+pub fn wide(x: u32) -> usize {
+    x as usize
+}
+
+// The first n bytes of a list, or all.
+pub fn bytes(list: &[u8], n: usize) {
+    let mut i = 0;
+    while i < n && i < list.len() {
+        byte(list[i]);
+        i += 1;
+    }
+}
+
+// Memory of n bytes, behind a bar.
+pub fn memory(list: &[u8], n: usize) {
+    say(BAR);
+    bytes(list, n);
+}
+
+// The words from one place to another, or to the end, behind a bar.
+pub fn words(list: &[u32], from: usize, to: usize) {
+    say(BAR);
+    let mut i = from;
+    while i < to && i < list.len() {
+        number(wide(list[i]));
+        i += 1;
+    }
+}
+
+fn named(k: usize, n: u32) {
+    say(k);
+    number(wide(n));
+}
+
+// What a call answered that fills one list.
+pub fn filled(refused: u32, n: usize) {
+    if refused == 0 {
+        say(FILLED);
+        number(n);
+    } else {
+        named(REFUSED, refused);
+    }
+}
+
+// What Judge answered.
+pub fn judged(refused: u32, accepted: u32) {
+    if refused != 0 {
+        named(REFUSED, refused);
+    } else if accepted == 1 {
+        say(ACCEPTED);
+    } else {
+        say(REJECTED);
+    }
+}
+
+// What Decode and Read answered.
+pub fn path(refused: u32, price: u32, length: u32) {
+    if refused == 0 {
+        named(PRICE, price);
+        named(LENGTH, length);
+    } else {
+        named(REFUSED, refused);
+    }
+}
+
+// What Read answered besides.
+pub fn form(refused: u32, length: u32) {
+    if refused == 0 {
+        named(FORM, length);
+    }
+}
