@@ -36,12 +36,11 @@ pub fn judge(line: &[u8], word: &[u8], form: &[u32]) {
     show::judged(refused, accepted[0]);
 }
 
-// A call's name, the list given, and the answer.
-fn answer(name: usize, given: &[u8], refused: u32, n: usize) {
+// A call's name and the list given.
+fn head(name: usize, given: &[u8]) {
     show::say(name);
     show::bytes(given, given.len());
     show::say(show::COLON);
-    show::filled(refused, n);
 }
 
 fn filled_bytes(list: &[u8; 512], n: usize) {
@@ -59,7 +58,8 @@ pub fn labels(name: usize, line: &[u8], given: &[u8]) {
     } else {
         kavurehy::kavurehy_spread(k, given, &mut memory[..room], &mut counts)
     };
-    answer(name, given, refused, show::wide(counts[0]));
+    head(name, given);
+    show::filled(refused, show::wide(counts[0]));
     filled_bytes(&memory, room);
 }
 
@@ -67,11 +67,12 @@ fn filled_words(list: &[u32; 256], n: usize) {
     show::words(list, 0, n);
 }
 
-// The costs of confidences, one for each.
+// The costs of confidences, one for each; the call answers 0 or a refusal's number.
 pub fn costs(line: &[u8], given: &[u8]) {
     let mut memory = [9u32; 256];
     let room = parts::room(line, 2, 256);
     let refused = kavurehy::kavurehy_costs(given, &mut memory[..room]);
-    answer(show::COSTS, given, refused, given.len());
+    head(show::COSTS, given);
+    show::number(show::wide(refused));
     filled_words(&memory, room);
 }

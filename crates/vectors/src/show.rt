@@ -43,7 +43,7 @@ pub fn field(line: &[u8], k: usize) {
 }
 
 // A number behind a space.
-fn number(n: usize) {
+pub fn number(n: usize) {
     say(SPACE);
     io::print_decimal(STDOUT_FILENO, n as u64);
 }
