@@ -10,7 +10,7 @@ ghost use lib.ListN.{length, replicate};
 ghost use Rattle.lists.specs.Least.{Least};
 ghost use Rattle.lists.specs.Marks.{Marks};
 ghost use Rattle.automaton.specs.Form.{lettersOf, view};
-ghost use Rattle.form.specs.Starts.{ArcStarts};
+ghost use Rattle.arc_starts.specs.Starts.{ArcStarts};
 ghost use Rattle.steps.specs.Steps.{Within};
 ghost use Rattle.column.specs.Column.{NONE as none, Sized, Offers, Offered, OfLabel, Picks, SomeKept, Taken};
 

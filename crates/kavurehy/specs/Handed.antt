@@ -9,7 +9,7 @@ use Rattle.refusal.specs.Verdict.{Verdict}
 use Rattle.refusal.specs.Report.{Report, report, filling, Fills}
 use Rattle.answers.specs.Judgement.{report as judgement}
 use Rattle.handed.specs.Handed.{length-alone, price-and-length, price-and-lengths, Hands, HandsJudgement}
-use Rattle.form.specs.Judge.{judged}
+use Rattle.judge.specs.Judge.{judged}
 use Rattle.reading.specs.Matrix.{Matrix}
 use Rattle.decode_phases.specs.Answers.{Lent}
 use Rattle.decode.specs.Promise.{Decodes}

@@ -31,7 +31,7 @@ pub extern "C" fn kavurehy_compile(
 pub extern "C" fn kavurehy_judge(form: &[u32], word: &[u8], accepted: &mut [u32; 1]) -> u32
     ensures { λ r. ⌜ Judges (now (form .entry)) (now (word .entry)) (now (accepted .exit)) r ⌝ }
 {
-    hand_judgement(form::judge(form, word), accepted)
+    hand_judgement(judge::judge(form, word), accepted)
 }
 
 // The word that a path of labels 0 to k collapses to; its length in `counts`.

@@ -16,7 +16,7 @@ use Rattle.automaton.specs.Form.{lettersOf, labelOf, followOf, target, view}
 use Rattle.automaton.specs.Valid.{Valid, first-letter, follow-arc, arc-follow}
 use Rattle.trellis.specs.Impossible.{TOP}
 use Rattle.trellis.specs.Cells.{ByArc}
-use Rattle.form.specs.Starts.{Begins, range-source, source-range}
+use Rattle.arc_starts.specs.Starts.{Begins, range-source, source-range}
 use Rattle.capped.specs.Allowed.{unless-equal, if-first}
 
 -- a list of numbers that are at most TOP, for the letters 1 to 127

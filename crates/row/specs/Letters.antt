@@ -12,7 +12,7 @@ use Rattle.lists.specs.Order.{eq-or-ne}
 use Rattle.lists.specs.Outside.{Outside, outside-none, outside-set, outside-then, outside-wider, front-at, behind-at}
 use Rattle.automaton.specs.Form.{lettersOf}
 use Rattle.automaton.specs.Valid.{Valid}
-use Rattle.form.specs.Starts.{ArcStarts}
+use Rattle.arc_starts.specs.Starts.{ArcStarts}
 use Rattle.trellis.specs.Impossible.{plus}
 use Rattle.offers.specs.Offers.{Candidates, Offers, candidate}
 use Rattle.offers.specs.Column.{Bounded}

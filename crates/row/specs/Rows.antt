@@ -14,7 +14,7 @@ use Rattle.lists.specs.Outside.{Outside, outside-set, outside-then, outside-wid
 use Rattle.reading.specs.Matrix.{Matrix, cost}
 use Rattle.automaton.specs.Form.{lettersOf, labelOf, followOf, view}
 use Rattle.automaton.specs.Valid.{Valid, follow-target, valid-proper}
-use Rattle.form.specs.Starts.{ArcStarts}
+use Rattle.arc_starts.specs.Starts.{ArcStarts}
 use Rattle.trellis.specs.Impossible.{TOP, plus}
 use Rattle.trellis.specs.CostToGo.{CostToGo}
 use Rattle.trellis.specs.Extended.{extended, AtLetter, at-letter}

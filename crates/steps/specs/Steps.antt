@@ -13,7 +13,7 @@ use Rattle.lists.specs.Marks.{Has, Marks, Turns, marks-none, marks-one, marks-s
 use Rattle.automaton.specs.Automaton.{Automaton, Proper}
 use Rattle.automaton.specs.Form.{lettersOf, alphabetOf, view, target}
 use Rattle.automaton.specs.Valid.{Valid, ArcAt, follow-arc, arc-follow, follow-target, valid-proper}
-use Rattle.form.specs.Starts.{Begins, range-source, source-range}
+use Rattle.arc_starts.specs.Starts.{Begins, range-source, source-range}
 use Rattle.trellis.specs.Extended.{OnLetter, AtLetter, at-letter, Step, stay, pass, arc, rest, leave}
 use Rattle.trellis.specs.Reached.{entering, entering-blanks, entering-letter, Reached}
 

@@ -11,7 +11,7 @@ ghost use lib.ListN.{length, replicate};
 ghost use Rattle.lists.specs.Marks.{Has, Marks, Turns};
 ghost use Rattle.automaton.specs.Form.{lettersOf, view};
 ghost use Rattle.automaton.specs.Valid.{Valid};
-ghost use Rattle.form.specs.Starts.{Begins, ArcStarts};
+ghost use Rattle.arc_starts.specs.Starts.{Begins, ArcStarts};
 ghost use Rattle.trellis.specs.Reached.{entering as enteringOf, Reached};
 ghost use Rattle.steps.specs.Steps.{Onto, OtherLetter, Led, Behind, TargetOf, From, Within};
 

@@ -1,6 +1,6 @@
 // The table of costs to go of Decode, filled backward, row by row (document 01, "Extended states and decoding").
+use arc_starts::starts;
 use capped::last_cost;
-use form::starts;
 use form_words::letters;
 use row::fill_row;
 ghost use Prim.Native.Nat.{_+_, _*_, _<_};

@@ -1,8 +1,8 @@
 // The best path, traced forward through the table of costs to go (document 01, "Extended states and decoding"): the set of all
 // equally cheap states is taken on column by column, by the lowest label that keeps to the price.
+use arc_starts::starts;
 use column::Front;
 use column::advance;
-use form::starts;
 use form_words::letters;
 ghost use Prim.Native.Nat.{_≤_};
 ghost use lib.ListN.{length};

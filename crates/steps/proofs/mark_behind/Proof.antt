@@ -4,7 +4,7 @@ use mathlib.Core.Path.{sym, subst}
 use denote.Ref.{now}
 use Rattle.lists.specs.Marks.{Marks}
 use Rattle.automaton.specs.Form.{view}
-use Rattle.form.specs.Starts.{range-rises}
+use Rattle.arc_starts.specs.Starts.{range-rises}
 use Rattle.steps.specs.Steps.{Behind, targets-marked}
 use Rattle.steps.proofs.mark_behind.Statement.{statement}
 use Rattle.steps.proofs.mark_behind.Tie as tie

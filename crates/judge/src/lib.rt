@@ -1,0 +1,48 @@
+// The call Judge: does a form accept a word (document 01, "Opening and the compiled form")?
+use answers::Judged;
+use arc_starts::starts;
+use form_check::valid;
+use form_words::alphabet;
+use labels::wide;
+use letter_sets::advance;
+use letter_sets::no_letter;
+use letter_sets::some_may_end;
+use refusal::Refusal;
+ghost use mathlib.Core.Path.{_≡_};
+ghost use mathlib.Core.Bool.{true};
+ghost use Rattle.answers.specs.Judgement.{report, reported};
+ghost use Rattle.automaton.specs.Form.{validForm, view};
+ghost use Rattle.automaton.specs.Accepted.{accepts as acceptsOf};
+ghost use Rattle.judge.specs.Judge.{judged};
+
+// Does the form accept the word?
+fn accepts(form: &[u32], word: &[u8]) -> bool
+    requires { ⌜ validForm (now form) ≡ true ⌝ }
+    ensures { λ r. ⌜ r ≡ acceptsOf (view (now (form .entry))) (now (word .entry)) ⌝ }
+{
+    let begins = starts(form);
+    let mut set = no_letter();
+    let mut n = 0;
+    while n < word.len() {
+        let next = advance(form, &begins, set, wide(word[n]));
+        set = next;
+        n += 1;
+    }
+    some_may_end(form, set)
+}
+
+// Document 01's judging of a word: whether the form accepts it.
+pub fn judge(form: &[u32], word: &[u8]) -> Judged
+    ensures { λ r. ⌜ reported r ≡ report (judged (now (form .entry)) (now (word .entry))) ⌝ }
+{
+    if !valid(form) {
+        return Judged::Refused(Refusal::BadForm);
+    }
+    if labels::has_fault(alphabet(form), 1, word) {
+        return Judged::Refused(Refusal::Label);
+    }
+    if accepts(form, word) {
+        return Judged::Accepted;
+    }
+    Judged::Rejected
+}
