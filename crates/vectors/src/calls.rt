@@ -43,6 +43,7 @@ fn head(name: usize, given: &[u8]) {
     show::say(show::COLON);
 }
 
+// An array lent as such asks for no proof of its length.
 fn filled_bytes(list: &[u8; 512], n: usize) {
     show::memory(list, n);
 }
@@ -63,6 +64,7 @@ pub fn labels(name: usize, line: &[u8], given: &[u8]) {
     filled_bytes(&memory, room);
 }
 
+// As above.
 fn filled_words(list: &[u32; 256], n: usize) {
     show::words(list, 0, n);
 }

@@ -25,7 +25,8 @@ fn call(kind: u8, line: &[u8], given: &[u8], costs: &[u32], form: &[u32]) {
         b'P' => calls::costs(line, given),
         b'J' => calls::judge(line, given, form),
         b'D' => matrices::decode(line, costs, form),
-        _ => matrices::read(line, costs),
+        b'R' => matrices::read(line, costs),
+        _ => {}
     }
     show::say(show::END);
 }

@@ -127,7 +127,7 @@ const TURNED: [(&[u32], &[&[u8]]); 4] = [
 #[test]
 fn judge_with_each_bit_turned() {
     let mut tally = Tally::default();
-    let (mut yes, mut no) = (0, 0);
+    let (mut yes, mut no, mut bad) = (0, 0, 0);
     for (form, words) in TURNED {
         for bit in 0..32 * form.len() {
             let mut turned = form.to_vec();
@@ -136,11 +136,11 @@ fn judge_with_each_bit_turned() {
                 match hold(&turned, word, &mut tally) {
                     Some(true) => yes += 1,
                     Some(false) => no += 1,
-                    None => {}
+                    None => bad += 1,
                 }
             }
         }
     }
-    assert!(yes > 0 && no > 0, "{yes} words accepted, {no} rejected");
+    assert_eq!([yes, no, bad], [113, 88, 2583], "accepted, rejected, refused");
     tally.demand("judge with a bit turned", 1, &[0, 11]);
 }

@@ -24,10 +24,10 @@ start c = c .before .before .before .before .before .before .before .before .bef
 abbrev costs : tie.Start → Matrix
 costs s = matrix (now (s .args .costs)) (s .args .width) (s .args .count)
 
--- what is lent Read
 abbrev zeros : ℕ → List ℕ
 zeros n = replicate n 0
 
+-- what is lent Read
 abbrev before : Lent
 before = record { path = zeros 255; word = zeros 255; work = zeros 16384 }
 
