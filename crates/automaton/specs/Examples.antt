@@ -1,9 +1,10 @@
--- The document's form of `ab*` over the alphabet `ab`, by computation: encoded, valid, read back. Assumes nothing.
+-- Compiled forms, computed: encoded, valid, read back; and lists that are no forms. Assumes nothing.
 -- Computed examples: nothing uses them.
 use Prim.Native.Nat.{ℕ}
 use mathlib.Core.Path.{_≡_, refl}
-use mathlib.Core.Bool.{true, false, _&&_, _||_}
-use mathlib.Core.List.{List, [], _∷_, flatMap}
+use mathlib.Core.Bool.{Bool, true, false, _&&_, _||_}
+use mathlib.Core.List.{List, [], _∷_, _++_, map, flatMap}
+use lib.ListN.{replicate}
 use lib.Dec.{eqb}
 use Rattle.lists.specs.Ranges.{in-range}
 use Rattle.lists.specs.Each.{all}
@@ -11,9 +12,11 @@ use Rattle.lists.specs.Among.{any, keep}
 use Rattle.lists.specs.Ascending.{numbers}
 use Rattle.automaton.specs.Automaton.{Automaton}
 use Rattle.automaton.specs.Accepted.{spells, accepts}
-use Rattle.automaton.specs.Form.{ordered, validForm, followOf, endsOf, view, encode}
+use Rattle.automaton.specs.Form.{lettersOf, alphabetOf, labelOf, ordered, validForm, followOf, endsOf, view, encode}
 
--- letter 1 is the a, letter 2 the b
+-- Three automata over the alphabet `ab`: letter 1 is the a, letter 2 the b.
+
+-- document 01's `ab*`
 ab* : Automaton
 ab* = record {
   letters = 2;
@@ -22,29 +25,82 @@ ab* = record {
   ends = λ i. in-range 1 2 i;
 }
 
+-- `(ab)*` accepts the empty word
+ab-repeated : Automaton
+ab-repeated = record {
+  letters = 2;
+  label = λ i. i;
+  follow = λ i j. eqb i 0 && eqb j 1 || (eqb i 1 && eqb j 2 || eqb i 2 && eqb j 1);
+  ends = λ i. eqb i 0 || eqb i 2;
+}
+
+-- `(a|b)*`: by target the second arc would be the third
+a-or-b-repeated : Automaton
+a-or-b-repeated = record { letters = 2; label = λ i. i; follow = λ i j. in-range 1 2 j; ends = λ i. true }
+
 abbrev form : List ℕ
 form = 0x10020002 ∷ 0x20000301 ∷ 0x20000202 ∷ 0x30000102 ∷ 0x30000202 ∷ []
 
-encoded : encode 2 ab* ≡ form
-unfolding encode keep numbers flatMap ab*
-encoded = refl
+abbrev nullable : List ℕ
+nullable = 0x10020102 ∷ 0x20000101 ∷ 0x20000202 ∷ 0x30000102 ∷ 0x30000201 ∷ []
 
-valid : validForm form ≡ true
-unfolding validForm all ordered
-valid = refl
+abbrev either : List ℕ
+either = 0x10020102 ∷ 0x20000301 ∷ 0x20000302 ∷ 0x30000101 ∷ 0x30000102 ∷ 0x30000201 ∷ 0x30000202 ∷ []
 
-accepts-a : accepts (view form) (1 ∷ []) ≡ true
+record Encoded : Type 0 where
+  starred : encode 2 ab* ≡ form
+  empty-word : encode 2 ab-repeated ≡ nullable
+  by-source : encode 2 a-or-b-repeated ≡ either
+
+encoded : Encoded
+unfolding encode keep numbers flatMap ab* ab-repeated a-or-b-repeated
+encoded = record { starred = refl; empty-word = refl; by-source = refl }
+
+-- the parts of a form: letters, characters, labels; which letters may be first and which last; the arcs of each
+record Parts : Type 0 where
+  counts : lettersOf nullable ∷ alphabetOf nullable ∷ map (labelOf nullable) (1 ∷ 2 ∷ []) ≡ 2 ∷ 2 ∷ 1 ∷ 2 ∷ []
+  firsts : keep (followOf form 0) (numbers 0 4) ≡ 1 ∷ []
+  lasts : keep (endsOf form) (numbers 0 4) ≡ 1 ∷ 2 ∷ []
+  nullable-ends : keep (endsOf nullable) (numbers 0 4) ≡ 0 ∷ 2 ∷ []
+  arcs : map (λ i. keep (followOf nullable i) (numbers 0 4)) (numbers 0 4) ≡ (1 ∷ []) ∷ (2 ∷ []) ∷ (1 ∷ []) ∷ [] ∷ []
+
+parts : Parts
+unfolding keep numbers followOf endsOf any
+parts = record { counts = refl; firsts = refl; lasts = refl; nullable-ends = refl; arcs = refl }
+
+-- Accepted words, as labels.
+abbrev words : List (List ℕ)
+words = [] ∷ (1 ∷ []) ∷ (2 ∷ []) ∷ (1 ∷ 2 ∷ []) ∷ (1 ∷ 2 ∷ 2 ∷ []) ∷ (1 ∷ 2 ∷ 1 ∷ []) ∷ (1 ∷ 2 ∷ 1 ∷ 2 ∷ []) ∷ []
+
+record Words : Type 0 where
+  starred : map (accepts (view form)) words ≡ false ∷ true ∷ false ∷ true ∷ true ∷ false ∷ false ∷ []
+  empty-word : map (accepts (view nullable)) words ≡ true ∷ false ∷ false ∷ true ∷ false ∷ false ∷ true ∷ []
+
+accepted : Words
 unfolding spells any numbers followOf endsOf
-accepts-a = refl
+accepted = record { starred = refl; empty-word = refl }
 
-accepts-abb : accepts (view form) (1 ∷ 2 ∷ 2 ∷ []) ≡ true
-unfolding spells any numbers followOf endsOf
-accepts-abb = refl
+-- Lists that are forms: those above, one letter and one character, 95 characters, 127 letters.
+forms : List (List ℕ)
+forms =
+    form ∷ nullable ∷ either ∷ (0x10010001 ∷ 0x20000001 ∷ []) ∷ (0x105f0001 ∷ 0x2000005f ∷ []) ∷ (0x1001007f ∷ replicate 127 0x20000001)
+    ∷ (0x1001007f ∷ (replicate 127 0x20000001 ++ (0x30007f7f ∷ []))) ∷ []
 
-rejects-nothing : accepts (view form) [] ≡ false
-unfolding spells endsOf
-rejects-nothing = refl
+-- Lists that are none, each by one fault.
+no-forms : List (List ℕ)
+no-forms =
+    -- no head; a letter missing; no letter; 128 letters; no character; 96 characters; an unnamed bit; another kind
+    [] ∷ (0x10010001 ∷ []) ∷ (0x10010000 ∷ []) ∷ (0x10010080 ∷ replicate 128 0x20000001) ∷ (0x10000001 ∷ 0x20000001 ∷ [])
+    ∷ (0x10600001 ∷ 0x20000001 ∷ []) ∷ (0x10010201 ∷ 0x20000001 ∷ []) ∷ (0x11010001 ∷ 0x20000001 ∷ []) ∷ (0x20010001 ∷ 0x20000001 ∷ [])
+    -- of a letter: label 0; a label over K; an unnamed bit; another kind
+    ∷ (0x10010001 ∷ 0x20000000 ∷ []) ∷ (0x10010001 ∷ 0x20000002 ∷ []) ∷ (0x10010001 ∷ 0x20000401 ∷ []) ∷ (0x10010001 ∷ 0x30000101 ∷ [])
+    -- of an arc: source 0; target 0; source or target over L; an unnamed bit; another kind
+    ∷ (0x10010001 ∷ 0x20000001 ∷ 0x30000001 ∷ []) ∷ (0x10010001 ∷ 0x20000001 ∷ 0x30000100 ∷ []) ∷ (0x10010001 ∷ 0x20000001 ∷ 0x30000201 ∷ [])
+    ∷ (0x10010001 ∷ 0x20000001 ∷ 0x30000102 ∷ []) ∷ (0x10010001 ∷ 0x20000001 ∷ 0x30010101 ∷ []) ∷ (0x10010001 ∷ 0x20000001 ∷ 0x20000001 ∷ [])
+    -- arcs: one twice; by target and not by source; descending by target
+    ∷ (0x10010001 ∷ 0x20000001 ∷ 0x30000101 ∷ 0x30000101 ∷ []) ∷ (0x10010002 ∷ 0x20000001 ∷ 0x20000001 ∷ 0x30000201 ∷ 0x30000102 ∷ [])
+    ∷ (0x10010002 ∷ 0x20000001 ∷ 0x20000001 ∷ 0x30000102 ∷ 0x30000101 ∷ []) ∷ []
 
-rejects-aba : accepts (view form) (1 ∷ 2 ∷ 1 ∷ []) ≡ false
-unfolding spells any numbers followOf endsOf
-rejects-aba = refl
+valid : (all validForm forms ≡ true) × (any validForm no-forms ≡ false)
+unfolding forms no-forms all any validForm ordered
+valid = (refl, refl)

@@ -8,7 +8,7 @@ use mathlib.Core.List.{List, [], _∷_, map}
 use lib.ListN.{length}
 use lib.Dec.{leb, ltb, eqb}
 use Rattle.refusal.specs.declared.Refusal.the-variants.{OutputMemory}
-use Rattle.refusal.specs.Verdict.{Verdict, check, unless}
+use Rattle.refusal.specs.Verdict.{Verdict, passed, refused, check, unless}
 
 abbrev pub either : Bool → ℕ → ℕ → ℕ
 either true a b = a
@@ -39,3 +39,8 @@ costs-call confidences room = unless (check (ltb room (length confidences)) Outp
 examples : map cost-of (255 ∷ 182 ∷ 181 ∷ 128 ∷ 1 ∷ 0 ∷ []) ≡ 0 ∷ 3 ∷ 4 ∷ 8 ∷ 64 ∷ 72 ∷ []
 unfolding cost-of shift largest
 examples = refl
+
+-- memory for just as many costs, and for one less
+rooms : (costs-call (128 ∷ 1 ∷ []) 2 ≡ passed (8 ∷ 64 ∷ [])) × (costs-call (128 ∷ 1 ∷ []) 1 ≡ refused OutputMemory) × (costs-call [] 0 ≡ passed [])
+unfolding costs-call unless cost-of shift largest
+rooms = (refl, refl, refl)

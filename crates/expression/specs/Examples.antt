@@ -2,9 +2,11 @@
 -- and for each tie of places. Assumes nothing.
 -- Computed examples: nothing uses them.
 use mathlib.Core.Path.{_≡_, refl}
+use mathlib.Core.Option.{none}
 use mathlib.Core.List.{List, [], _∷_, _++_}
 use mathlib.Core.Bool.{Bool, true, false, _&&_}
 use Prim.Native.Nat.{ℕ, zero, suc, _-_}
+use Prim.Native.Char.{code}
 use Prim.Native.String.{String}
 use lib.ListN.{length}
 use lib.Dec.{eqb}
@@ -86,12 +88,17 @@ bracket-rows =
     -- `-` first or just before the closing `]`, or as a range's end
     letters-of "[--b]" 11 ∷ letters-of "[---]" 1 ∷ letters-of "[+--]" 2 ∷ letters-of "[a-b-]" 3 ∷ letters-of "[a-]" 2 ∷ letters-of "[-]" 1 ∷
     letters-of "[--]" 1 ∷ letters-of "[^-a]" 11 ∷ refused-as "[a--]" Bracket 0 ∷ refused-as "[a-b-c]" Bracket 0 ∷
+    refused-as "[a-b-ca]" Bracket 0 ∷ refused-as "[a-b-+ab]" Bracket 0 ∷ refused-as "[+-a-b]" Bracket 0 ∷ letters-of "[+-a-]" 11 ∷
     -- `]` as first item is ordinary
     letters-of "[]]" 1 ∷ letters-of "[^]]" 12 ∷ letters-of "[]-a]" 3 ∷ letters-of "[]-]" 2 ∷ refused-as "[]" Bracket 0 ∷ refused-as "[^]" Bracket 0 ∷
     refused-as "[" Bracket 0 ∷ refused-as "[a" Bracket 0 ∷ refused-as "a[b" Bracket 1 ∷
     -- `[.` `[=` `[:` inside
     letters-of "[.]" 1 ∷ letters-of "[=]" 1 ∷ letters-of "[:a:]" 2 ∷ letters-of "[[a]" 2 ∷ letters-of "[\\a]" 2 ∷ refused-as "[A-[.]" Bracket 0 ∷
     refused-as "[[.]" Bracket 0 ∷ refused-as "[a[=]" Bracket 0 ∷ refused-as "[[:a:]]" Bracket 0 ∷ refused-as "[^[:a]" Bracket 0 ∷ []
+
+-- over `^ab`: `^` complements only right after the `[`
+complement-rows : List Row
+complement-rows = letters-of "[a^]" 2 ∷ letters-of "[^^]" 2 ∷ letters-of "[^a^]" 1 ∷ letters-of "\\^" 1 ∷ refused-as "[^^ab]" Foreign 0 ∷ []
 
 -- over `ba`: a range goes by byte value and not by label
 label-rows : List Row
@@ -114,6 +121,7 @@ sign-texts = bytes "\\^\\.\\[\\$\\(\\)\\|\\*\\+\\?\\{\\\\"
 tried :
     (failing (bytes "ab") rows ≡ [])
     × (failing (bytes "+-.:=A[]\\`ab}") bracket-rows ≡ [])
+    × (failing (bytes "^ab") complement-rows ≡ [])
     × (failing (bytes "ba") label-rows ≡ [])
     -- each sign, made ordinary
     × (size signs (expressionOf signs sign-texts) ≡ 12)
@@ -128,5 +136,11 @@ tried :
     (join (times (set (alone 97)) (between 2 2)) (join (times (set (alone 97)) (onward 0)) (times (set (alone 97)) (between 1 2))))))) [])
     × (expressionOf (bytes "abc-") (bytes ".([^a-b-]*)")
     ≡ found (join (set (except [])) (group (times (set (except (range 97 98 ∷ range 45 45 ∷ []))) (onward 0)))) [])
-unfolding failing meets rows bracket-rows label-rows many size signs sign-texts labelsOf letterCount then first-of split enclosed provided closed reserved items members inside bracket escaped a-set labelled-set number from-on from-to comma counts sign repetition grouped step go read whole expressionOf
-tried = (refl, refl, refl, refl, refl, refl, refl, refl)
+unfolding failing meets rows bracket-rows complement-rows label-rows many size signs sign-texts labelsOf letterCount then first-of split enclosed provided closed reserved items members inside bracket escaped a-set labelled-set number from-on from-to comma counts sign repetition grouped step go read whole expressionOf
+tried = (refl, refl, refl, refl, refl, refl, refl, refl, refl)
+
+-- "A `-` may begin an item only first or just before the closing `]`": in the middle it may not, whatever follows it inside
+hyphen-inside : (b : ℕ) (s : List ℕ) → items false (code "-" ∷ (b ∷ s)) ≡ none
+unfolding items provided
+hyphen-inside b [] = refl
+hyphen-inside b (d ∷ s) = refl

@@ -7,6 +7,7 @@ pub mod Repetition
 pub mod Read
 pub mod Grammar
 pub mod Examples
+pub mod SignExamples
 pub mod Says
 pub mod Own
 pub mod OwnSets

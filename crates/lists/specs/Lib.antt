@@ -9,3 +9,4 @@ pub mod Remaining
 pub mod Outside
 pub mod Marks
 pub mod Upto
+pub mod Examples

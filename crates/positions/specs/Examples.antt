@@ -56,6 +56,11 @@ record Examples : Type 0 where
   -- the document's `ab*`, as it compiles and part by part
   compiled : formOf ab (join a (any b)) ≡ 0x10020002 ∷ 0x20000301 ∷ 0x20000202 ∷ 0x30000102 ∷ 0x30000202 ∷ []
   star-behind : over ab (join a (any b)) ≡ letters (1 ∷ 2 ∷ []) false (1 ∷ []) (1 ∷ 2 ∷ []) ((2 ∷ []) ∷ (2 ∷ []) ∷ [])
+  -- `(ab)*` accepts the empty word; `(a|b)*`: arcs by source and then by target
+  compiled-nullable : formOf ab (any (group (join a b))) ≡ 0x10020102 ∷ 0x20000101 ∷ 0x20000202 ∷ 0x30000102 ∷ 0x30000201 ∷ []
+  compiled-either :
+      formOf ab (any (group (either a b)))
+      ≡ 0x10020102 ∷ 0x20000301 ∷ 0x20000302 ∷ 0x30000101 ∷ 0x30000102 ∷ 0x30000201 ∷ 0x30000202 ∷ []
   -- `a*`, `a+`, `a?`
   star : over ab (any a) ≡ letters (1 ∷ []) true (1 ∷ []) (1 ∷ []) ((1 ∷ []) ∷ [])
   plus : over ab (some a) ≡ letters (1 ∷ []) false (1 ∷ []) (1 ∷ []) ((1 ∷ []) ∷ [])
@@ -83,6 +88,8 @@ unfolding opened keep numbers anyOf repeated copies nested labels numbered posit
 examples = record {
   compiled = refl;
   star-behind = refl;
+  compiled-nullable = refl;
+  compiled-either = refl;
   star = refl;
   plus = refl;
   optional = refl;

@@ -2,3 +2,4 @@ pub mod Answer
 pub mod Promise
 pub mod Longest
 pub mod Steps
+pub mod Examples

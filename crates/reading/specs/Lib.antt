@@ -5,3 +5,4 @@ pub mod Reading
 pub mod Choice
 pub mod Exhaustive
 pub mod Columns
+pub mod Examples

@@ -1,3 +1,4 @@
 pub mod Number
 pub mod Verdict
 pub mod Report
+pub mod Examples

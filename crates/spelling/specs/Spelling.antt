@@ -1,8 +1,8 @@
 -- The characters of a word's labels, and the labels replaced by them, in place. Assumes nothing.
 -- Used by the contracts and the proofs; in kavurehy, read_print, read_text, read_word and reader.
 use Prim.Native.Nat.{ℕ, _+_, _-_, _≤_, _<_}
-use mathlib.Core.Path.{_≡_, ap, _∙_}
-use mathlib.Core.List.{List, _∷_, map}
+use mathlib.Core.Path.{_≡_, refl, ap, _∙_}
+use mathlib.Core.List.{List, [], _∷_, map}
 use native.Mathlib.Omega.{arith}
 use lib.ListN.{length, getD, take, drop, set, length-map}
 use lib.Seq.{getD-take, length-take-le}
@@ -12,6 +12,10 @@ use Rattle.lists.specs.Written.{written, Filling, filling-none, filling-more, f
 -- the characters of a word's labels
 abbrev pub characters : (A w : List ℕ) → List ℕ
 characters A w = map (λ x. getD A (x - 1) 0) w
+
+-- over `xyz`: label 1 is the x
+example : characters (120 ∷ 121 ∷ 122 ∷ []) (1 ∷ 3 ∷ 3 ∷ 2 ∷ []) ≡ 120 ∷ 122 ∷ 122 ∷ 121 ∷ []
+example = refl
 
 -- the first n elements are labels of the alphabet
 pub record Labels (A word : List ℕ) (n : ℕ) : Type 0 where

@@ -1,0 +1,50 @@
+-- Rows 1 to 3 at their limits, and their order, computed. Assumes nothing.
+-- Computed examples: nothing uses them.
+use Prim.Native.Nat.{ℕ}
+use mathlib.Core.Path.{_≡_, refl}
+use mathlib.Core.Bool.{true, false}
+use mathlib.Core.List.{List, [], _∷_, map}
+use lib.ListN.{replicate}
+use Rattle.lists.specs.Each.{all}
+use Rattle.lists.specs.Among.{any}
+use Rattle.lists.specs.Ascending.{numbers}
+use Rattle.refusal.specs.declared.Refusal.the-variants.{Alphabet, TextLength, TextByte}
+use Rattle.refusal.specs.declared.Checked.{Checked}
+use Rattle.refusal.specs.declared.Checked.the-variants.{Passed, Refused}
+use Rattle.refusal.specs.Verdict.{first-refusal}
+use Rattle.alphabet.specs.Alphabet.{distinct, is-alphabet, text-checks}
+
+-- a and b
+abbrev ab : List ℕ
+ab = 97 ∷ 98 ∷ []
+
+-- what the checks make of an alphabet and a text
+abbrev said : List ℕ → List ℕ → Checked
+said A s = first-refusal (text-checks A s)
+
+record Examples : Type 0 where
+  -- none, one, all 95, one more (a byte too high, or one twice)
+  sizes : map is-alphabet ([] ∷ (97 ∷ []) ∷ numbers 32 95 ∷ numbers 32 96 ∷ (32 ∷ numbers 32 95) ∷ []) ≡ false ∷ true ∷ true ∷ false ∷ false ∷ []
+  alphabet-bytes : map (λ b. is-alphabet (97 ∷ b ∷ [])) (31 ∷ 32 ∷ 126 ∷ 127 ∷ []) ≡ false ∷ true ∷ true ∷ false ∷ []
+  twice : map is-alphabet ((97 ∷ 97 ∷ []) ∷ (97 ∷ 98 ∷ 97 ∷ []) ∷ ab ∷ []) ≡ false ∷ false ∷ true ∷ []
+  text-sizes :
+      map (λ n. said ab (replicate n 97)) (0 ∷ 1 ∷ 255 ∷ 256 ∷ []) ≡ Refused TextLength ∷ Passed ∷ Passed ∷ Refused TextLength ∷ []
+  text-bytes :
+      map (λ b. said ab (97 ∷ b ∷ [])) (31 ∷ 32 ∷ 126 ∷ 127 ∷ []) ≡ Refused TextByte ∷ Passed ∷ Passed ∷ Refused TextByte ∷ []
+  -- two faults: 1 before 2, 1 before 3, 2 before 3
+  alphabet-and-length : said [] [] ≡ Refused Alphabet
+  alphabet-and-byte : said [] (9 ∷ []) ≡ Refused Alphabet
+  length-and-byte : said ab (replicate 256 9) ≡ Refused TextLength
+
+examples : Examples
+unfolding first-refusal distinct all any numbers
+examples = record {
+  sizes = refl;
+  alphabet-bytes = refl;
+  twice = refl;
+  text-sizes = refl;
+  text-bytes = refl;
+  alphabet-and-length = refl;
+  alphabet-and-byte = refl;
+  length-and-byte = refl;
+}

@@ -1,0 +1,37 @@
+-- The call Judge on the form of `ab*`, at its limits, and the order of its checks, computed. Assumes nothing.
+-- Computed examples: nothing uses them.
+use Prim.Native.Nat.{ℕ}
+use mathlib.Core.Path.{_≡_, refl}
+use mathlib.Core.Bool.{Bool, true, false}
+use mathlib.Core.List.{List, [], _∷_, map}
+use lib.ListN.{replicate}
+use Rattle.lists.specs.Each.{all}
+use Rattle.lists.specs.Among.{any}
+use Rattle.lists.specs.Ascending.{numbers}
+use Rattle.refusal.specs.declared.Refusal.the-variants.{BadForm, Label}
+use Rattle.refusal.specs.Verdict.{Verdict, passed, refused, unless}
+use Rattle.automaton.specs.Form.{ordered, validForm, followOf, endsOf}
+use Rattle.automaton.specs.Accepted.{spells}
+use Rattle.judge.specs.Judge.{judged}
+
+abbrev form : List ℕ
+form = 0x10020002 ∷ 0x20000301 ∷ 0x20000202 ∷ 0x30000102 ∷ 0x30000202 ∷ []
+
+-- its last arc is missing a bit of its kind
+abbrev no-form : List ℕ
+no-form = 0x10020002 ∷ 0x20000301 ∷ 0x20000202 ∷ 0x30000102 ∷ 0x20000202 ∷ []
+
+record Examples : Type 0 where
+  accepted : judged form (1 ∷ 2 ∷ 2 ∷ []) ≡ passed true
+  rejected : judged form (2 ∷ []) ≡ passed false
+  no-letter : judged form [] ≡ passed false
+  bad-form : judged no-form (1 ∷ []) ≡ refused BadForm
+  -- a label over K, 0 in a word; 255 labels, and one more
+  labels : map (λ x. judged form (1 ∷ x ∷ [])) (0 ∷ 1 ∷ 2 ∷ 3 ∷ []) ≡ refused Label ∷ passed false ∷ passed true ∷ refused Label ∷ []
+  lengths : map (λ n. judged form (1 ∷ replicate n 2)) (254 ∷ 255 ∷ []) ≡ passed true ∷ refused Label ∷ []
+  -- 11 before 17
+  both : judged no-form (3 ∷ []) ≡ refused BadForm
+
+examples : Examples
+unfolding judged unless validForm ordered all any spells numbers followOf endsOf
+examples = record { accepted = refl; rejected = refl; no-letter = refl; bad-form = refl; labels = refl; lengths = refl; both = refl }

@@ -1,0 +1,92 @@
+-- The table's numbers, the order of checks, and what is reported, computed. Assumes nothing.
+-- Computed examples: nothing uses them.
+use Prim.Native.Nat.{ℕ, _-_}
+use mathlib.Core.Path.{_≡_, refl}
+use mathlib.Core.Bool.{true, false}
+use mathlib.Core.List.{List, [], _∷_, map}
+use lib.ListN.{getD}
+use Rattle.lists.specs.Ascending.{numbers}
+use Rattle.refusal.specs.declared.Refusal.{Refusal}
+use Rattle.refusal.specs.declared.Refusal.the-variants.{Alphabet, TextLength, TextByte, MisplacedSign, Depth, Count, Bracket, Foreign, Letters}
+use Rattle.refusal.specs.declared.Refusal.the-variants.{FormMemory, BadForm, Matrix, Cost, OutputMemory, Work, NoReading, Label, Sheet}
+use Rattle.refusal.specs.declared.Checked.the-variants.{Passed, Refused as Stopped}
+use Rattle.refusal.specs.declared.Counted.the-variants.{Filled, Refused}
+use Rattle.refusal.specs.Number.{numberOf}
+use Rattle.refusal.specs.Verdict.{Verdict, passed, refused, Check, check, unless, if-passed, first-refusal}
+use Rattle.refusal.specs.Report.{reported, report, filling}
+
+-- the rows in the table's order
+abbrev rows : List Refusal
+rows =
+    Alphabet ∷ TextLength ∷ TextByte ∷ MisplacedSign ∷ Depth ∷ Count ∷ Bracket ∷ Foreign ∷ Letters ∷ FormMemory ∷ BadForm ∷ Matrix ∷ Cost ∷
+    OutputMemory ∷ Work ∷ NoReading ∷ Label ∷ Sheet ∷ []
+
+numbered : map numberOf rows ≡ numbers 1 18
+unfolding numbers
+numbered = refl
+
+-- no row is missing above
+listed : (n : Refusal) → getD rows (numberOf n - 1) n ≡ n
+listed Alphabet = refl
+listed TextLength = refl
+listed TextByte = refl
+listed MisplacedSign = refl
+listed Depth = refl
+listed Count = refl
+listed Bracket = refl
+listed Foreign = refl
+listed Letters = refl
+listed FormMemory = refl
+listed BadForm = refl
+listed Matrix = refl
+listed Cost = refl
+listed OutputMemory = refl
+listed Work = refl
+listed NoReading = refl
+listed Label = refl
+listed Sheet = refl
+
+-- two checks that hold: the first in the list decides, though its number is the higher
+abbrev two : List Check
+two = check false Label ∷ check true Work ∷ check true Cost ∷ []
+
+abbrev none : List Check
+none = check false Label ∷ check false Work ∷ []
+
+abbrev some : List ℕ
+some = 5 ∷ 6 ∷ []
+
+abbrev away : Verdict (List ℕ)
+away = refused Work
+
+record Examples : Type 0 where
+  first : unless two some ≡ refused Work
+  first-alone : first-refusal two ≡ Stopped Work
+  all-pass : unless none some ≡ passed some
+  all-pass-alone : first-refusal none ≡ Passed
+  goes-on : if-passed (passed some) (λ s. away) ≡ away
+  stays-refused : if-passed away (λ s. passed s) ≡ away
+  -- number, price, length of what was filled, length of the form
+  filled : reported (Filled 2) ≡ record { number = 0; price = 0; filled = 2; form = 0 }
+  turned-away : reported (Refused Work) ≡ record { number = 15; price = 0; filled = 0; form = 0 }
+  verdict-filled : report (passed some) ≡ record { number = 0; price = 0; filled = 2; form = 0 }
+  verdict-refused : report away ≡ record { number = 15; price = 0; filled = 0; form = 0 }
+  written : filling (passed some) ≡ some
+  nothing-written : filling away ≡ []
+
+examples : Examples
+unfolding unless first-refusal if-passed
+examples = record {
+  first = refl;
+  first-alone = refl;
+  all-pass = refl;
+  all-pass-alone = refl;
+  goes-on = refl;
+  stays-refused = refl;
+  filled = refl;
+  turned-away = refl;
+  verdict-filled = refl;
+  verdict-refused = refl;
+  written = refl;
+  nothing-written = refl;
+}
