@@ -7,7 +7,6 @@ use Prim.Native.Nat.{ℕ, _≤_}
 use native.Mathlib.Omega.{arith}
 use lib.ListN.{length}
 use Rattle.refusal.specs.declared.Refusal.{Refusal}
-use Rattle.refusal.specs.declared.Refusal.the-variants as row
 use Rattle.expression.specs.Tree.{Tree}
 use Rattle.expression.specs.Text.{fault}
 use Rattle.expression.specs.Read.{m-alternation, read, whole, expressionOf}
@@ -41,7 +40,7 @@ leftmost A l s n r e =
   where
     behind : (t : Tree) (r : List ℕ) → Front A m-alternation 16 s t r → Says (λ t r. Unit {0}) (Stop A m-alternation 16 s) (whole t r)
     behind t [] f = tt
-    behind t (b ∷ r) f = stop-behind A 16 s t (b ∷ r) row.MisplacedSign (b ∷ r) m-alternation f refl
+    behind t (b ∷ r) f = stop-behind A 16 s t (b ∷ r) _ (b ∷ r) m-alternation f refl
 
     expression-stops : Says (λ t r. Unit {0}) (Stop A m-alternation 16 s) (expressionOf A s)
     expression-stops =
