@@ -3,5 +3,6 @@ pub mod Accepted
 pub mod Form
 pub mod Words
 pub mod Valid
+pub mod FormAccepts
 pub mod Encode
 pub mod Examples

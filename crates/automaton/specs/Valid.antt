@@ -1,5 +1,5 @@
 -- What a valid form says of its words, index by index, and of its automaton. Assumes nothing.
--- Used by Encode; in 18 other crates.
+-- Used by Encode and FormAccepts; in 18 other crates.
 use Prim.Native.Nat.{ℕ, zero, suc, _+_, _-_, _<_, _≤_}
 use mathlib.Core.Path.{_≡_, refl, sym, ap, subst, _∙_}
 use mathlib.Core.Bool.{true, _&&_}

@@ -2,16 +2,14 @@
 -- Assumes nothing.
 -- Used by Leftmost and Together; in compile.
 use mathlib.Core.Path.{_≡_, refl, sym, ap, _∙_}
-use mathlib.Core.Logic.{_↔_, _⊎_, inl, inr}
+use mathlib.Core.Logic.{_↔_}
 use mathlib.Core.List.{List, [], _∷_, _++_, append-assoc, append-nil}
 use mathlib.Core.Bool.{Bool, true, false, _||_}
 use Prim.Native.Nat.{ℕ, zero, suc, _≤_}
 use Prim.Native.Char.{code}
 use native.Mathlib.Omega.{arith}
 use lib.Dec.{eqb}
-use borrow.Author.Tests.{eqb-true}
-use Rattle.lists.specs.Order.{or-either, or-neither}
-use Rattle.lists.specs.Each.{Each}
+use Rattle.lists.specs.Order.{or-neither}
 use Rattle.refusal.specs.declared.Refusal.the-variants as row
 use Rattle.expression.specs.Bytes.{bytes}
 use Rattle.expression.specs.Tree.{Count, Set, Tree, set, group, times, join, either, Words}
@@ -21,7 +19,7 @@ use Rattle.expression.specs.Repetition.{repeats, sign, repetition}
 use Rattle.expression.specs.Read.{Mode, m-alternation, m-branch, m-piece, m-group, ends, grouped, step, rank, read, whole, expressionOf}
 use Rattle.expression.specs.Grammar.{loose, TextOf, WordsOf}
 use Rattle.expression.specs.Says.{of-found, then-found}
-use Rattle.expression.specs.Own.{Here}
+use Rattle.expression.specs.Own.{of-one, Here}
 use Rattle.expression.specs.OwnSets.{ASet, labelled-set-says}
 use Rattle.expression.specs.OwnCounts.{Repeating, repetition-says}
 use Rattle.expression.specs.Front.{set-starts, text-starts, Front, Stop}
@@ -35,18 +33,9 @@ Follows m-piece w = repeats w ≡ false
 Follows m-branch w = ends w ≡ true
 Follows m-alternation w = (ends w ≡ true) × (next "|" w ≡ false)
 
--- a byte that is one of some is none of others
-none-of : (cs ds : List ℕ) (b : ℕ) → Each (λ c. one-of ds c ≡ false) cs → one-of cs b ≡ true → one-of ds b ≡ false
-none-of [] ds b h e = let z : _≡_ {A = ℕ} 0 1 = cc in absurd (omega arith)
-none-of (c ∷ cs) ds b h e = by (or-either (eqb b c) (one-of cs b) e) (λ k. none-of cs ds b (h .1) k)
-  where
-    by : (eqb b c ≡ true) ⊎ (one-of cs b ≡ true) → (one-of cs b ≡ true → one-of ds b ≡ false) → one-of ds b ≡ false
-    by (inl k) ih = rw (eqb-true b c k) (h .0)
-    by (inr k) ih = ih k
-
 end-not-repeats : (w : List ℕ) → ends w ≡ true → repeats w ≡ false
 end-not-repeats [] e = refl
-end-not-repeats (b ∷ w) e = none-of (bytes "|)") (bytes "*+?{") b (refl, (refl, tt)) e
+end-not-repeats (b ∷ w) e = of-one (λ c. one-of (bytes "*+?{") c ≡ false) (bytes "|)") b (refl, (refl, tt)) e
 
 -- what is no repetition is no modifier
 repeats-modifier : (w : List ℕ) → repeats w ≡ false → next "?" w ≡ false

@@ -21,7 +21,7 @@ use Rattle.expression.specs.Sets.{a-set, labelled-set}
 use Rattle.expression.specs.Repetition.{repeats, repetition}
 use Rattle.expression.specs.Read.{Mode, m-alternation, m-branch, m-piece, m-group, ends, rank}
 use Rattle.expression.specs.Grammar.{loose, TextOf}
-use Rattle.expression.specs.Own.{next-is, Textual, Here}
+use Rattle.expression.specs.Own.{next-is, Here}
 use Rattle.expression.specs.OwnSets.{ASet}
 use Rattle.expression.specs.OwnCounts.{Repeating}
 
@@ -91,9 +91,8 @@ pub record Front (A : List ℕ) (m : Mode) (d : ℕ) (s : List ℕ) (t : Tree) (
 abbrev pub Begins : List ℕ → Mode → ℕ → List ℕ → Type 0
 Begins A m d u = (v : List ℕ) × (t : Tree) × TextOf A d t (u ++ v) × (loose t ≤ rank m)
 
--- A fault: a row of 4 to 8, and the text in front of it can be continued.
+-- A fault: the text in front of it can be continued.
 pub record Stop (A : List ℕ) (m : Mode) (d : ℕ) (s : List ℕ) (n : Refusal) (r : List ℕ) : Type 0 where
-  pub row : Textual n
   pub front : List ℕ
   pub splits : s ≡ front ++ r
   pub begins : 1 ≤ length A → Begins A m d front
@@ -111,10 +110,10 @@ module _ (A : List ℕ) (d : ℕ) where
 
   pub stop-looser : (m m′ : Mode) (s : List ℕ) → rank m ≤ rank m′ → (n : Refusal) (r : List ℕ) → Stop A m d s n r → Stop A m′ d s n r
   stop-looser m m′ s l n r f =
-      record { row = f .row; front = f .front; splits = f .splits; begins = λ k. let b = f .begins k in (b .0, b .1, b .2, omega (arith, b .3)) }
+      record { front = f .front; splits = f .splits; begins = λ k. let b = f .begins k in (b .0, b .1, b .2, omega (arith, b .3)) }
 
   pub stop-here : (m : Mode) (s : List ℕ) (n : Refusal) (r : List ℕ) → Here s n r → Stop A m d s n r
-  stop-here m s n r h = record { row = h .0; front = []; splits = sym (h .1); begins = λ k. (code "." ∷ [], set (except []), dot A k d, omega arith) }
+  stop-here m s n r h = record { front = []; splits = sym h; begins = λ k. (code "." ∷ [], set (except []), dot A k d, omega arith) }
 
   module _ (s : List ℕ) (t : Tree) (s₁ : List ℕ) (u : Tree) (r : List ℕ) where
     pub either-front :
@@ -140,7 +139,6 @@ module _ (A : List ℕ) (d : ℕ) where
     pub either-stop : Front A m-branch d s t s₁ → next "|" s₁ ≡ true → Stop A m-alternation d (rest s₁) n r → Stop A m-alternation d s n r
     either-stop f k g =
         record {
-          row = g .row;
           front = f .front ++ (code "|" ∷ g .front);
           splits = cut s (f .front) s₁ (code "|" ∷ g .front) r (f .splits) (signed "|" s₁ (g .front) r k (g .splits));
           begins = λ a. let b = g .begins a in
@@ -150,7 +148,6 @@ module _ (A : List ℕ) (d : ℕ) where
     pub join-stop : Front A m-piece d s t s₁ → Stop A m-branch d s₁ n r → Stop A m-branch d s n r
     join-stop f g =
         record {
-          row = g .row;
           front = f .front ++ g .front;
           splits = cut s (f .front) s₁ (g .front) r (f .splits) (g .splits);
           begins = λ a. let b = g .begins a in
@@ -161,9 +158,8 @@ module _ (A : List ℕ) (d : ℕ) where
     pub stop-behind : (m : Mode) → Front A m d s t s₁ → Here s₁ n r → Stop A m d s n r
     stop-behind m f h =
         record {
-          row = h .0;
           front = f .front;
-          splits = f .splits ∙ ap (λ (l : List ℕ). f .front ++ l) (sym (h .1));
+          splits = f .splits ∙ ap (λ (l : List ℕ). f .front ++ l) (sym h);
           begins = λ a. ([], t, rw (append-nil (f .front)) (f .text), f .close);
         }
 
@@ -203,7 +199,6 @@ module _ (A : List ℕ) (d : ℕ) where
   pub group-stop : (s : List ℕ) (n : Refusal) (r : List ℕ) → next "(" s ≡ true → Stop A m-alternation d (rest s) n r → Stop A m-group (suc d) s n r
   group-stop s n r k f =
       record {
-        row = f .row;
         front = code "(" ∷ f .front;
         splits = signed "(" s (f .front) r k (f .splits);
         begins = λ a. let b = f .begins a in (

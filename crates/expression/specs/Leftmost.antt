@@ -1,27 +1,26 @@
--- A refusal stands at the leftmost fault (document 01, "What is turned away": "among 4 to 8 the one leftmost in the text").
+-- A refusal is at the leftmost fault (document 01, "What is turned away": "among 4 to 8 the one leftmost in the text").
 -- Assumes nothing.
 -- For the reader: nothing uses it.
-use mathlib.Core.Path.{_≡_}
+use mathlib.Core.Path.{_≡_, refl}
 use mathlib.Core.List.{List, [], _∷_, _++_}
 use Prim.Native.Nat.{ℕ, _≤_}
 use native.Mathlib.Omega.{arith}
 use lib.ListN.{length}
 use Rattle.refusal.specs.declared.Refusal.{Refusal}
-use Rattle.refusal.specs.declared.Refusal.the-variants as row
 use Rattle.expression.specs.Tree.{Tree}
 use Rattle.expression.specs.Text.{fault}
 use Rattle.expression.specs.Read.{m-alternation, read, whole, expressionOf}
 use Rattle.expression.specs.Grammar.{TextOf}
 use Rattle.expression.specs.Says.{Says, of-fault, then-says}
-use Rattle.expression.specs.Own.{Textual, misplaced}
 use Rattle.expression.specs.Front.{Front, Stop, Begins, stop-behind}
 use Rattle.expression.specs.Sound.{read-sound}
 use Rattle.expression.specs.Exact.{exact}
+use Rattle.expression.specs.Places.{Place, refused-at}
 
--- A refusal of row 4 to 8 at the leftmost fault: the text is no expression, and the text in front of the fault begins one, so that no
--- fault stands further left. Which row it is, and that braces and brackets are refused at their opening sign, the reading itself says.
+-- A refusal of row 4 to 8 at the leftmost fault: the text from the fault on begins as the row says, the text is no expression, and the
+-- text in front of the fault begins one, so that no fault is further left.
 pub record Leftmost (A s : List ℕ) (n : Refusal) (r : List ℕ) : Type 0 where
-  pub row : Textual n
+  pub place : Place A n r
   pub none : (t : Tree) → TextOf A 16 t s → ⊥
   pub front : List ℕ
   pub splits : s ≡ front ++ r
@@ -32,7 +31,7 @@ unfolding expressionOf whole
 leftmost A l s n r e =
     let stop = of-fault (λ (t : Tree) (r : List ℕ). Unit {0}) (Stop A m-alternation 16 s) (expressionOf A s) n r (expression-stops) e in
     record {
-      row = stop .row;
+      place = refused-at A s n r e;
       none = λ t h. let k = exact A s t .1 h in let z : _≡_ {A = ℕ} 0 1 = cc in omega arith;
       front = stop .front;
       splits = stop .splits;
@@ -41,7 +40,7 @@ leftmost A l s n r e =
   where
     behind : (t : Tree) (r : List ℕ) → Front A m-alternation 16 s t r → Says (λ t r. Unit {0}) (Stop A m-alternation 16 s) (whole t r)
     behind t [] f = tt
-    behind t (b ∷ r) f = stop-behind A 16 s t (b ∷ r) row.MisplacedSign (b ∷ r) m-alternation f (misplaced (b ∷ r))
+    behind t (b ∷ r) f = stop-behind A 16 s t (b ∷ r) _ (b ∷ r) m-alternation f refl
 
     expression-stops : Says (λ t r. Unit {0}) (Stop A m-alternation 16 s) (expressionOf A s)
     expression-stops =

@@ -1,6 +1,7 @@
 -- What is read from its own bytes alone, whatever stands behind them, and what is refused at its first byte. Assumes nothing.
--- Used by 8 files of specs/; in build.
+-- Used by 7 files of specs/; in build.
 use mathlib.Core.Path.{_≡_, refl, ap, _∙_}
+use mathlib.Core.Logic.{_⊎_, inl, inr}
 use mathlib.Core.Option.{Option, some, none}
 use mathlib.Core.List.{List, [], _∷_, _++_}
 use mathlib.Core.Bool.{Bool, true, false}
@@ -9,9 +10,9 @@ use Prim.Native.Char.{Char, code}
 use native.Mathlib.Omega.{arith}
 use lib.Dec.{eqb}
 use borrow.Author.Tests.{eqb-true}
+use Rattle.lists.specs.Order.{or-either}
+use Rattle.lists.specs.Each.{Each}
 use Rattle.refusal.specs.declared.Refusal.{Refusal}
-use Rattle.refusal.specs.declared.Refusal.the-variants as row
-use Rattle.refusal.specs.Number.{numberOf}
 use Rattle.expression.specs.Text.{Reads, found, one-of, next, rest, in-front, split, enclosed}
 use Rattle.expression.specs.Says.{Says, enclosed-says}
 
@@ -20,19 +21,18 @@ pub next-is : (c : Char) (s : List ℕ) → next c s ≡ true → s ≡ code c �
 next-is c [] e = let z : _≡_ {A = ℕ} 0 1 = cc in absurd (omega arith)
 next-is c (b ∷ s) e = ap (λ (k : ℕ). k ∷ s) (eqb-true b (code c) e)
 
--- a row that is given by its place in the text: "among 4 to 8 the one leftmost"
-abbrev pub Textual : Refusal → Type 0
-Textual n = one-of (4 ∷ 5 ∷ 6 ∷ 7 ∷ 8 ∷ []) (numberOf n) ≡ true
+-- what holds of each of some bytes holds of a byte that is one of them
+pub of-one : (P : ℕ → Type 0) (cs : List ℕ) (b : ℕ) → Each P cs → one-of cs b ≡ true → P b
+of-one P [] b h e = let z : _≡_ {A = ℕ} 0 1 = cc in absurd (omega arith)
+of-one P (c ∷ cs) b h e = by (or-either (eqb b c) (one-of cs b) e) (of-one P cs b (h .1))
+  where
+    by : (eqb b c ≡ true) ⊎ (one-of cs b ≡ true) → (one-of cs b ≡ true → P b) → P b
+    by (inl k) ih = rw (eqb-true b c k) (h .0)
+    by (inr k) ih = ih k
 
--- the fault stands at the front of s
+-- the fault is at the front of s
 abbrev pub Here : List ℕ → Refusal → List ℕ → Type 0
-Here s n r = Textual n × (r ≡ s)
-
-pub here : (s : List ℕ) (n : Refusal) → Textual n → Here s n s
-here s n t = (t, refl)
-
-pub misplaced : (s : List ℕ) → Here s row.MisplacedSign s
-misplaced s = here s row.MisplacedSign refl
+Here s n r = r ≡ s
 
 -- f answers from the bytes of s in front of r, whatever stands behind them
 pub record Own {W R : Type 0} (f : W → List ℕ → R) (gives : List ℕ → R) (s r : List ℕ) : Type 0 where
@@ -97,9 +97,9 @@ Inside n f g s a r = Own {W = List ℕ} (λ w t. enclosed n w f (g t)) (found a)
 
 pub enclosed-own :
     {X : Type 0} (n : Refusal) (w : List ℕ) (f : List ℕ → Option X) (g : List ℕ → Option (List ℕ × List ℕ)) (s : List ℕ) →
-    Textual n → Ends g s (g s) → Says (Inside n f g s) (Here w) (enclosed n w f (g s))
+    Ends g s (g s) → Says (Inside n f g s) (Here w) (enclosed n w f (g s))
 unfolding enclosed
-enclosed-own n w f g s t h = enclosed-says (Inside n f g s) (Here w) n w f (g s) (here w n t) (λ x a e q. by x a q (rw e at h))
+enclosed-own n w f g s h = enclosed-says (Inside n f g s) (Here w) n w f (g s) refl (λ x a e q. by x a q (rw e at h))
   where
     by : (x : List ℕ × List ℕ) (a : _) → f (x .0) ≡ some a → Ends g s (some x) → Inside n f g s a (x .1)
     by x a q o = (record { own = o .own; splits = o .splits; alone = λ w v. rw (o .alone tt v, enclosed) (rw q) }, x .0, q)

@@ -17,7 +17,7 @@ use Rattle.expression.specs.Tree.{Count, between, onward}
 use Rattle.expression.specs.Text.{Reads, found, then, first-of, next, rest, split, enclosed, provided}
 use Rattle.expression.specs.Repetition.{digits, value, number, from-on, from-to, comma, counts, sign, repetition}
 use Rattle.expression.specs.Says.{Says, of-found, branch-says, first-says, then-says, says-map}
-use Rattle.expression.specs.Own.{next-is, Here, misplaced, own-one, own-more, split-ends, enclosed-own, OwnAs}
+use Rattle.expression.specs.Own.{next-is, Here, own-one, own-more, split-ends, enclosed-own, OwnAs}
 
 -- "each is at most 255, n ≤ m, and m (or the n of `{n}`) is at least 1"
 abbrev pub InRange : Count → Type 0
@@ -78,12 +78,12 @@ braces w s = enclosed row.Count w counts (split "}" s)
 
 braces-says : (w s : List ℕ) → Says (ACount braces s) (Here w) (braces w s)
 braces-says w s =
-    says-map _ (ACount braces s) (Here w) (braces w s) (enclosed-own row.Count w counts (split "}") s refl (split-ends "}" s))
+    says-map _ (ACount braces s) (Here w) (braces w s) (enclosed-own row.Count w counts (split "}") s (split-ends "}" s))
     (λ c r h. (h .0, rw (h .2) at (counts-in-range (h .1))))
 
 sign-says : (s : List ℕ) → Says (ACount {W = Unit {0}} (λ _. sign) s) (Here s) (sign s)
 unfolding sign first-of
-sign-says [] = misplaced []
+sign-says [] = refl
 sign-says (b ∷ s) =
     let w = b ∷ s in
     let or-else = first-says (ACount {W = Unit {0}} (λ _. sign) w) (Here w) in
@@ -96,7 +96,7 @@ sign-says (b ∷ s) =
     (λ e₃. or-else (eqb b (code "{")) _ _ _
     (λ e₄. says-map (ACount braces s) _ (Here w) (braces w s) (braces-says w s)
     (λ c r h. (own-more (λ _. sign) (found c) braces b s r (λ _ t. (b ∷ t, rw (e₁, sign) (rw (e₂, e₃, e₄)))) (h .0), h .1)))
-    (λ e₄. misplaced w))))
+    (λ e₄. refl))))
 
 -- a count in range, in front of anything but a `?`
 pub record Repeating (s : List ℕ) (c : Count) (r : List ℕ) : Type 0 where

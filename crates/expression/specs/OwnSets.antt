@@ -15,7 +15,7 @@ use Rattle.expression.specs.Letters.{labelsOf}
 use Rattle.expression.specs.Text.{found, fault, then, first-of, in-front, split, enclosed}
 use Rattle.expression.specs.Sets.{closed, members, inside, bracket, special, escaped, a-set, labelled-set}
 use Rattle.expression.specs.Says.{Says, branch-says, first-says, then-says, says-map}
-use Rattle.expression.specs.Own.{Here, here, misplaced, own-one, own-more, own-map, own-same, Ends, ends-more, split-ends}
+use Rattle.expression.specs.Own.{Here, own-one, own-more, own-map, own-same, Ends, ends-more, split-ends}
 use Rattle.expression.specs.Own.{enclosed-own, OwnAs, Alone}
 
 closed-ends : (s : List ℕ) → Ends closed s (closed s)
@@ -34,7 +34,7 @@ inside-says : (f : List Range → Set) (w s : List ℕ) → Says (OwnAs (inside 
 unfolding inside then
 inside-says f w s =
     then-says _ (OwnAs (inside f) s) (Here w) (Here w) (enclosed row.Bracket w members (closed s)) _
-    (enclosed-own row.Bracket w members closed s refl (closed-ends s)) (λ n r h. h)
+    (enclosed-own row.Bracket w members closed s (closed-ends s)) (λ n r h. h)
     (λ rs r h. own-map (λ w t. enclosed row.Bracket w members (closed t)) (found rs) (λ x. then x (λ rs r. found (f rs) r)) s r (h .0))
 
 inside-none : (f : List Range → Set) (w : List ℕ) → inside f w [] ≡ fault row.Bracket w
@@ -43,7 +43,7 @@ inside-none f w = refl
 
 bracket-says : (w s : List ℕ) → Says (OwnAs bracket s) (Here w) (bracket w s)
 unfolding bracket
-bracket-says w [] = rw (inside-none only w) (here w row.Bracket refl)
+bracket-says w [] = rw (inside-none only w) refl
 bracket-says w (b ∷ s) =
     branch-says (OwnAs bracket (b ∷ s)) (Here w) (eqb b (code "^")) _ _
     (λ e. says-map (OwnAs (inside except) s) _ (Here w) (inside except w s) (inside-says except w s)
@@ -56,15 +56,15 @@ bracket-says w (b ∷ s) =
 
 escaped-says : (w s : List ℕ) → Says (OwnAs escaped s) (Here w) (escaped w s)
 unfolding escaped
-escaped-says w [] = misplaced w
+escaped-says w [] = refl
 escaped-says w (b ∷ s) =
     branch-says (OwnAs escaped (b ∷ s)) (Here w) (special b) _ _
     (λ e. own-one escaped _ b s (λ w t. rw (e, escaped)))
-    (λ e. misplaced w)
+    (λ e. refl)
 
 a-set-says : (s : List ℕ) → Says (Alone a-set s) (Here s) (a-set s)
 unfolding a-set first-of
-a-set-says [] = misplaced []
+a-set-says [] = refl
 a-set-says (b ∷ s) =
     let w = b ∷ s in
     let or-else = first-says (Alone a-set w) (Here w) in
@@ -77,7 +77,7 @@ a-set-says (b ∷ s) =
     (λ e₃. says-map (OwnAs bracket s) _ (Here w) (bracket w s) (bracket-says w s)
     (λ c r o. own-more (λ _. a-set) (found c) bracket b s r (λ _ t. (b ∷ t, rw (e₁, a-set) (rw (e₂, e₃)))) o))
     (λ e₃. or-else (special b) _ _ _
-    (λ e₄. misplaced w)
+    (λ e₄. refl)
     (λ e₄. own-one (λ _. a-set) _ b s (λ _ t. rw (e₄, a-set) (rw (e₁, e₂, e₃)))))))
 
 module _ (A : List ℕ) where
@@ -89,7 +89,7 @@ module _ (A : List ℕ) where
   unfolding labelled-set then
   labelled-set-says s =
       then-says (Alone a-set s) (ASet s) (Here s) (Here s) (a-set s) _ (a-set-says s) (λ n r h. h)
-      (λ c r o. branch-says (ASet s) (Here s) (eqb (labelsOf A c) 0) _ _ (λ e. here s row.Foreign refl) (by c r o))
+      (λ c r o. branch-says (ASet s) (Here s) (eqb (labelsOf A c) 0) _ _ (λ e. refl) (by c r o))
     where
       by : (c : Set) (r : List ℕ) → Alone a-set s c r → eqb (labelsOf A c) 0 ≡ false → ASet s c r
       by c r o e =

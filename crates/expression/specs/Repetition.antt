@@ -1,6 +1,6 @@
 -- A repetition, as a count of words (document 01, "Expression text"): "`*`, `+`, `?`, `{n}`, `{n,}`, `{n,m}`; counts have 1 to 3
 -- digits, each is at most 255, n ≤ m, and m (or the n of `{n}`) is at least 1." Assumes nothing.
--- Used by 9 files of specs/; in 12 other crates.
+-- Used by 10 files of specs/; in 12 other crates.
 use mathlib.Core.Option.{Option, some, none}
 use mathlib.Core.List.{List, [], _∷_}
 use mathlib.Core.Bool.{Bool, true, false, _&&_}

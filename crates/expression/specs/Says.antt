@@ -1,5 +1,5 @@
 -- What holds of an answer, whichever it is: one fact of what was found, another of a fault. Assumes nothing.
--- Used by 8 files of specs/; in build, parse and repetition.
+-- Used by 9 files of specs/; in build, parse and repetition.
 use mathlib.Core.Path.{_≡_, refl}
 use mathlib.Core.Option.{Option, some, none}
 use mathlib.Core.List.{List, _∷_}
@@ -19,6 +19,11 @@ module _ {X : Type 0} (P : X → List ℕ → Type 0) (Q : Refusal → List ℕ 
 
   pub of-fault : (x : Reads X) (n : Refusal) (s : List ℕ) → Says P Q x → x ≡ fault n s → Q n s
   of-fault x n s h e = rw e at h
+
+  -- what was found, with the equation that says so
+  pub says-found : (x : Reads X) → Says P Q x → Says (λ a s. P a s × (x ≡ found a s)) Q x
+  says-found (found a s) h = (h, refl)
+  says-found (fault n s) h = h
 
   pub branch-says : (b : Bool) (x y : Reads X) → (b ≡ true → Says P Q x) → (b ≡ false → Says P Q y) → Says P Q (elim b [ true ↦ x | false ↦ y ])
   branch-says true x y f g = f refl

@@ -5,14 +5,12 @@ use mathlib.Core.List.{List}
 use mathlib.Core.Bool.{true}
 use Prim.Native.Nat.{ℕ, zero, suc}
 use native.Mathlib.Omega.{arith}
-use Rattle.refusal.specs.declared.Refusal.the-variants as row
 use Rattle.expression.specs.Tree.{Tree}
 use Rattle.expression.specs.Text.{Reads, next, rest}
 use Rattle.expression.specs.Sets.{labelled-set}
 use Rattle.expression.specs.Repetition.{repeats, repetition}
 use Rattle.expression.specs.Read.{Mode, m-alternation, m-branch, m-piece, m-group, ends, grouped, step, go, measure, read}
 use Rattle.expression.specs.Says.{Says, branch-says, then-says}
-use Rattle.expression.specs.Own.{misplaced}
 use Rattle.expression.specs.OwnSets.{labelled-set-says}
 use Rattle.expression.specs.OwnCounts.{repetition-says}
 use Rattle.expression.specs.Front.{Front, Stop, looser, stop-looser, stop-here, stop-behind, either-front, either-stop, join-front, join-stop}
@@ -26,12 +24,12 @@ module _ (A : List ℕ) where
   module _ (f : Mode → ℕ → List ℕ → Reads Tree) (h : Sound f) where
     grouped-sound : (d : ℕ) (s : List ℕ) → next "(" s ≡ true → Says (Front A m-group d s) (Stop A m-group d s) (grouped (f m-alternation) d s)
     unfolding grouped
-    grouped-sound zero s k = stop-here A zero m-group s row.Depth s (refl, refl)
+    grouped-sound zero s k = stop-here A zero m-group s _ s refl
     grouped-sound (suc d) s k =
         then-says _ _ _ (Stop A m-group (suc d) s) (f m-alternation d (rest s)) _ (h m-alternation d (rest s)) (λ n r g. group-stop A d s n r k g)
         (λ t s₁ g. branch-says (Front A m-group (suc d) s) (Stop A m-group (suc d) s) (next ")" s₁) _ _
         (λ e. group-front A d s t s₁ k g e)
-        (λ e. group-stop A d s row.MisplacedSign s₁ k (stop-behind A d (rest s) t s₁ row.MisplacedSign s₁ m-alternation g (misplaced s₁))))
+        (λ e. group-stop A d s _ s₁ k (stop-behind A d (rest s) t s₁ _ s₁ m-alternation g refl)))
 
     step-sound : Sound (step A f)
     unfolding step
@@ -59,7 +57,7 @@ module _ (A : List ℕ) where
 
   pub go-sound : (k : ℕ) → Sound (go A k)
   unfolding go
-  go-sound zero m d s = stop-here A d m s row.MisplacedSign s (misplaced s)
+  go-sound zero m d s = stop-here A d m s _ s refl
   go-sound (suc k) m d s = step-sound (go A k) (go-sound k) m d s
 
   pub read-sound : Sound (read A)

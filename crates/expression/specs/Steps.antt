@@ -1,5 +1,5 @@
 -- The reading goes forward, and `read` is the one function that satisfies its equation. Assumes nothing.
--- Used by Exact; in build and parse.
+-- Used by Exact and Places; in build and parse.
 use mathlib.Core.Path.{_≡_, refl, sym, ap, _∙_}
 use mathlib.Core.List.{List, [], _∷_}
 use mathlib.Core.Bool.{true}
@@ -15,11 +15,11 @@ use Rattle.expression.specs.Own.{next-is}
 use Rattle.expression.specs.Front.{text-some, Front, Stop}
 use Rattle.expression.specs.Sound.{Sound, go-sound, read-sound}
 
-rest-length : (s : List ℕ) → length (rest s) ≤ length s
+pub rest-length : (s : List ℕ) → length (rest s) ≤ length s
 rest-length [] = omega arith
 rest-length (b ∷ s) = omega arith
 
-rest-less : (c : Char) (s : List ℕ) → next c s ≡ true → length (rest s) < length s
+pub rest-less : (c : Char) (s : List ℕ) → next c s ≡ true → length (rest s) < length s
 rest-less c s e = let q : length s ≡ length (code c ∷ rest s) = ap length (next-is c s e) in omega arith
 
 module _ (A : List ℕ) where

@@ -4,10 +4,10 @@
 use Prim.Native.Nat.{ℕ, _≤_}
 use mathlib.Core.Path.{_≡_, refl, ap, _∙_}
 use mathlib.Core.Bool.{Bool, true, false, not}
-use mathlib.Core.Logic.{_↔_}
+use mathlib.Core.Logic.{_↔_, Iff·trans}
 use mathlib.Core.List.{List, [], _∷_}
 use native.Mathlib.Omega.{arith}
-use lib.ListN.{length}
+use lib.ListN.{length, getD}
 use lib.Dec.{leb}
 use borrow.Author.Tests.{le-leb}
 use Rattle.lists.specs.Ranges.{in-range}
@@ -18,9 +18,10 @@ use Rattle.refusal.specs.Verdict.{Verdict, passed, refused, check, unless, unle
 use Rattle.labels.specs.Calls.{label-fault}
 use Rattle.labels.specs.Faults.{fault-labels}
 use Rattle.automaton.specs.Automaton.{Accepts}
-use Rattle.automaton.specs.Form.{validForm, alphabetOf, view}
+use Rattle.automaton.specs.Form.{bit8, validForm, alphabetOf, view}
 use Rattle.automaton.specs.Accepted.{accepts, accepts-decides}
 use Rattle.automaton.specs.Valid.{valid-at, view-proper}
+use Rattle.automaton.specs.FormAccepts.{WalkSpells, empty-accepted, nonempty-accepted}
 
 -- whether the form accepts the word, unless the form is invalid or the list is no word over its alphabet
 unfoldable pub judged : List ℕ → List ℕ → Verdict Bool
@@ -71,3 +72,14 @@ module _ (form word : List ℕ) where
         never : (b : Bool) → (b ≡ true → ⊥) → b ≡ false
         never true h = absurd (h refl)
         never false h = refl
+
+-- Of a valid form, by its words: the empty word is accepted exactly if bit 8 of the head says so, a nonempty one exactly if some walk from
+-- a first letter along arcs to a last letter spells it.
+module _ (form : List ℕ) (valid : validForm form ≡ true) where
+  pub judged-empty : (judged form [] ≡ passed true) ↔ (bit8 (getD form 0 0) ≡ true)
+  judged-empty = Iff·trans (judged-exact form [] valid (omega arith) tt) (empty-accepted form)
+
+  pub judged-nonempty :
+      (x : ℕ) (w : List ℕ) → length (x ∷ w) ≤ 255 → Each (λ y. (1 ≤ y) × (y ≤ alphabetOf form)) (x ∷ w)
+      → (judged form (x ∷ w) ≡ passed true) ↔ WalkSpells form (x ∷ w)
+  judged-nonempty x w short labels = Iff·trans (judged-exact form (x ∷ w) valid short labels) (nonempty-accepted form valid x w)
