@@ -64,7 +64,7 @@ pub fn matrix_of(costs: &[u32], width: usize, count: usize) -> Matrix
     }
 }
 
-// Document 01's Decode.
+// Document 01's Decode. What `Decodes` comes to for a caller is in specs/Demands.antt, as theorems.
 pub fn decode_matrix(
     form: &[u32],
     matrix: Matrix,

@@ -1,5 +1,5 @@
 -- What Decode and Read answer past their checks (demand 3), for any set of words, and what a refusal by the checks leaves. Assumes nothing.
--- Used by the contracts, the proofs and Phases; in decode, kavurehy, read_print, read_text, read_word and reader.
+-- Used by the contracts, the proofs, Demand and Phases; in decode, kavurehy, read_print, read_text, read_word and reader.
 use Prim.Native.Nat.{ℕ}
 use mathlib.Core.Path.{_≡_, refl}
 use mathlib.Core.Option.{Option, some, none}

@@ -17,7 +17,7 @@ ghost use Rattle.read_text.specs.Promise.{Reads};
 // - the word is the path's collapse, as characters: the field `word`;
 // - the price is the path's own: the field `answered`;
 // - past the checks with memory enough, no refusal but 16 applies: `compile-call` passes, and so do `matrix-checks`.
-// The same stands as theorems in specs/Demands.antt. Nothing of it speaks of states.
+// The same is in specs/Demands.antt as theorems, with rivals as document 01 has them. Nothing of it speaks of states.
 pub fn read_matrix(
     alphabet: &[u8],
     text: &[u8],
