@@ -1,5 +1,5 @@
 -- What Decode's answer reports. Assumes nothing.
--- Used by Reading; in decode, decode_phases, handed_paths, kavurehy, read_print, read_word and reader.
+-- Used by Examples and Reading; in 7 other crates.
 use Prim.Native.Nat.{ℕ}
 use Rattle.refusal.specs.Report.{Report, turned-away}
 use Rattle.answers.specs.declared.Decoded.{Decoded}

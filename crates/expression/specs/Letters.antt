@@ -1,5 +1,5 @@
 -- How many letters an expression opens into (document 01, "Opening and the compiled form"; over 127 is refusal 9). Assumes nothing.
--- Used by 7 files of specs/; in 9 other crates.
+-- Used by 8 files of specs/; in 9 other crates.
 use mathlib.Core.List.{List, [], _∷_}
 use mathlib.Core.Bool.{cond}
 use Prim.Native.Nat.{ℕ, zero, suc, _+_, _*_}

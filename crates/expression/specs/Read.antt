@@ -1,6 +1,6 @@
 -- From text to tree, or to the refusal of the leftmost fault (document 01, "Expression text" and rows 4 to 8 of "What is turned away").
 -- Assumes nothing.
--- Used by 8 files of specs/; in build, compile, counting, layout, parse and reader.
+-- Used by 9 files of specs/; in build, compile, counting, layout, parse and reader.
 use mathlib.Core.List.{List, [], _∷_}
 use mathlib.Core.Bool.{Bool, true, false}
 use Prim.Native.Nat.{ℕ, zero, suc, _+_, _*_}

@@ -1,5 +1,5 @@
 -- An ordinary character, `.` or a bracket, as a set of bytes (document 01, "Expression text"). Assumes nothing.
--- Used by 10 files of specs/; in 9 other crates.
+-- Used by 11 files of specs/; in 9 other crates.
 use mathlib.Core.Option.{Option, some, none}
 use mathlib.Core.List.{List, [], _∷_}
 use mathlib.Core.Bool.{Bool, true, false, not, _&&_, _||_}

@@ -1,5 +1,5 @@
 -- Reading from the front of a text: the answer's type, and looking at the first byte or for the next sign. Assumes nothing.
--- Used by 16 files of specs/; in 15 other crates.
+-- Used by 17 files of specs/; in 15 other crates.
 use mathlib.Core.Option.{Option, some, none}
 use mathlib.Core.List.{List, [], _∷_}
 use mathlib.Core.Bool.{Bool, true, false, _||_}

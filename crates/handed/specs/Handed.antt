@@ -1,5 +1,5 @@
 -- An answer handed back as a number and a list of counts. Assumes nothing.
--- Used by the contracts and the proofs; in handed_paths and kavurehy.
+-- Used by the contracts, the proofs and Examples; in handed_paths and kavurehy.
 use Prim.Native.Nat.{ℕ}
 use mathlib.Core.Path.{_≡_}
 use mathlib.Core.Bool.{cond}

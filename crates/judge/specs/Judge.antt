@@ -1,6 +1,6 @@
 -- What the call Judge makes of a form and a word: accepted or not, or the refusal that applies (document 01, "What is turned away",
 -- rows 11 and 17). Assumes nothing.
--- Used by the contracts and the proofs; in kavurehy.
+-- Used by the contracts, the proofs and Examples; in kavurehy.
 use Prim.Native.Nat.{ℕ, _≤_}
 use mathlib.Core.Path.{_≡_, refl, ap, _∙_}
 use mathlib.Core.Bool.{Bool, true, false, not}

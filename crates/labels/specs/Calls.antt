@@ -1,5 +1,5 @@
 -- Which lists of labels the calls turn away (document 01, "What is turned away", row 17). Assumes nothing.
--- Used by the contracts and Faults; in collapse, judge, kavurehy and spread.
+-- Used by the contracts, Examples and Faults; in collapse, judge, kavurehy and spread.
 use Prim.Native.Nat.{ℕ}
 use mathlib.Core.Bool.{Bool, not, _||_}
 use mathlib.Core.List.{List}

@@ -1,5 +1,5 @@
 -- A number from one to another. Assumes nothing.
--- Used in 8 other crates.
+-- Used by Examples; in 8 other crates.
 use Prim.Native.Nat.{ℕ, _<_, _≤_}
 use mathlib.Core.Path.{_≡_}
 use mathlib.Core.Bool.{Bool, true, false, _&&_, and-false}

@@ -1,6 +1,6 @@
 -- The matrix of costs as one thing, and the price of a path through it (document 01, "Extended states and decoding").
 -- Assumes nothing.
--- Used by 4 files of specs/; in 14 other crates.
+-- Used by 5 files of specs/; in 14 other crates.
 use Prim.Native.Nat.{ℕ, suc, _+_, _*_, _≤_, _<_}
 use mathlib.Core.Path.{_≡_, ap, _∙_}
 use mathlib.Core.List.{List, [], _∷_, _++_}

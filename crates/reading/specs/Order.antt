@@ -1,5 +1,5 @@
 -- The order of paths: by labels, from the first column. Assumes nothing.
--- Used by Choice and Reading; in decode_phases and trellis.
+-- Used by Choice, Examples and Reading; in decode_phases and trellis.
 use Prim.Native.Nat.{ℕ, _<_, _≤_}
 use mathlib.Core.Path.{_≡_, refl, sym, ap₂}
 use mathlib.Core.List.{List, [], _∷_}

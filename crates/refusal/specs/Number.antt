@@ -1,5 +1,5 @@
 -- The number of each row of document 01's table "What is turned away". Assumes nothing.
--- Used by the contracts, the proofs and Report; in 9 other crates.
+-- Used by the contracts, the proofs, Examples and Report; in 9 other crates.
 use Prim.Native.Nat.{ℕ, _≤_, _<_}
 use native.Mathlib.Omega.{arith}
 use Rattle.refusal.specs.declared.Refusal.{Refusal}

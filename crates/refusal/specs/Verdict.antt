@@ -1,6 +1,6 @@
 -- What a call makes of its input: it is turned away by the first test that holds, or passes. The order of the tests is the list's
 -- and never that of the numbers. Assumes nothing.
--- Used by Report; in 16 other crates.
+-- Used by Examples and Report; in 16 other crates.
 use mathlib.Core.Path.{_≡_, refl, ap, _∙_}
 use Prim.Native.Nat.{ℕ}
 use native.Mathlib.Omega.{arith}

@@ -1,6 +1,6 @@
 -- What the call Spread makes of its input: a list of labels, or the refusal that applies (document 01, "What is turned away", rows 14
 -- and 17). Assumes nothing.
--- Used by the contracts, the proofs and Turns; in kavurehy.
+-- Used by the contracts, the proofs, Examples and Turns; in kavurehy.
 use Prim.Native.Nat.{ℕ}
 use mathlib.Core.Path.{_≡_, refl}
 use mathlib.Core.Bool.{Bool, true, false}
