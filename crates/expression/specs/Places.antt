@@ -1,6 +1,6 @@
--- Where a fault of rows 4 to 8 is: what the text from it on begins with. Assumes nothing.
+-- Where a fault of rows 4 to 8 is: what the text from it on begins with, and that it is bad. Assumes nothing.
 -- Used by Leftmost.
-use mathlib.Core.Path.{_≡_, refl}
+use mathlib.Core.Path.{_≡_, refl, ap₂}
 use mathlib.Core.List.{List, [], _∷_}
 use mathlib.Core.Bool.{Bool, true, false, _||_}
 use Prim.Native.Nat.{ℕ, zero, suc, _<_}
@@ -27,12 +27,13 @@ abbrev pub misplaced : List ℕ → Bool
 misplaced [] = true
 misplaced (b ∷ r) = one-of (bytes "*+?{|)^$\\") b
 
--- What the text r from the fault on begins with, by the fault's row. The other rows have no place in the text.
+-- What the text r from the fault on begins with, by the fault's row: a sign or the text's end, an opening parenthesis, bad braces, a bad
+-- bracket, a set without a label. The other rows have no place in the text.
 pub data Place (A : List ℕ) : Refusal → List ℕ → Type 0 where
   at-sign : {r : List ℕ} → misplaced r ≡ true → Place A row.MisplacedSign r
   at-group : {r : List ℕ} → next "(" r ≡ true → Place A row.Depth r
-  at-braces : {r : List ℕ} → next "{" r ≡ true → Place A row.Count r
-  at-bracket : {r : List ℕ} → next "[" r ≡ true → Place A row.Bracket r
+  at-braces : {r : List ℕ} → next "{" r ≡ true → sign r ≡ fault row.Count r → Place A row.Count r
+  at-bracket : {r : List ℕ} → next "[" r ≡ true → a-set r ≡ fault row.Bracket r → Place A row.Bracket r
   at-set : {r : List ℕ} (c : Set) (v : List ℕ) → a-set r ≡ found c v → labelsOf A c ≡ 0 → Place A row.Foreign r
 
 end-misplaced : (s : List ℕ) → ends s ≡ true → misplaced s ≡ true
@@ -60,16 +61,23 @@ module _ (A : List ℕ) where
       Placed P x → ((a : X) (r : List ℕ) → P a r → Placed P′ (f a r)) → Placed P′ (then x f)
   then-placed P P′ x f h g = then-says P P′ (Place A) (Place A) x f h (λ n r p. p) g
 
-  inside-placed : (f : List Range → Set) (w s : List ℕ) → next "[" w ≡ true → Placed Any (inside f w s)
-  unfolding inside
-  inside-placed f w s k =
-      then-placed Any Any (enclosed row.Bracket w members (closed s)) _
-      (enclosed-says Any (Place A) row.Bracket w members (closed s) (at-bracket k) (λ x rs e q. tt)) (λ rs r h. tt)
+  -- the row n, at the text w
+  abbrev At : Refusal → List ℕ → Refusal → List ℕ → Type 0
+  At n w m r = (m ≡ n) × (r ≡ w)
 
-  bracket-placed : (w s : List ℕ) → next "[" w ≡ true → Placed Any (bracket w s)
+  at-placed : {X : Type 0} (n : Refusal) (w : List ℕ) (x : Reads X) → Says Any (At n w) x → (x ≡ fault n w → Place A n w) → Placed Any x
+  at-placed n w (found a r) h g = tt
+  at-placed n w (fault m r) h g = rw (h .0, h .1) (g (ap₂ fault (h .0) (h .1)))
+
+  inside-at : (f : List Range → Set) (w s : List ℕ) → Says Any (At row.Bracket w) (inside f w s)
+  unfolding inside
+  inside-at f w s =
+      then-says Any Any (At row.Bracket w) (At row.Bracket w) (enclosed row.Bracket w members (closed s)) _
+      (enclosed-says Any (At row.Bracket w) row.Bracket w members (closed s) (refl, refl) (λ x rs e q. tt)) (λ n r p. p) (λ rs r h. tt)
+
+  bracket-at : (w s : List ℕ) → Says Any (At row.Bracket w) (bracket w s)
   unfolding bracket
-  bracket-placed w s k =
-      branch-says Any (Place A) (next "^" s) _ _ (λ e. inside-placed except w (rest s) k) (λ e. inside-placed only w s k)
+  bracket-at w s = branch-says Any (At row.Bracket w) (next "^" s) _ _ (λ e. inside-at except w (rest s)) (λ e. inside-at only w s)
 
   escaped-placed : (w s : List ℕ) → misplaced w ≡ true → Placed Any (escaped w s)
   unfolding escaped
@@ -83,7 +91,8 @@ module _ (A : List ℕ) where
       let or-else = first-says {X = Set} Any (Place A) in
       or-else (eqb b (code "\\")) _ _ _ (λ e₁. escaped-placed (b ∷ s) s (rw (eqb-true b (code "\\") e₁)))
       (λ e₁. or-else (eqb b (code ".")) _ _ _ (λ e₂. tt)
-      (λ e₂. or-else (eqb b (code "[")) _ _ _ (λ e₃. bracket-placed (b ∷ s) s e₃)
+      (λ e₂. or-else (eqb b (code "[")) _ _ _ 
+      (λ e₃. at-placed row.Bracket (b ∷ s) (bracket (b ∷ s) s) (bracket-at (b ∷ s) s) (λ q. at-bracket e₃ (rw (e₁, a-set) (rw (e₂, e₃) q))))
       (λ e₃. or-else (special b) _ _ _ (λ e₄. at-sign (special-misplaced b s e₄ (rw (k, e₂, e₃)))) (λ e₄. tt))))
 
   labelled-set-placed : (s : List ℕ) → next "(" s ≡ false → Placed Any (labelled-set A s)
@@ -101,7 +110,9 @@ module _ (A : List ℕ) where
       (λ e₁. or-else (eqb b (code "+")) _ _ _ (λ e. tt)
       (λ e₂. or-else (eqb b (code "?")) _ _ _ (λ e. tt)
       (λ e₃. or-else (eqb b (code "{")) _ _ _
-      (λ e. enclosed-says Any (Place A) row.Count (b ∷ s) counts (split "}" s) (at-braces e) (λ x c q h. tt))
+      (λ e. at-placed row.Count (b ∷ s) (enclosed row.Count (b ∷ s) counts (split "}" s))
+      (enclosed-says Any (At row.Count (b ∷ s)) row.Count (b ∷ s) counts (split "}" s) (refl, refl) (λ x c q h. tt))
+      (λ q. at-braces e (rw (e₁, sign) (rw (e₂, e₃, e) q))))
       (λ e₄. at-sign (of-one (λ c. misplaced (c ∷ s) ≡ true) (bytes "*+?{") b (refl, (refl, (refl, (refl, tt)))) k)))))
 
   repetition-placed : (s : List ℕ) → repeats s ≡ true → Placed Any (repetition s)
