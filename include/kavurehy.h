@@ -1,16 +1,32 @@
-/* The calls of libkavurehy.a, for C. Each is proved in Rattle to do what is said here, for every input: crates/kavurehy/src/lib.rt has
-   the promises, and document 01 the words that are used below.
+/* The calls of libkavurehy.a, for C and C++ on x86-64 Linux. Each is proved in Rattle to do what is said here, for every input:
+   crates/kavurehy/src/lib.rt has the promises, and document 01 the words that are used below.
 
-   A list is passed as a pointer to its first element and its number of elements. The pointer is never null, also where the number is 0,
-   and points to so many readable elements; lent memory (pointers that are not const, and the counts) is writable and overlaps no other
-   list of the call. A call keeps no pointer. Stack is not counted by the proofs: compile and read were seen to use up to 266 kB, the
-   other calls less than 4 kB.
+   A list is passed as a pointer to its first element and its number of elements. Lent memory is what a call may write: lists whose pointers
+   are not const, and the counts. It may be uninitialised: what is returned and counted, and what is written to it but for the work words,
+   does not depend on what it held.
+
+   The caller has these duties:
+   - No pointer is null. A null pointer is not allowed where the number is 0 either: the proofs know no null pointer. For a list without
+     elements any other pointer will do.
+   - Each pointer points to at least as many elements as its number says, all of them readable, and writable too where they are lent.
+     Const lists are initialised.
+   - Each pointer to uint32_t is aligned to 4 bytes.
+   - Lent memory overlaps no other list of the call, lent or const.
+   - While a call runs, nothing else writes its lists, and nothing else reads its lent memory.
+   - The stack is long enough. The proofs do not count it: compile and read were seen to use up to 266 kB, the other calls less than 4 kB.
+
+   A call keeps no pointer and no state. Calls from several threads at once are safe while they share no lent memory: the lent memory of one
+   overlaps no list of another. Const lists may be shared.
+
+   Labels 1 to K are the characters of the alphabet in their order, and 0 is the blank. A form is a list of 32-bit words; its first word has
+   L, the number of letters, in bits 0 to 7, and K in bits 16 to 23. Decode and read need (columns + 1) * (2 * L + 1) work words. No call
+   needs more than 65,280, that is 256 * 255, for 255 columns and 127 letters.
 
    Each call returns 0, or the number of the refusal that applies:
       1 alphabet       not 1 to 95 distinct bytes, each 32 to 126
       2 text length    0 or over 255
       3 text byte      one outside 32 to 126
-      4 misplaced sign a repetition with nothing to repeat, or behind another but for one ?; an empty branch or group; a stray or missing );
+      4 misplaced sign a repetition with nothing to repeat, or after another but for one ?; an empty branch or group; a stray or missing );
                        ^ or $ outside brackets without \ in front; \ in front of none of the signs that it makes ordinary
       5 depth          a 17th open group
       6 count          braces ill-formed or out of range
@@ -26,9 +42,9 @@
      15 work           fewer than (columns + 1) * (2 * L + 1) words
      16 no reading     no path of so many labels collapses to a word that the form accepts (read: to a word of the expression)
      17 label          K not 1 to 95, a label over K, 0 in a word, or a list over 255
-   Where several apply it is the lowest, but of 4 to 8 the one leftmost in the text. At a refusal each count is 0 and all lent memory is
-   as it was, but for the needed work words after 16, and but for the form memory of read: 12 to 16 leave it as compile does. On success
-   the memory behind what is counted is as it was too. */
+   Where several apply it is the lowest, but of 4 to 8 the one leftmost in the text. At a refusal each count is 0 and all other lent memory
+   is as it was, but for the needed work words after 16, and but for the form memory of read: 12 to 16 leave it as compile does. On success
+   the memory after what is counted is as it was too. */
 #ifndef KAVUREHY_H
 #define KAVUREHY_H
 
@@ -69,7 +85,7 @@ uint32_t kavurehy_decode(const uint32_t *form, size_t form_length, const uint32_
    the word as characters of the alphabet, and with the words of the expression for those that the form accepts. counts[0] is the price,
    counts[1] the word's length, counts[2] the form's. The needed work words, (columns + 1) * (2 * L + 1) for an expression of L letters,
    hold anything afterwards; the others are as they were. Refusals: 1 to 10, 12 to 16. After 12 to 16 the form memory holds the form,
-   though counts[2] is 0. */
+   though counts[2] is 0: after 15 its first word says how many work words are needed. */
 uint32_t kavurehy_read(const uint8_t *alphabet, size_t alphabet_length, const uint8_t *text, size_t text_length, const uint32_t *costs,
                        size_t costs_length, size_t width, size_t columns, uint32_t *form, size_t form_memory, uint8_t *path,
                        size_t path_memory, uint8_t *word, size_t word_memory, uint32_t *work, size_t work_memory, uint32_t counts[3]);

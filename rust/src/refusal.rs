@@ -1,29 +1,31 @@
 //! The rows of the table of refusals.
 use std::{error::Error, fmt};
 
-/// Why an input is turned away: the rows of document 01's table, by their numbers.
+/// Why an input is turned away: the rows of document 01's table, in its order. Rows may be added.
 #[derive(Clone, Copy, Debug, PartialEq, Eq)]
-#[repr(u32)]
+#[non_exhaustive]
 pub enum Refusal {
-    Alphabet = 1,
-    TextLength = 2,
-    TextByte = 3,
-    MisplacedSign = 4,
-    Depth = 5,
-    Count = 6,
-    Bracket = 7,
-    Foreign = 8,
-    Letters = 9,
-    FormMemory = 10,
-    BadForm = 11,
-    Matrix = 12,
-    Cost = 13,
-    OutputMemory = 14,
-    Work = 15,
-    NoReading = 16,
-    Label = 17,
+    Alphabet,
+    TextLength,
+    TextByte,
+    MisplacedSign,
+    Depth,
+    Count,
+    Bracket,
+    Foreign,
+    Letters,
+    FormMemory,
+    BadForm,
+    Matrix,
+    Cost,
+    OutputMemory,
+    Work,
+    NoReading,
+    Label,
     /// Given by the sheet program alone.
-    Sheet = 18,
+    Sheet,
+    /// A row of a newer library, by its number: none of [`Refusal::ROWS`] has it.
+    Other(u32),
 }
 
 impl Refusal {
@@ -51,20 +53,50 @@ impl Refusal {
 
     /// The row's number in the table.
     pub const fn number(self) -> u32 {
-        self as u32
+        match self {
+            Refusal::Alphabet => 1,
+            Refusal::TextLength => 2,
+            Refusal::TextByte => 3,
+            Refusal::MisplacedSign => 4,
+            Refusal::Depth => 5,
+            Refusal::Count => 6,
+            Refusal::Bracket => 7,
+            Refusal::Foreign => 8,
+            Refusal::Letters => 9,
+            Refusal::FormMemory => 10,
+            Refusal::BadForm => 11,
+            Refusal::Matrix => 12,
+            Refusal::Cost => 13,
+            Refusal::OutputMemory => 14,
+            Refusal::Work => 15,
+            Refusal::NoReading => 16,
+            Refusal::Label => 17,
+            Refusal::Sheet => 18,
+            Refusal::Other(number) => number,
+        }
     }
 
-    /// The row of this number.
+    /// The row of this number, [`Refusal::Other`] where the table here has none; no row for 0, with which a call says that it
+    /// succeeds.
+    ///
+    /// ```
+    /// use kavurehy::Refusal;
+    ///
+    /// assert_eq!(Refusal::from_number(0), None);
+    /// assert_eq!(Refusal::from_number(16), Some(Refusal::NoReading));
+    /// assert_eq!(Refusal::from_number(19), Some(Refusal::Other(19)));
+    /// ```
     pub fn from_number(number: u32) -> Option<Refusal> {
-        Refusal::ROWS.into_iter().find(|row| row.number() == number)
+        let row = Refusal::ROWS.into_iter().find(|row| row.number() == number);
+        match number {
+            0 => None,
+            _ => Some(row.unwrap_or(Refusal::Other(number))),
+        }
     }
 
     /// What a call's number says: nothing for 0, else a row.
     pub(crate) fn check(number: u32) -> Result<(), Refusal> {
-        match number {
-            0 => Ok(()),
-            _ => Err(Refusal::from_number(number).expect("a call answers 0 or a row's number")),
-        }
+        Refusal::from_number(number).map_or(Ok(()), Err)
     }
 }
 
@@ -89,9 +121,40 @@ impl fmt::Display for Refusal {
             Refusal::NoReading => "no reading",
             Refusal::Label => "label",
             Refusal::Sheet => "sheet",
+            Refusal::Other(_) => "a row of a newer library",
         };
         write!(f, "refused {}: {name}", self.number())
     }
 }
 
 impl Error for Refusal {}
+
+#[cfg(test)]
+mod tests {
+    use super::Refusal;
+
+    #[test]
+    fn numbers() {
+        assert_eq!(Refusal::from_number(0), None);
+        assert_eq!(Refusal::check(0), Ok(()));
+        for (row, number) in Refusal::ROWS.into_iter().zip(1..=18) {
+            assert_eq!(row.number(), number);
+            assert_eq!(Refusal::from_number(number), Some(row));
+            assert_eq!(Refusal::check(number), Err(row));
+        }
+        for number in [19, u32::MAX] {
+            let other = Refusal::Other(number);
+            assert_eq!(other.number(), number);
+            assert_eq!(Refusal::from_number(number), Some(other));
+            assert_eq!(Refusal::check(number), Err(other));
+        }
+    }
+
+    #[test]
+    fn printed() {
+        assert_eq!(Refusal::Alphabet.to_string(), "refused 1: alphabet");
+        assert_eq!(Refusal::Sheet.to_string(), "refused 18: sheet");
+        let other = Refusal::Other(19).to_string();
+        assert_eq!(other, "refused 19: a row of a newer library");
+    }
+}

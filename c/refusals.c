@@ -1,0 +1,220 @@
+/* Every refusal of every call, by itself and with later ones. */
+#include "tests.h"
+
+#include <string.h>
+
+#include "rooms.h"
+
+/* Compile and read refuse this text, whatever the form memory is; read, whatever the matrix and its memory are. */
+static void refuse_text(struct bytes alphabet, struct bytes text, uint32_t number)
+{
+    static const uint32_t FREE[97], DEAR[1] = {1000001};
+    size_t width = alphabet.length + 1;
+    struct line good = {{FREE, width}, width, 1, 1, 1, 510}, bad = {{DEAR, 1}, width + 1, 300, 0, 0, 0};
+    for (size_t memory = 0; memory <= 300; memory += 300) {
+        hold_compile(alphabet, text, memory, number, NO_WORDS);
+        hold_read(alphabet, text, good, memory, NO_WORDS, refused(number));
+        hold_read(alphabet, text, bad, memory, NO_WORDS, refused(number));
+    }
+}
+
+static void alphabets_and_lengths(void)
+{
+    uint8_t many[96], longest[256];
+    for (size_t n = 0; n < 96; n++)
+        many[n] = (uint8_t)(32 + n);
+    memset(longest, 'a', sizeof longest);
+    longest[0] = '[';
+    struct bytes alphabets[] = {TEXT(""), TEXT("aa"), TEXT("bab"), TEXT("a\n"), TEXT("\x1f"), TEXT("\x7f"), TEXT("a\x80"), {many, 96}};
+    for (size_t n = 0; n < sizeof alphabets / sizeof *alphabets; n++) {
+        refuse_text(alphabets[n], TEXT("a"), 1);
+        refuse_text(alphabets[n], TEXT(""), 1);
+        refuse_text(alphabets[n], TEXT("*\n"), 1);
+    }
+    longest[255] = ']';
+    refuse_text(TEXT("a"), (struct bytes){longest, 256}, 2);
+    refuse_text(TEXT("a"), TEXT(""), 2);
+    longest[254] = ']';
+    compiles(TEXT("a"), (struct bytes){longest, 255}, WORDS(0x10010001, 0x20000301));
+    refuse_text(TEXT("a"), BYTES('a', 0), 3);
+    refuse_text(TEXT("a"), BYTES('*', 31), 3);
+    refuse_text(TEXT("a"), BYTES(127), 3);
+    refuse_text(TEXT("a"), BYTES('a', 128, '{'), 3);
+}
+
+/* Texts over the alphabet ab; where several faults are in one, the leftmost counts, and 4 to 8 come before 9. */
+static void texts(void)
+{
+    static const struct {
+        uint32_t number;
+        const char *texts[12];
+    } REFUSED[] = {
+        {4, {"*", "a**", "a*??", "()", "a|", "|a", ")", "(a", "^", "a$", "\\a", "\\"}},
+        {5, {"(((((((((((((((((a)))))))))))))))))", "a(((((((((((((((((c"}},
+        {6, {"a{", "a{1", "a{0}", "a{2,1}", "a{256}", "a{1,256}", "a{0001}", "a{,2}", "a{b}", "a{0}c"}},
+        {7, {"[", "[a", "[]", "[b-a]", "[a--]", "[[.a.]]", "[[=a=]]", "[a[:]", "[b-a]c"}},
+        {8, {"c", "[c]", "[^ab]", "\\(", "]", "c**", "(c", "a{255}c"}},
+        {9, {"a{128}", "a{255}", "(a{16}){8}", ".{64}", "((a{255}){255}){255}"}},
+        {4, {"a**c", "*(((((((((((((((((", "(|c)", "a|)c", "*[", "+{0}"}},
+    };
+    for (size_t n = 0; n < sizeof REFUSED / sizeof *REFUSED; n++)
+        for (size_t m = 0; m < 12 && REFUSED[n].texts[m] != NULL; m++)
+            refuse_text(TEXT("ab"), TEXT(REFUSED[n].texts[m]), REFUSED[n].number);
+}
+
+/* Judge and decode refuse this form, whatever the word or the matrix and its memory are. */
+static void refuse_form(struct words form)
+{
+    static const uint32_t FREE[3], DEAR[1] = {1000001};
+    struct line good = {{FREE, 3}, 3, 1, 1, 1, 510}, bad = {{DEAR, 1}, 4, 300, 0, 0, 0};
+    hold_judge(form, BYTES(1), 11, 0);
+    hold_judge(form, BYTES(0, 255), 11, 0);
+    hold_decode(form, good, refused(11));
+    hold_decode(form, bad, refused(11));
+}
+
+/* Lists that are no form: the length, then the words. */
+static const uint32_t BAD_FORMS[][6] = {
+    {2, 0x20020001, 0x20000301}, /* the head's kind, letters, characters, unnamed bits */
+    {1, 0x10020000},
+    {2, 0x10000001, 0x20000301},
+    {2, 0x10600001, 0x20000301},
+    {2, 0x10020201, 0x20000301},
+    {2, 0x11020001, 0x20000301},
+    {2, 0x10020002, 0x20000301}, /* a letter too few, and one too many */
+    {3, 0x10020001, 0x20000301, 0x20000301},
+    {2, 0x10020001, 0x30000301}, /* a letter's kind, label, unnamed bits */
+    {2, 0x10020001, 0x20000300},
+    {2, 0x10020001, 0x20000303},
+    {2, 0x10020001, 0x20000701},
+    {3, 0x10020001, 0x20000301, 0x00000101}, /* an arc's kind, source, target, unnamed bits */
+    {3, 0x10020001, 0x20000301, 0x30000001},
+    {3, 0x10020001, 0x20000301, 0x30000201},
+    {3, 0x10020001, 0x20000301, 0x30000100},
+    {3, 0x10020001, 0x20000301, 0x30000102},
+    {3, 0x10020001, 0x20000301, 0x30010101},
+    {4, 0x10020001, 0x20000301, 0x30000101, 0x30000101}, /* an arc twice, and arcs out of order */
+    {5, 0x10020002, 0x20000301, 0x20000202, 0x30000202, 0x30000102},
+    {5, 0x10020002, 0x20000301, 0x20000202, 0x30000202, 0x30000201},
+};
+
+static void forms(void)
+{
+    uint32_t letters[129] = {0x10020080};
+    for (size_t n = 1; n < 129; n++)
+        letters[n] = 0x20000301;
+    refuse_form((struct words){letters, 129});
+    letters[0]--;
+    hold_judge((struct words){letters, 128}, BYTES(1), 0, 1);
+    refuse_form(NO_WORDS);
+    for (size_t n = 0; n < sizeof BAD_FORMS / sizeof *BAD_FORMS; n++)
+        refuse_form((struct words){BAD_FORMS[n] + 1, BAD_FORMS[n][0]});
+}
+
+/* Decode and read of ab* with one line, and what both should say. */
+static void refuse_line(struct line line, uint32_t number)
+{
+    struct words form = WORDS(0x10020002, 0x20000301, 0x20000202, 0x30000102, 0x30000202);
+    hold_decode(form, line, refused(number));
+    hold_read(TEXT("ab"), TEXT("ab*"), line, 5, form, refused(number));
+    hold_read(TEXT("ab"), TEXT("ab*"), line, 4, NO_WORDS, refused(10));
+}
+
+/* Matrices that are none for K = 2: the list's length, the width, the number of columns. */
+static const size_t SHAPES[][3] = {
+    {6, 2, 2}, /* the width, also without columns, and where the product is right */
+    {6, 4, 2},
+    {6, 2, 3},
+    {0, 2, 0},
+    {0, 0, 0},
+    {5, 3, 2}, /* the list */
+    {7, 3, 2},
+    {6, 3, 1},
+    {6, 3, 3},
+    {0, 3, 1},
+    {3, 3, 0},
+    {768, 3, 256}, /* the columns */
+    {0, SIZE_MAX, 0}, /* numbers whose product does not fit, or fits only modulo 2^64 */
+    {6, SIZE_MAX, 2},
+    {0, 3, SIZE_MAX},
+    {2, 3, SIZE_MAX / 3 + 1},
+    {1, SIZE_MAX, SIZE_MAX},
+};
+
+/* 12 by itself, and with all later ones. */
+static void matrices(void)
+{
+    static uint32_t costs[768];
+    for (size_t n = 0; n < sizeof SHAPES / sizeof *SHAPES; n++) {
+        struct line line = {{costs, SHAPES[n][0]}, SHAPES[n][1], SHAPES[n][2], 256, 256, 1285};
+        costs[0] = 0;
+        refuse_line(line, 12);
+        costs[0] = 1000001;
+        line.path = line.word = line.work = 0;
+        refuse_line(line, 12);
+    }
+}
+
+/* 13 to 16, each with all later ones: T = 1 and L = 2 need 10 work words; T = 0 has no reading. */
+static void memories(void)
+{
+    uint32_t costs[3] = {0, 0, 0};
+    for (size_t n = 0; n < 3; n++) {
+        costs[n] = n == 1 ? UINT32_MAX : 1000001;
+        refuse_line((struct line){{costs, 3}, 3, 1, 1, 1, 10}, 13);
+        refuse_line((struct line){{costs, 3}, 3, 1, 0, 0, 0}, 13);
+        costs[n] = 0;
+    }
+    refuse_line((struct line){{costs, 3}, 3, 1, 0, 1, 10}, 14);
+    refuse_line((struct line){{costs, 3}, 3, 1, 1, 0, 10}, 14);
+    refuse_line((struct line){{costs, 3}, 3, 1, 0, 0, 0}, 14);
+    refuse_line((struct line){{costs, 3}, 3, 1, 1, 1, 9}, 15);
+    refuse_line((struct line){{costs, 0}, 3, 0, 0, 0, 4}, 15);
+
+    struct words ab = WORDS(0x10020002, 0x20000101, 0x20000202, 0x30000102), no_first = WORDS(0x10020001, 0x20000201);
+    struct line one = line_of(ab, costs, 1), none = line_of(no_first, costs, 1);
+    decodes(ab, one, no_reading(one));
+    reads(TEXT("ab"), TEXT("ab"), ab, one, no_reading(one));
+    decodes(no_first, none, no_reading(none));
+}
+
+/* 17 by itself, and after 14. */
+static void label_lists(void)
+{
+    static uint8_t ones[256];
+    struct words form = WORDS(0x10020001, 0x20000301, 0x30000101);
+    memset(ones, 1, sizeof ones);
+    struct bytes longest = {ones, 255}, too_long = {ones, 256};
+    size_t k[] = {0, 96, 256, 257, SIZE_MAX};
+    for (size_t n = 0; n < sizeof k / sizeof *k; n++) {
+        hold_collapse(k[n], BYTES(1), 1, 17, NO_BYTES);
+        hold_collapse(k[n], BYTES(1), 0, 14, NO_BYTES);
+        hold_collapse(k[n], NO_BYTES, 0, 17, NO_BYTES);
+        hold_spread(k[n], BYTES(1, 1), 3, 17, NO_BYTES);
+        hold_spread(k[n], BYTES(1, 1), 2, 14, NO_BYTES);
+        hold_spread(k[n], NO_BYTES, 0, 17, NO_BYTES);
+    }
+    collapses(95, longest, BYTES(1));
+    hold_collapse(95, too_long, 256, 17, NO_BYTES);
+    hold_collapse(2, BYTES(0, 3), 2, 17, NO_BYTES);
+    hold_collapse(2, BYTES(255), 1, 17, NO_BYTES);
+    hold_spread(95, too_long, 511, 17, NO_BYTES);
+    hold_spread(95, too_long, 510, 14, NO_BYTES);
+    hold_spread(2, BYTES(1, 3), 2, 17, NO_BYTES);
+    hold_spread(2, BYTES(1, 0), 2, 17, NO_BYTES);
+    hold_judge(form, longest, 0, 1);
+    hold_judge(form, too_long, 17, 0);
+    hold_judge(form, BYTES(1, 0), 17, 0);
+    hold_judge(form, BYTES(1, 3), 17, 0);
+    hold_judge(form, BYTES(2), 0, 0);
+}
+
+void refusals(void)
+{
+    alphabets_and_lengths();
+    texts();
+    forms();
+    matrices();
+    memories();
+    label_lists();
+}
