@@ -91,7 +91,7 @@ module _ (A : List ℕ) where
       let or-else = first-says {X = Set} Any (Place A) in
       or-else (eqb b (code "\\")) _ _ _ (λ e₁. escaped-placed (b ∷ s) s (rw (eqb-true b (code "\\") e₁)))
       (λ e₁. or-else (eqb b (code ".")) _ _ _ (λ e₂. tt)
-      (λ e₂. or-else (eqb b (code "[")) _ _ _ 
+      (λ e₂. or-else (eqb b (code "[")) _ _ _
       (λ e₃. at-placed row.Bracket (b ∷ s) (bracket (b ∷ s) s) (bracket-at (b ∷ s) s) (λ q. at-bracket e₃ (rw (e₁, a-set) (rw (e₂, e₃) q))))
       (λ e₃. or-else (special b) _ _ _ (λ e₄. at-sign (special-misplaced b s e₄ (rw (k, e₂, e₃)))) (λ e₄. tt))))
 
