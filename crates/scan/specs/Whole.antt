@@ -14,7 +14,7 @@ use Rattle.lists.specs.Each.{drop-here, drop-all}
 use Rattle.lists.specs.Order.{eq-or-ne, true-or-false}
 use Rattle.lists.specs.Written.{written}
 use Rattle.expression.specs.Text.{provided}
-use Rattle.sheet_text.specs.Sheet.{both, linesOf, Sheet, fitting, laid, sheetFrom, sheetOf, widthOr, matrixOf}
+use Rattle.sheet_text.specs.Sheet.{both, linesOf, Sheet, fitting, laid, sheetFrom, most-bytes, sheetOf, widthOr, matrixOf}
 use Rattle.sheet_text.specs.Rows.{lines-end, lines-open, lines-none, columnsOf, rows}
 use Rattle.digits.specs.Places.{part, part-length, part-rest, LineEnd}
 use Rattle.sheet_columns.specs.Matrices.{StoredMatrix}
@@ -54,14 +54,14 @@ scans-bad input before after e n =
       size = n;
     }
 
-pub sheet-long : (input : List ℕ) → 65535 < length input → sheetOf input ≡ none
+pub sheet-long : (input : List ℕ) → most-bytes < length input → sheetOf input ≡ none
 unfolding sheetOf provided
-sheet-long input l = rw (lt-leb (length input) 65535 l)
+sheet-long input l = rw (lt-leb (length input) most-bytes l)
 
-module _ (input : List ℕ) (l : length input ≤ 65535) where
+module _ (input : List ℕ) (l : length input ≤ most-bytes) where
   sheet-from : sheetOf input ≡ sheetFrom (linesOf input)
   unfolding sheetOf provided
-  sheet-from = rw (le-leb (length input) 65535 l)
+  sheet-from = rw (le-leb (length input) most-bytes l)
 
   pub sheet-no-line : (a : ℕ) → LineEnd input 0 a → a ≡ length input → sheetOf input ≡ none
   unfolding sheetFrom

@@ -1,14 +1,45 @@
 // The sheet program (document 01, "Confidences and the sheet program"): a sheet on standard input, its lines on standard output.
-// A read that fails ends the input there, and a write that fails ends the program, both with exit code 0: the answer is what is printed.
-// Where the reader of a pipe has gone, the system ends the program as it ends any other.
+// After a read that fails nothing is printed: what has come so far may be a shorter sheet, whose reading would be a wrong one. A write
+// that fails ends the program. Both leave exit code 0: the answer is what is printed. Where the reader of a pipe has gone, the system
+// ends the program as it ends any other.
 use libc::STDIN_FILENO;
 use libc::STDOUT_FILENO;
+ghost use Prim.Native.Nat.{_<_};
+ghost use lib.ListN.{length};
+ghost use Rattle.sheet_text.specs.Sheet.{most-bytes};
+ghost use Rattle.sheet.specs.Arrived.{Arrived};
+
+// How many bytes were read until the input ended or the buffer was full; or a read failed.
+enum Input {
+    Whole(usize),
+    Failed,
+}
+
+// Reads to the end of the input. There is room for a byte more than a sheet may have, so that the byte too many is seen.
+fn read_input(fd: i32, buffer: &mut [u8]) -> Input
+    requires { ⌜ most-bytes < length (now buffer) ⌝ }
+    ensures { λ r. ⌜ Arrived r (now (buffer .exit)) ⌝ }
+{
+    let mut done = 0;
+    while done < buffer.len() {
+        let got = libc::read(fd, &mut buffer[done..]);
+        if got < 0 {
+            return Input::Failed;
+        }
+        if got == 0 {
+            return Input::Whole(done);
+        }
+        done += got as usize;
+    }
+    Input::Whole(done)
+}
 
 fn main() {
-    // One byte more than a sheet may have, so that the byte too many is seen.
     let mut input = [0u8; 65536];
     let mut out = [0u8; 1031];
-    let n = io::read_full(STDIN_FILENO, &mut input);
+    let Input::Whole(n) = read_input(STDIN_FILENO, &mut input) else {
+        return;
+    };
     let m = layout::answer(&input[..n], &mut out);
     io::write_all(STDOUT_FILENO, &out[..m]);
 }

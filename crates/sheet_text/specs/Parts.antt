@@ -13,7 +13,7 @@ use borrow.Author.Tests.{eqb-true, eq-eqb, leb-true}
 use Rattle.lists.specs.Each.{all}
 use Rattle.lists.specs.Order.{and-left, and-right, and-both}
 use Rattle.expression.specs.Text.{provided}
-use Rattle.sheet_text.specs.Sheet.{every, linesOf, columnOf, Sheet, equal-columns, fitting, laid, sheetFrom, sheetOf, widthOr, matrixOf}
+use Rattle.sheet_text.specs.Sheet.{every, linesOf, columnOf, Sheet, equal-columns, fitting, laid, sheetFrom, most-bytes, sheetOf, widthOr, matrixOf}
 use Rattle.sheet_text.specs.Rows.{FirstLine, lines-back}
 
 -- what was provided was given, and the condition holds
@@ -25,7 +25,7 @@ provided-back false x y e = let z : _≡_ {A = ℕ} 0 1 = cc in absurd (omega ar
 -- a sheet by its lines
 record Lines (input : List ℕ) (S : Sheet) : Type 0 where
   others : List (List ℕ)
-  short : length input ≤ 65535
+  short : length input ≤ most-bytes
   are : linesOf input ≡ some (S .alphabet ∷ (S .text ∷ others))
   equal : equal-columns (S .columns) ≡ true
   few : length (flatten (S .columns)) ≤ 16384
@@ -49,11 +49,11 @@ module _ (input : List ℕ) (S : Sheet) (is : sheetOf input ≡ some S) where
   lines : Lines input S
   unfolding sheetOf sheetFrom laid
   lines =
-      let p = provided-back (leb (length input) 65535) (sheetFrom (linesOf input)) S is in
-      by (leb-true (length input) 65535 (p .0)) (linesOf input) refl (p .1)
+      let p = provided-back (leb (length input) most-bytes) (sheetFrom (linesOf input)) S is in
+      by (leb-true (length input) most-bytes (p .0)) (linesOf input) refl (p .1)
     where
       columns :
-          length input ≤ 65535 → (a t : List ℕ) (ls : List (List ℕ)) → linesOf input ≡ some (a ∷ (t ∷ ls)) → (c : Option (List (List ℕ)))
+          length input ≤ most-bytes → (a t : List ℕ) (ls : List (List ℕ)) → linesOf input ≡ some (a ∷ (t ∷ ls)) → (c : Option (List (List ℕ)))
           → laid a t c ≡ some S → Lines input S
       columns l a t ls q none e = let z : _≡_ {A = ℕ} 0 1 = cc in absurd (omega arith)
       columns l a t ls q (some cs) e =
@@ -69,7 +69,7 @@ module _ (input : List ℕ) (S : Sheet) (is : sheetOf input ≡ some S) where
             few = leb-true (length (flatten cs)) 16384 (and-right (equal-columns cs) (leb (length (flatten cs)) 16384) (p .0));
           })
 
-      by : length input ≤ 65535 → (o : Option (List (List ℕ))) → linesOf input ≡ o → sheetFrom o ≡ some S → Lines input S
+      by : length input ≤ most-bytes → (o : Option (List (List ℕ))) → linesOf input ≡ o → sheetFrom o ≡ some S → Lines input S
       by l none q e = let z : _≡_ {A = ℕ} 0 1 = cc in absurd (omega arith)
       by l (some []) q e = let z : _≡_ {A = ℕ} 0 1 = cc in absurd (omega arith)
       by l (some (a ∷ [])) q e = let z : _≡_ {A = ℕ} 0 1 = cc in absurd (omega arith)

@@ -1,6 +1,6 @@
 -- The layout of a sheet (document 01, "Confidences and the sheet program"): "alphabet line, expression line, then one line for each
 -- column, numbers of 1 to 7 digits with no extra leading zero, one space between." What is no sheet is row 18. Assumes nothing.
--- Used by 4 files of specs/; in digits, fields, layout, scan and sheet_columns.
+-- Used by 4 files of specs/; in digits, fields, layout, scan, sheet and sheet_columns.
 use mathlib.Core.Option.{Option, some, none}
 use mathlib.Core.List.{List, [], _∷_, flatten}
 use mathlib.Core.Bool.{Bool, true, false, cond, not, _&&_}
@@ -85,9 +85,13 @@ sheetFrom (some []) = none
 sheetFrom (some (a ∷ [])) = none
 sheetFrom (some (a ∷ (t ∷ ls))) = laid a t (every columnOf ls)
 
+-- the most bytes that a sheet may have
+abbrev pub most-bytes : ℕ
+most-bytes = 65535
+
 -- Row 18: "not this layout, no final newline, columns unequal, over 65,535 bytes or 16,384 costs".
 unfoldable pub sheetOf : List ℕ → Option Sheet
-sheetOf input = provided (leb (length input) 65535) (sheetFrom (linesOf input))
+sheetOf input = provided (leb (length input) most-bytes) (sheetFrom (linesOf input))
 
 -- without a column line "the column width then counts as K + 1"
 abbrev pub widthOr : ℕ → List (List ℕ) → ℕ

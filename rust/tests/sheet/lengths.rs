@@ -78,6 +78,19 @@ fn too_many() {
     holds(&text, 18);
 }
 
+/// More than a thousand pieces, the last of one byte.
+#[test]
+fn many_pieces() {
+    for (bytes, piece, number) in [(65_535, 62, 0), (65_536, 51, 18)] {
+        assert_eq!(bytes % piece, 1);
+        let input = sheet_of(bytes);
+        let (by_model, printed) = sheet::answer(&input);
+        assert_eq!(by_model, number, "model, {bytes} bytes");
+        let chunked = answer_chunked(&input, piece, Duration::from_micros(100));
+        assert_eq!(chunked.as_bytes(), printed, "{bytes} bytes by {piece}");
+    }
+}
+
 /// Long lines, but a sheet: 1 and 2.
 #[test]
 fn long_lines() {

@@ -1,5 +1,6 @@
 //! Runs the sheet program with a time limit.
 use std::io::{ErrorKind, Read, Write};
+use std::os::fd::OwnedFd;
 use std::path::{Path, PathBuf};
 use std::process::{Child, ChildStdin, Command, ExitStatus, Stdio};
 use std::thread::{scope, sleep};
@@ -57,14 +58,25 @@ pub fn printed(child: &mut Child) -> String {
     output
 }
 
-/// Starts a program with pipes.
-pub fn start(command: &mut Command) -> Child {
+/// Starts a program with this input, and with pipes for what it prints.
+fn start_with(command: &mut Command, input: Stdio) -> Child {
     command
-        .stdin(Stdio::piped())
+        .stdin(input)
         .stdout(Stdio::piped())
         .stderr(Stdio::piped())
         .spawn()
         .expect("a program that can be run")
+}
+
+/// Starts a program with pipes.
+pub fn start(command: &mut Command) -> Child {
+    start_with(command, Stdio::piped())
+}
+
+/// What the program prints if this is its input.
+pub fn answer_on(input: impl Into<OwnedFd>) -> String {
+    let input: OwnedFd = input.into();
+    printed(&mut start_with(&mut Command::new(program()), input.into()))
 }
 
 /// What the program prints if `write` writes its input.
