@@ -141,6 +141,10 @@ fn judge_with_each_bit_turned() {
             }
         }
     }
-    assert_eq!([yes, no, bad], [113, 88, 2583], "accepted, rejected, refused");
+    assert_eq!(
+        [yes, no, bad],
+        [113, 88, 2583],
+        "accepted, rejected, refused"
+    );
     tally.demand("judge with a bit turned", 1, &[0, 11]);
 }
