@@ -1,5 +1,5 @@
--- What the exported calls hand back, and what is in lent memory then: a list filled, a refusal, and one line of document 01 through Judge,
--- Decode and Read. Assumes nothing.
+-- What the exported calls hand back, and what is in lent memory then: a list filled, a refusal, and `ab*` through Judge, Decode and Read.
+-- Assumes nothing.
 -- Computed examples: nothing uses them.
 use Prim.Native.Nat.{ℕ}
 use mathlib.Core.Path.{_≡_, refl, ap, _∙_}
@@ -54,16 +54,16 @@ filled = record {
   plain-refused = λ before after result h. (h .number, h .memory);
 }
 
--- "`ab*` compiles to", and the columns "(5,1,9)(5,9,2): path 1 2, price 3"
+-- "`ab*` compiles to", and the columns (5,1,9)(5,1,9)(5,9,2): path 1 1 2, price 4
 abbrev form : List ℕ
 form = 0x10020002 ∷ 0x20000301 ∷ 0x20000202 ∷ 0x30000102 ∷ 0x30000202 ∷ []
 
-abbrev two : Matrix
-two = matrix (5 ∷ 1 ∷ 9 ∷ 5 ∷ 9 ∷ 2 ∷ []) 3 2
+abbrev three : Matrix
+three = matrix (5 ∷ 1 ∷ 9 ∷ 5 ∷ 1 ∷ 9 ∷ 5 ∷ 9 ∷ 2 ∷ []) 3 3
 
--- memory for a label more than the path has, and for the 15 work words: all of it 7
+-- memory for a label more than the path has, and for the 20 work words: all of it 7
 abbrev lent : Lent
-lent = record { path = replicate 3 7; word = replicate 3 7; work = replicate 15 7 }
+lent = record { path = replicate 4 7; word = replicate 4 7; work = replicate 20 7 }
 
 -- 1 for the word ab, 0 for b; the empty list is no form
 judges :
@@ -73,21 +73,21 @@ judges :
 unfolding judged unless validForm ordered all any spells numbers followOf endsOf
 judges = (λ handed result h. (h .number, h .accepted), λ handed result h. (h .number, h .accepted), λ handed result h. (h .number, h .accepted))
 
-accepted : Outcome (Accepts (view form)) two (some (1 ∷ 2 ∷ []))
+accepted : Outcome (Accepts (view form)) three (some (1 ∷ 1 ∷ 2 ∷ []))
 unfolding decided exhaustive over better preferred not-after usable collapse merge without-blanks spells any numbers followOf endsOf validForm ordered all
 accepted =
     let d = accepts-decides (view form) 2 (view-proper form refl) in
-    decided-outcome two (Accepts (view form)) (accepts (view form)) (λ w. d w .0) (λ w. d w .1)
+    decided-outcome three (Accepts (view form)) (accepts (view form)) (λ w. d w .0) (λ w. d w .1)
 
 -- Decode: price and length of the word, the path and its word as labels
 decodes :
-    (after : Lent) (handed : List ℕ) (result : ℕ) → DecodesCounted form two lent after handed result
-    → (result ≡ 0) × (handed ≡ 3 ∷ 2 ∷ []) × (after .path ≡ 1 ∷ 2 ∷ 7 ∷ []) × (after .word ≡ 1 ∷ 2 ∷ 7 ∷ [])
+    (after : Lent) (handed : List ℕ) (result : ℕ) → DecodesCounted form three lent after handed result
+    → (result ≡ 0) × (handed ≡ 4 ∷ 2 ∷ []) × (after .path ≡ 1 ∷ 1 ∷ 2 ∷ 7 ∷ []) × (after .word ≡ 1 ∷ 2 ∷ 7 ∷ 7 ∷ [])
 unfolding first-refusal validForm ordered all written collapse merge without-blanks
 decodes after handed result h =
     let a = h .decodes in
-    let same = outcome-unique two (Accepts (view form)) (a .outcome) (some (1 ∷ 2 ∷ [])) (a .is) accepted in
-    let told = a .answered ∙ ap (outcome-report 0 two) same in (
+    let same = outcome-unique three (Accepts (view form)) (a .outcome) (some (1 ∷ 1 ∷ 2 ∷ [])) (a .is) accepted in
+    let told = a .answered ∙ ap (outcome-report 0 three) same in (
       h .hands .number ∙ ap (λ r. r .number) told,
       h .hands .list ∙ ap (λ r. r .price ∷ r .filled ∷ []) told,
       a .path ∙ ap (λ o. written (path-of o) (lent .path)) same,
@@ -101,15 +101,15 @@ compiled = cases-stated .1 .1 .1 .1 .1 .1 .1 .1 .1 .0
 -- Read: price and lengths of word and form, the form, the path, and its word as characters
 reads :
     (form′ : List ℕ) (after : Lent) (handed : List ℕ) (result : ℕ)
-    → ReadsCounted (bytes "ab") (bytes "ab*") two (replicate 5 7) form′ lent after handed result
-    → (result ≡ 0) × (handed ≡ 3 ∷ 2 ∷ 5 ∷ []) × (form′ ≡ form) × (after .path ≡ 1 ∷ 2 ∷ 7 ∷ []) × (after .word ≡ 97 ∷ 98 ∷ 7 ∷ [])
+    → ReadsCounted (bytes "ab") (bytes "ab*") three (replicate 5 7) form′ lent after handed result
+    → (result ≡ 0) × (handed ≡ 4 ∷ 2 ∷ 5 ∷ []) × (form′ ≡ form) × (after .path ≡ 1 ∷ 1 ∷ 2 ∷ 7 ∷ []) × (after .word ≡ 97 ∷ 98 ∷ 7 ∷ 7 ∷ [])
 unfolding first-refusal all written collapse merge without-blanks
 reads form′ after handed result h =
     let m = compiled-means (bytes "ab") (bytes "ab*") 5 form compiled in
-    let best = outcome-same two (Accepts (view form)) (WordsOf (bytes "ab") (bytes "ab*")) (λ w. m .words w .0) (λ w. m .words w .1) (some (1 ∷ 2 ∷ [])) accepted in
+    let best = outcome-same three (Accepts (view form)) (WordsOf (bytes "ab") (bytes "ab*")) (λ w. m .words w .0) (λ w. m .words w .1) (some (1 ∷ 1 ∷ 2 ∷ [])) accepted in
     let a = rw compiled at (h .reads .reads) in
-    let same = outcome-unique two (WordsOf (bytes "ab") (bytes "ab*")) (a .outcome) (some (1 ∷ 2 ∷ [])) (a .is) best in
-    let told = a .answered ∙ ap (outcome-report 5 two) same in (
+    let same = outcome-unique three (WordsOf (bytes "ab") (bytes "ab*")) (a .outcome) (some (1 ∷ 1 ∷ 2 ∷ [])) (a .is) best in
+    let told = a .answered ∙ ap (outcome-report 5 three) same in (
       h .hands .number ∙ ap (λ r. r .number) told,
       h .hands .list ∙ ap (λ r. r .price ∷ r .filled ∷ r .form ∷ []) told,
       h .reads .memory ∙ ap (λ v. written (filling v) (replicate 5 7)) compiled,
