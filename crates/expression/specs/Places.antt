@@ -1,5 +1,5 @@
 -- Where a fault of rows 4 to 8 is: what the text from it on begins with, and that it is bad. Assumes nothing.
--- Used by Leftmost.
+-- Used by Leftmost and SignExamples.
 use mathlib.Core.Path.{_≡_, refl, ap₂}
 use mathlib.Core.List.{List, [], _∷_}
 use mathlib.Core.Bool.{Bool, true, false, _||_}
