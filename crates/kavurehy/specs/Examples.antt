@@ -5,7 +5,7 @@ use Prim.Native.Nat.{ℕ}
 use mathlib.Core.Path.{_≡_, refl, ap, _∙_}
 use mathlib.Core.Option.{some}
 use mathlib.Core.List.{List, [], _∷_}
-use lib.ListN.{replicate}
+use lib.ListN.{drop, replicate}
 use Rattle.lists.specs.Each.{all}
 use Rattle.lists.specs.Among.{any}
 use Rattle.lists.specs.Ascending.{numbers}
@@ -61,9 +61,9 @@ form = 0x10020002 ∷ 0x20000301 ∷ 0x20000202 ∷ 0x30000102 ∷ 0x30000202 �
 abbrev three : Matrix
 three = matrix (5 ∷ 1 ∷ 9 ∷ 5 ∷ 1 ∷ 9 ∷ 5 ∷ 9 ∷ 2 ∷ []) 3 3
 
--- memory for a label more than the path has, and for the 20 work words: all of it 7
+-- memory for a label more than the path has, and for a word more than the 20 work words: all of it 7
 abbrev lent : Lent
-lent = record { path = replicate 4 7; word = replicate 4 7; work = replicate 20 7 }
+lent = record { path = replicate 4 7; word = replicate 4 7; work = replicate 21 7 }
 
 -- 1 for the word ab, 0 for b; the empty list is no form
 judges :
@@ -79,10 +79,14 @@ accepted =
     let d = accepts-decides (view form) 2 (view-proper form refl) in
     decided-outcome three (Accepts (view form)) (accepts (view form)) (λ w. d w .0) (λ w. d w .1)
 
--- Decode: price and length of the word, the path and its word as labels
+-- Decode: price and length of the word, the path and its word as labels; the last work word is untouched
 decodes :
     (after : Lent) (handed : List ℕ) (result : ℕ) → DecodesCounted form three lent after handed result
-    → (result ≡ 0) × (handed ≡ 4 ∷ 2 ∷ []) × (after .path ≡ 1 ∷ 1 ∷ 2 ∷ 7 ∷ []) × (after .word ≡ 1 ∷ 2 ∷ 7 ∷ 7 ∷ [])
+    → (result ≡ 0)
+    × (handed ≡ 4 ∷ 2 ∷ [])
+    × (after .path ≡ 1 ∷ 1 ∷ 2 ∷ 7 ∷ [])
+    × (after .word ≡ 1 ∷ 2 ∷ 7 ∷ 7 ∷ [])
+    × (drop 20 (after .work) ≡ 7 ∷ [])
 unfolding first-refusal validForm ordered all written collapse merge without-blanks
 decodes after handed result h =
     let a = h .decodes in
@@ -92,17 +96,32 @@ decodes after handed result h =
       h .hands .list ∙ ap (λ r. r .price ∷ r .filled ∷ []) told,
       a .path ∙ ap (λ o. written (path-of o) (lent .path)) same,
       a .word ∙ ap (λ o. written (word-of labels o) (lent .word)) same,
+      a .work,
     )
+
+-- a list that is no form: 11, zeros, and memory as it was
+decodes-none :
+    (M : Matrix) (before after : Lent) (handed : List ℕ) (result : ℕ) → DecodesCounted [] M before after handed result
+    → (result ≡ 11) × (handed ≡ 0 ∷ 0 ∷ []) × (after ≡ before)
+unfolding first-refusal validForm
+decodes-none M before after handed result h =
+    let told = h .decodes .0 in
+    (h .hands .number ∙ ap (λ r. r .number) told, h .hands .list ∙ ap (λ r. r .price ∷ r .filled ∷ []) told, h .decodes .1)
 
 compiled : compile-call (bytes "ab") (bytes "ab*") 5 ≡ passed form
 unfolding cases
 compiled = cases-stated .1 .1 .1 .1 .1 .1 .1 .1 .1 .0
 
--- Read: price and lengths of word and form, the form, the path, and its word as characters
+-- Read: price and lengths of word and form, the form, the path, and its word as characters; the last work word is untouched
 reads :
     (form′ : List ℕ) (after : Lent) (handed : List ℕ) (result : ℕ)
     → ReadsCounted (bytes "ab") (bytes "ab*") three (replicate 5 7) form′ lent after handed result
-    → (result ≡ 0) × (handed ≡ 4 ∷ 2 ∷ 5 ∷ []) × (form′ ≡ form) × (after .path ≡ 1 ∷ 1 ∷ 2 ∷ 7 ∷ []) × (after .word ≡ 97 ∷ 98 ∷ 7 ∷ 7 ∷ [])
+    → (result ≡ 0)
+    × (handed ≡ 4 ∷ 2 ∷ 5 ∷ [])
+    × (form′ ≡ form)
+    × (after .path ≡ 1 ∷ 1 ∷ 2 ∷ 7 ∷ [])
+    × (after .word ≡ 97 ∷ 98 ∷ 7 ∷ 7 ∷ [])
+    × (drop 20 (after .work) ≡ 7 ∷ [])
 unfolding first-refusal all written collapse merge without-blanks
 reads form′ after handed result h =
     let m = compiled-means (bytes "ab") (bytes "ab*") 5 form compiled in
@@ -115,6 +134,7 @@ reads form′ after handed result h =
       h .reads .memory ∙ ap (λ v. written (filling v) (replicate 5 7)) compiled,
       a .path ∙ ap (λ o. written (path-of o) (lent .path)) same,
       a .word ∙ ap (λ o. written (word-of (characters (bytes "ab")) o) (lent .word)) same,
+      a .work,
     )
 
 -- the alphabet first, and then the text: no alphabet is 1, a text of no byte 2
