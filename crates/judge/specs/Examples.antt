@@ -2,14 +2,14 @@
 -- Computed examples: nothing uses them.
 use Prim.Native.Nat.{ℕ}
 use mathlib.Core.Path.{_≡_, refl}
-use mathlib.Core.Bool.{Bool, true, false}
+use mathlib.Core.Bool.{true, false}
 use mathlib.Core.List.{List, [], _∷_, _++_, map}
 use lib.ListN.{replicate}
 use Rattle.lists.specs.Each.{all}
 use Rattle.lists.specs.Among.{any}
 use Rattle.lists.specs.Ascending.{numbers}
 use Rattle.refusal.specs.declared.Refusal.the-variants.{BadForm, Label}
-use Rattle.refusal.specs.Verdict.{Verdict, passed, refused, unless}
+use Rattle.refusal.specs.Verdict.{passed, refused, unless}
 use Rattle.automaton.specs.Form.{ordered, validForm, followOf, endsOf}
 use Rattle.automaton.specs.Accepted.{spells}
 use Rattle.judge.specs.Judge.{judged}
