@@ -6,21 +6,24 @@ use mathlib.Core.Path.{_≡_, refl}
 use mathlib.Core.Bool.{Bool, true, false, _&&_}
 use mathlib.Core.List.{List, [], _∷_, flatMap}
 use lib.ListN.{length}
-use lib.Dec.{eqb}
+use lib.Dec.{eqb, ltb}
 use Rattle.lists.specs.Each.{all}
 use Rattle.lists.specs.Among.{any, keep}
 use Rattle.lists.specs.Ascending.{numbers}
+use Rattle.refusal.specs.declared.Refusal.the-variants.{FormMemory}
 use Rattle.refusal.specs.Number.{numberOf}
-use Rattle.refusal.specs.Verdict.{Verdict, passed, refused, unless, if-passed}
+use Rattle.refusal.specs.Verdict.{Verdict, passed, refused, check, unless, if-passed}
 use Rattle.automaton.specs.Form.{encode}
 use Rattle.expression.specs.Bytes.{bytes}
+use Rattle.expression.specs.Tree.{between, set, times}
 use Rattle.expression.specs.Letters.{labelsOf, letterCount}
 use Rattle.expression.specs.Text.{then, first-of, split, enclosed, provided}
-use Rattle.expression.specs.Sets.{closed, reserved, items, members, inside, bracket, escaped, a-set, labelled-set}
+use Rattle.expression.specs.Sets.{closed, reserved, items, members, inside, bracket, alone, escaped, a-set, labelled-set}
 use Rattle.expression.specs.Repetition.{number, from-on, from-to, comma, counts, sign, repetition}
 use Rattle.expression.specs.Read.{grouped, step, go, read, whole, expressionOf}
 use Rattle.positions.specs.Opened.{anyOf, copies, nested, repeated, opened, labels}
 use Rattle.positions.specs.Numbered.{numbered, positionAutomaton}
+use Rattle.positions.specs.Compiled.{formOf}
 use Rattle.alphabet.specs.Alphabet.{distinct}
 use Rattle.compile.specs.Call.{compile-call}
 
@@ -51,3 +54,11 @@ rows =
 computed : failing rows ≡ []
 unfolding failing meets said rows compile-call distinct if-passed unless all any keep numbers flatMap encode labelsOf letterCount then first-of split enclosed provided closed reserved items members inside bracket escaped a-set labelled-set number from-on from-to comma counts sign repetition grouped step go read whole expressionOf anyOf copies nested repeated opened labels numbered positionAutomaton
 computed = refl
+
+-- "`a{127}` compiles, `a{128}` is 9": of 127 letters nothing but row 10 can be said. Their form is not computed.
+abbrev longest : List ℕ
+longest = formOf (bytes "ab") (times (set (alone 97)) (between 127 127))
+
+most-letters : (room : ℕ) → compile-call (bytes "ab") (bytes "a{127}") room ≡ unless (check (ltb room (length longest)) FormMemory ∷ []) longest
+unfolding compile-call distinct if-passed unless all any labelsOf letterCount then first-of split enclosed provided a-set labelled-set number from-to counts sign repetition step go read whole expressionOf
+most-letters room = refl

@@ -12,7 +12,7 @@ use lib.Dec.{eqb}
 use borrow.Author.Tests.{eqb-false, ne-eqb}
 use Rattle.lists.specs.Order.{eq-or-ne}
 use Rattle.lists.specs.Each.{Each}
-use Rattle.ctc.specs.Collapse.{collapse, after, after-same, after-blank, after-new, collapse-after, collapse-letters}
+use Rattle.ctc.specs.Collapse.{merge, without-blanks, collapse, after, after-same, after-blank, after-new, collapse-after, collapse-letters}
 
 -- path p, with a blank in front where told
 abbrev pub parted : Bool → List ℕ → List ℕ
@@ -115,3 +115,8 @@ spread-is-shortest w h = record { collapses = collapse-spread w h; shortest = λ
 example : spread (1 ∷ 1 ∷ 2 ∷ 2 ∷ 2 ∷ 1 ∷ []) ≡ 1 ∷ 0 ∷ 1 ∷ 2 ∷ 0 ∷ 2 ∷ 0 ∷ 2 ∷ 1 ∷ []
 unfolding spread
 example = refl
+
+-- of the word 1 1 every shortest path is one of three labels that collapses to it
+example-shortest : (p : List ℕ) → Shortest (1 ∷ 1 ∷ []) p → (collapse p ≡ 1 ∷ 1 ∷ []) × (length p ≤ 3)
+unfolding collapse merge without-blanks
+example-shortest p h = (h .collapses, h .shortest (1 ∷ 0 ∷ 1 ∷ []) refl)

@@ -1,4 +1,4 @@
--- Rows 11 to 15 at their limits, and their order, computed on the form of `ab*`: L is 2 and K is 2. Assumes nothing.
+-- Rows 11 to 15 at their limits, and their order, computed on the form of `ab*`, where L is 2 and K is 2. Assumes nothing.
 -- Computed examples: nothing uses them.
 use Prim.Native.Nat.{ℕ, _*_}
 use mathlib.Core.Path.{_≡_, refl}
@@ -15,6 +15,9 @@ use Rattle.decode_checks.specs.Checks.{needed, decode-checks}
 
 abbrev form : List ℕ
 form = 0x10020002 ∷ 0x20000301 ∷ 0x20000202 ∷ 0x30000102 ∷ 0x30000202 ∷ []
+
+abbrev one : List ℕ
+one = 0x10020001 ∷ 0x20000301 ∷ []
 
 -- what the checks make of the form with these costs, this width and count, and so much path, word and work memory
 abbrev said : (costs : List ℕ) (width count path word work : ℕ) → Checked
@@ -45,6 +48,10 @@ record Examples : Type 0 where
   -- a width of K and of K + 2, also without a column; a list too short, and too long
   widths : map (λ w. said [] w 0 0 0 5) (2 ∷ 3 ∷ 4 ∷ []) ≡ Refused MatrixRow ∷ Passed ∷ Refused MatrixRow ∷ []
   lengths : map (λ n. said (replicate n 1) 3 1 1 1 10) (2 ∷ 3 ∷ 4 ∷ []) ≡ Refused MatrixRow ∷ Passed ∷ Refused MatrixRow ∷ []
+  -- of `a` over `ab`, L is 1 and K is 2: a width of 3, and 3 work words without a column
+  one-letter :
+      map (λ w. first-refusal (decode-checks one (matrix [] w 0) (record { path = 0; word = 0; work = 3 }))) (2 ∷ 3 ∷ [])
+      ≡ Refused MatrixRow ∷ Passed ∷ []
   -- two faults: 12 before 13, 13 before 14, 14 before 15; 11 before 12
   matrix-and-cost : said (column 1000001) 4 1 1 1 10 ≡ Refused MatrixRow
   cost-and-output : said (column 1000001) 3 1 0 1 10 ≡ Refused Cost
@@ -66,6 +73,7 @@ examples = record {
   columns = refl;
   widths = refl;
   lengths = refl;
+  one-letter = refl;
   matrix-and-cost = refl;
   cost-and-output = refl;
   output-and-work = refl;

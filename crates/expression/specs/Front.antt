@@ -91,6 +91,10 @@ pub record Front (A : List ℕ) (m : Mode) (d : ℕ) (s : List ℕ) (t : Tree) (
 abbrev pub Begins : List ℕ → Mode → ℕ → List ℕ → Type 0
 Begins A m d u = (v : List ℕ) × (t : Tree) × TextOf A d t (u ++ v) × (loose t ≤ rank m)
 
+-- not every text can be: none that begins with `)`
+stray : (A : List ℕ) (d : ℕ) (s : List ℕ) → Begins A m-alternation d (code ")" ∷ s) → ⊥
+stray A d s b = let e = text-starts A (b .1) d (code ")" ∷ (s ++ b .0)) (b .2) [] .0 in let z : _≡_ {A = ℕ} 0 1 = cc in omega arith
+
 -- A fault: the text in front of it can be continued.
 pub record Stop (A : List ℕ) (m : Mode) (d : ℕ) (s : List ℕ) (n : Refusal) (r : List ℕ) : Type 0 where
   pub front : List ℕ

@@ -1,5 +1,5 @@
 -- Where a fault of rows 4 to 8 is: what the text from it on begins with, and that it is bad. Assumes nothing.
--- Used by Leftmost.
+-- Used by Leftmost and SignExamples.
 use mathlib.Core.Path.{_≡_, refl, ap₂}
 use mathlib.Core.List.{List, [], _∷_}
 use mathlib.Core.Bool.{Bool, true, false, _||_}
@@ -14,9 +14,9 @@ use Rattle.refusal.specs.declared.Refusal.the-variants as row
 use Rattle.expression.specs.Bytes.{bytes}
 use Rattle.expression.specs.Tree.{Range, Count, Set, only, except, Tree}
 use Rattle.expression.specs.Letters.{labelsOf}
-use Rattle.expression.specs.Text.{Reads, found, fault, then, first-of, one-of, next, rest, split, enclosed}
-use Rattle.expression.specs.Sets.{closed, members, inside, bracket, special, escaped, a-set, labelled-set}
-use Rattle.expression.specs.Repetition.{repeats, counts, sign, repetition}
+use Rattle.expression.specs.Text.{Reads, found, fault, then, first-of, one-of, next, rest, split, enclosed, provided}
+use Rattle.expression.specs.Sets.{closed, reserved, items, members, inside, bracket, special, escaped, a-set, labelled-set}
+use Rattle.expression.specs.Repetition.{repeats, number, from-to, counts, sign, repetition}
 use Rattle.expression.specs.Read.{Mode, m-alternation, m-branch, m-piece, m-group, ends, grouped, step, measure, read, whole, expressionOf}
 use Rattle.expression.specs.Own.{of-one}
 use Rattle.expression.specs.Says.{Says, of-fault, says-found, branch-says, first-says, enclosed-says, then-says}
@@ -179,3 +179,21 @@ module _ (A : List ℕ) where
       (then-placed (After m-alternation) Any (read A m-alternation 16 s) whole
       (read-placed (suc (measure m-alternation s)) m-alternation 16 s (omega arith)) whole-placed)
       e
+
+-- Texts with nothing wrong at their front are no places: `a`, `{2}`, `[a]`, and over `a` the character itself.
+record NoPlaces : Type 0 where
+  sign-place : Place (bytes "a") row.MisplacedSign (bytes "a") → ⊥
+  group-place : Place (bytes "a") row.Depth (bytes "a") → ⊥
+  braces-place : Place (bytes "a") row.Count (bytes "{2}") → ⊥
+  bracket-place : Place (bytes "a") row.Bracket (bytes "[a]") → ⊥
+  set-place : Place (bytes "a") row.Foreign (bytes "a") → ⊥
+
+no-places : NoPlaces
+unfolding sign first-of enclosed split counts number from-to provided a-set bracket inside closed members reserved items then labelsOf
+no-places = record {
+  sign-place = elim [ at-sign e ↦ let z : _≡_ {A = ℕ} 0 1 = cc in omega arith ];
+  group-place = elim [ at-group e ↦ let z : _≡_ {A = ℕ} 0 1 = cc in omega arith ];
+  braces-place = elim [ at-braces k e ↦ let z : _≡_ {A = ℕ} 0 1 = cc in omega arith ];
+  bracket-place = elim [ at-bracket k e ↦ let z : _≡_ {A = ℕ} 0 1 = cc in omega arith ];
+  set-place = elim [ at-set c v e l ↦ let z : _≡_ {A = ℕ} 0 1 = cc in omega arith ];
+}

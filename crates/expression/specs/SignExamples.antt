@@ -15,6 +15,7 @@ use Rattle.expression.specs.Letters.{labelsOf}
 use Rattle.expression.specs.Text.{Reads, found, fault, then, first-of, one-of, split, enclosed}
 use Rattle.expression.specs.Sets.{closed, inside, bracket, escaped, a-set, labelled-set}
 use Rattle.expression.specs.Read.{grouped, step, go, read, whole, expressionOf}
+use Rattle.expression.specs.Places.{misplaced}
 
 -- the bytes 32 to 126, here the alphabet too
 abbrev every : List ℕ
@@ -45,7 +46,11 @@ record Examples : Type 0 where
   escaped-sign : map (λ b. expressionOf every (code "\\" ∷ (b ∷ []))) signs ≡ map itself signs
   escaped-character :
       map (λ b. expressionOf every (code "\\" ∷ (b ∷ []))) ordinary ≡ map (λ b. fault MisplacedSign (code "\\" ∷ (b ∷ []))) ordinary
+  -- each byte that Places calls misplaced is misplaced by itself
+  misplaced-signs :
+      map (λ b. expressionOf every (b ∷ [])) (keep (λ b. misplaced (b ∷ [])) every)
+      ≡ map (λ b. fault MisplacedSign (b ∷ [])) (keep (λ b. misplaced (b ∷ [])) every)
 
 examples : Examples
 unfolding keep numbers labelsOf then first-of split enclosed closed inside bracket escaped a-set labelled-set grouped step go read whole expressionOf
-examples = record { others = refl; character = refl; sign = refl; escaped-sign = refl; escaped-character = refl }
+examples = record { others = refl; character = refl; sign = refl; escaped-sign = refl; escaped-character = refl; misplaced-signs = refl }

@@ -1,15 +1,15 @@
--- The call Judge on the form of `ab*`, at its limits, and the order of its checks, computed. Assumes nothing.
+-- The call Judge on small forms, at its limits, and the order of its checks, computed. Assumes nothing.
 -- Computed examples: nothing uses them.
 use Prim.Native.Nat.{ℕ}
 use mathlib.Core.Path.{_≡_, refl}
-use mathlib.Core.Bool.{Bool, true, false}
-use mathlib.Core.List.{List, [], _∷_, map}
+use mathlib.Core.Bool.{true, false}
+use mathlib.Core.List.{List, [], _∷_, _++_, map}
 use lib.ListN.{replicate}
 use Rattle.lists.specs.Each.{all}
 use Rattle.lists.specs.Among.{any}
 use Rattle.lists.specs.Ascending.{numbers}
 use Rattle.refusal.specs.declared.Refusal.the-variants.{BadForm, Label}
-use Rattle.refusal.specs.Verdict.{Verdict, passed, refused, unless}
+use Rattle.refusal.specs.Verdict.{passed, refused, unless}
 use Rattle.automaton.specs.Form.{ordered, validForm, followOf, endsOf}
 use Rattle.automaton.specs.Accepted.{spells}
 use Rattle.judge.specs.Judge.{judged}
@@ -21,6 +21,13 @@ form = 0x10020002 ∷ 0x20000301 ∷ 0x20000202 ∷ 0x30000102 ∷ 0x30000202 �
 abbrev no-form : List ℕ
 no-form = 0x10020002 ∷ 0x20000301 ∷ 0x20000202 ∷ 0x30000102 ∷ 0x20000202 ∷ []
 
+-- `b` over `ab`: one letter, two characters; `aa` over `a`: two letters, one character
+abbrev one-letter : List ℕ
+one-letter = 0x10020001 ∷ 0x20000302 ∷ []
+
+abbrev one-character : List ℕ
+one-character = 0x10010002 ∷ 0x20000101 ∷ 0x20000201 ∷ 0x30000102 ∷ []
+
 record Examples : Type 0 where
   accepted : judged form (1 ∷ 2 ∷ 2 ∷ []) ≡ passed true
   rejected : judged form (2 ∷ []) ≡ passed false
@@ -29,9 +36,13 @@ record Examples : Type 0 where
   -- a label over K, 0 in a word; 255 labels, and one more
   labels : map (λ x. judged form (1 ∷ x ∷ [])) (0 ∷ 1 ∷ 2 ∷ 3 ∷ []) ≡ refused Label ∷ passed false ∷ passed true ∷ refused Label ∷ []
   lengths : map (λ n. judged form (1 ∷ replicate n 2)) (254 ∷ 255 ∷ []) ≡ passed true ∷ refused Label ∷ []
+  -- "label over K": K is the number of characters, not of letters
+  over-characters :
+      map (λ x. judged one-letter (x ∷ [])) (1 ∷ 2 ∷ 3 ∷ []) ++ map (λ x. judged one-character (1 ∷ x ∷ [])) (1 ∷ 2 ∷ [])
+      ≡ passed false ∷ passed true ∷ refused Label ∷ passed true ∷ refused Label ∷ []
   -- 11 before 17
   both : judged no-form (3 ∷ []) ≡ refused BadForm
 
 examples : Examples
 unfolding judged unless validForm ordered all any spells numbers followOf endsOf
-examples = record { accepted = refl; rejected = refl; no-letter = refl; bad-form = refl; labels = refl; lengths = refl; both = refl }
+examples = record { accepted = refl; rejected = refl; no-letter = refl; bad-form = refl; labels = refl; lengths = refl; over-characters = refl; both = refl }

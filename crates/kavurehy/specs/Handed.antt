@@ -1,6 +1,6 @@
 -- What the exported calls promise: what the call inside promises of its answer and of each lent list, the answer handed back as a number
 -- and a list of counts. Assumes nothing.
--- Used by the contracts and the proofs.
+-- Used by the contracts, the proofs and Examples.
 use Prim.Native.Nat.{ℕ}
 use mathlib.Core.Path.{_≡_, ap, _∙_}
 use mathlib.Core.List.{List}

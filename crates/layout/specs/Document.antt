@@ -1,8 +1,10 @@
 -- Document 01's sheet and some of its lines to try, as inputs of the sheet program and what is printed for each. Assumes nothing.
 -- Computed examples: nothing uses them.
-use mathlib.Core.Path.{refl}
+use Prim.Native.Nat.{ℕ}
+use mathlib.Core.Path.{_≡_, refl}
 use mathlib.Core.Option.{some, none}
-use mathlib.Core.List.{[], _∷_, flatMap, flatten}
+use mathlib.Core.List.{List, [], _∷_, flatMap, flatten}
+use lib.ListN.{take}
 use Rattle.lists.specs.Each.{all}
 use Rattle.lists.specs.Among.{any, keep}
 use Rattle.lists.specs.Ascending.{numbers}
@@ -23,22 +25,32 @@ use Rattle.reader.specs.Cases.{cases, cases-stated}
 use Rattle.sheet_text.specs.Sheet.{onto, pieces, both, every, closed, costOf, columnOf, laid, sheetFrom, sheetOf}
 use Rattle.numerals.specs.Numerals.{digits, decimal}
 use Rattle.path_text.specs.Labels.{following, spaced}
-use Rattle.layout.specs.Answer.{Prints}
+use Rattle.read_print.specs.Promise.{Answers, answers-printed}
+use Rattle.layout.specs.Answer.{Prints, prints-unique}
 
 -- "Input in full" and "Output in full"
 pub document-prints : Prints (bytes "ab\naa\n5 1 9\n5 1 9\n5 1 9\n") (bytes "7\naa\n1 0 1\n")
 unfolding cases onto pieces both every closed costOf columnOf flatten laid sheetFrom sheetOf provided digits decimal following spaced flatMap collapse merge without-blanks first-refusal compile-call distinct if-passed unless all any keep numbers encode labelsOf letterCount then first-of split enclosed closes reserved items members inside bracket escaped a-set labelled-set number from-on from-to comma counts sign repetition grouped step go read whole expressionOf anyOf copies nested repeated opened labels numbered positionAutomaton
 document-prints = record { outcome = some (1 ∷ 0 ∷ 1 ∷ []); is = cases-stated .1 .0 .0; lines = refl }
 
--- no column: three lines, two of them empty; two columns are too few for `aa`; 18 before 1; 8; 12 before 13
+-- the program's output: the first bytes of its memory
+pub document-written :
+    (out out′ : List ℕ) (n : ℕ) → Answers (Prints (bytes "ab\naa\n5 1 9\n5 1 9\n5 1 9\n")) out out′ n → take n out′ ≡ bytes "7\naa\n1 0 1\n"
+document-written out out′ n a =
+    prints-unique (bytes "ab\naa\n5 1 9\n5 1 9\n5 1 9\n") (take n out′) (bytes "7\naa\n1 0 1\n")
+    (answers-printed (Prints (bytes "ab\naa\n5 1 9\n5 1 9\n5 1 9\n")) out out′ n a .0) document-prints
+
+-- two columns that differ; no column: three lines, two of them empty; two columns are too few for `aa`; 18 before 1; 8; 12 before 13
 pub others-print :
-    Prints (bytes "ab\na*\n") (bytes "0\n\n\n")
+    Prints (bytes "ab\nab\n5 1 9\n5 9 2\n") (bytes "3\nab\n1 2\n")
+    × Prints (bytes "ab\na*\n") (bytes "0\n\n\n")
     × Prints (bytes "ab\naa\n5 1 9\n5 1 9\n") (bytes "refused 16\n")
     × Prints (bytes "aa\n") (bytes "refused 18\n")
     × Prints (bytes "ab\nc\n") (bytes "refused 8\n")
     × Prints (bytes "ab\na\n1000001 2\n") (bytes "refused 12\n")
 unfolding cases onto pieces both every closed costOf columnOf flatten laid sheetFrom sheetOf provided digits decimal following spaced flatMap collapse merge without-blanks first-refusal compile-call distinct if-passed unless all any keep numbers encode labelsOf letterCount then first-of split enclosed closes reserved items members inside bracket escaped a-set labelled-set number from-on from-to comma counts sign repetition grouped step go read whole expressionOf anyOf copies nested repeated opened labels numbered positionAutomaton
 others-print = (
+  record { outcome = some (1 ∷ 2 ∷ []); is = cases-stated .0 .0; lines = refl },
   record { outcome = some []; is = cases-stated .1 .1 .1 .0 .0; lines = refl },
   record { outcome = none; is = cases-stated .1 .1 .0 .0; lines = refl },
   refl,

@@ -1,11 +1,12 @@
 -- What the call promises of the output memory. Assumes nothing.
 -- Used by the contracts and the proofs; in layout.
 use Prim.Native.Nat.{ℕ, _≤_}
-use mathlib.Core.Path.{_≡_, sym, ap, _∙_}
+use mathlib.Core.Path.{_≡_, sym, ap, _∙_, subst}
 use mathlib.Core.List.{List}
 use native.Mathlib.Omega.{arith}
-use lib.ListN.{length, take}
-use Rattle.lists.specs.Written.{Wrote, take-written, written-fits}
+use lib.ListN.{length, take, drop}
+use lib.Seq.{drop-at}
+use Rattle.lists.specs.Written.{written, Wrote, take-written, written-fits}
 
 -- Bytes of which `Printed` holds stand in front of the output memory, and nothing else of it is changed; the answer is their number.
 pub record Answers (Printed : List ℕ → Type 0) (out out′ : List ℕ) (answer : ℕ) : Type 0 where
@@ -34,3 +35,13 @@ pub answers-as :
     → Answers Q out out′ answer
 answers-as P Q out out′ answer f a =
     record { bytes = a .bytes; is = f (a .bytes) (a .is); wrote = a .wrote; within = a .within; counted = a .counted }
+
+-- the first bytes of the output memory, as many as the answer says, are what is printed; behind them it is as it was
+pub answers-printed :
+    (P : List ℕ → Type 0) (out out′ : List ℕ) (answer : ℕ) → Answers P out out′ answer → P (take answer out′) × (drop answer out′ ≡ drop answer out)
+unfolding written
+answers-printed P out out′ answer a =
+    let w = a .wrote in (
+      subst P (sym (ap (take answer) (w .memory) ∙ take-written (a .bytes) out answer (w .count))) (a .is),
+      ap (drop answer) (w .memory) ∙ drop-at (a .bytes) (drop (length (a .bytes)) out) answer (sym (w .count)) ∙ ap (λ n. drop n out) (sym (w .count)),
+    )

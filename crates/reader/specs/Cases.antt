@@ -1,6 +1,6 @@
 -- Document 01's lines to try that are marked P, as one checked list over the definitions: each case is data, one test is computed over all
 -- of them, and one lemma turns the test into the statement. Assumes nothing.
--- Used in layout.
+-- Used in kavurehy and layout.
 use Prim.Native.Nat.{ℕ, _+_}
 use Prim.Native.String.{String}
 use mathlib.Core.Path.{_≡_, refl, ap, ap₂, subst}

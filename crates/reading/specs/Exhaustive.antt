@@ -1,6 +1,6 @@
 -- The outcome of a small matrix by trying every list of labels. Where a test decides the words, this decides the reading.
 -- Assumes nothing.
--- Used in reader.
+-- Used in kavurehy and reader.
 use Prim.Native.Nat.{ℕ, zero, suc, _+_, _<_}
 use mathlib.Core.Path.{_≡_, refl, sym, ap, _∙_}
 use mathlib.Core.Bool.{Bool, true, false, _&&_}

@@ -43,6 +43,18 @@ document-matrix : matrixOf document ≡ matrix (5 ∷ (1 ∷ (9 ∷ (5 ∷ (1 �
 unfolding document column flatten
 document-matrix = refl
 
+-- "one line for each column", "one column after another": the first line to try, `ab` over (5,1,9)(5,9,2)
+two-columns : Sheet
+two-columns = record { alphabet = bytes "ab"; text = bytes "ab"; columns = (5 ∷ (1 ∷ (9 ∷ []))) ∷ ((5 ∷ (9 ∷ (2 ∷ []))) ∷ []) }
+
+two-columns-sheet : sheetOf (bytes "ab\nab\n5 1 9\n5 9 2\n") ≡ some two-columns
+unfolding two-columns sheetOf sheetFrom laid flatten columnOf costOf closed every both pieces onto provided all
+two-columns-sheet = refl
+
+two-columns-matrix : matrixOf two-columns ≡ matrix (5 ∷ (1 ∷ (9 ∷ (5 ∷ (9 ∷ (2 ∷ [])))))) 3 2
+unfolding two-columns flatten
+two-columns-matrix = refl
+
 -- no column line: the width is K + 1; both lines may be empty
 no-column : Sheet
 no-column = record { alphabet = bytes "ab"; text = bytes "aa"; columns = [] }
