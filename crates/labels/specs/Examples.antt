@@ -1,9 +1,8 @@
 -- Row 17 at its limits, computed. Assumes nothing.
 -- Computed examples: nothing uses them.
-use Prim.Native.Nat.{ℕ}
 use mathlib.Core.Path.{_≡_, refl}
 use mathlib.Core.Bool.{true, false}
-use mathlib.Core.List.{List, [], _∷_, map}
+use mathlib.Core.List.{[], _∷_, map}
 use lib.ListN.{replicate}
 use Rattle.lists.specs.Each.{all}
 use Rattle.labels.specs.Calls.{label-fault}

@@ -3,7 +3,7 @@
 use Prim.Native.Nat.{ℕ}
 use mathlib.Core.Path.{_≡_, refl}
 use mathlib.Core.Bool.{true, false}
-use mathlib.Core.List.{List, [], _∷_, map}
+use mathlib.Core.List.{[], _∷_, map}
 use Rattle.lists.specs.Ranges.{in-range}
 use Rattle.lists.specs.Each.{all}
 use Rattle.lists.specs.Among.{any, keep}

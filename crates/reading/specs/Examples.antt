@@ -1,8 +1,7 @@
 -- Costs, prices, paths and their order on document 01's first line to try, and the dearest cost that may be used. Assumes nothing.
 -- Examples: nothing uses them.
-use Prim.Native.Nat.{ℕ}
 use mathlib.Core.Path.{_≡_, refl}
-use mathlib.Core.List.{List, [], _∷_}
+use mathlib.Core.List.{[], _∷_}
 use mathlib.Core.Logic.{inl, inr}
 use native.Mathlib.Omega.{arith}
 use Rattle.reading.specs.Matrix.{Matrix, matrix, cost, price, Usable, PathOf}
