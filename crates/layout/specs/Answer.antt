@@ -1,6 +1,6 @@
 -- What the sheet program prints for the bytes of its input (document 01, "Confidences and the sheet program" and "What is turned away"):
 -- "18 comes first; else the lowest number". No memory is in it. Assumes nothing.
--- Used by the contracts, the proofs, Document and Sheets.
+-- Used by the contracts, the proofs, Document and Sheets; in sheet.
 use Prim.Native.Nat.{ℕ}
 use mathlib.Core.Path.{_≡_, sym, _∙_}
 use mathlib.Core.Option.{Option, some, none}

@@ -1,6 +1,6 @@
 -- What the sheet program prints for an alphabet, a text and a matrix (document 01, "Confidences and the sheet program" and "What is turned
 -- away"): "the lowest number", and past the checks the best reading, or 16 where there is none. No memory is in it. Assumes nothing.
--- Used by the contracts, the proofs, Examples, Longest and Steps; in layout.
+-- Used by the contracts, the proofs, Examples, Longest and Steps; in layout and sheet.
 use Prim.Native.Nat.{ℕ}
 use mathlib.Core.Path.{_≡_, sym, ap, _∙_}
 use mathlib.Core.Option.{Option, some, none}

@@ -1,5 +1,5 @@
 -- What the call promises of the output memory. Assumes nothing.
--- Used by the contracts and the proofs; in layout.
+-- Used by the contracts and the proofs; in layout and sheet.
 use Prim.Native.Nat.{ℕ, _≤_}
 use mathlib.Core.Path.{_≡_, sym, ap, _∙_, subst}
 use mathlib.Core.List.{List}

@@ -1,2 +1,2 @@
-pub mod Arrived
+pub mod Inputs
 pub mod Came

@@ -4,10 +4,12 @@
 // ends the program as it ends any other.
 use libc::STDIN_FILENO;
 use libc::STDOUT_FILENO;
-ghost use Prim.Native.Nat.{_<_};
+ghost use Prim.Native.Nat.{_<_, _≤_};
 ghost use lib.ListN.{length};
 ghost use Rattle.sheet_text.specs.Sheet.{most-bytes};
-ghost use Rattle.sheet.specs.Arrived.{Arrived};
+ghost use Rattle.read_print.specs.Answer.{longest};
+ghost use Rattle.read_print.specs.Promise.{Answers};
+ghost use Rattle.sheet.specs.Inputs.{Arrived, PrintsInput};
 
 // How many bytes were read until the input ended or the buffer was full; or a read failed.
 enum Input {
@@ -34,12 +36,22 @@ fn read_input(fd: i32, buffer: &mut [u8]) -> Input
     Input::Whole(done)
 }
 
+// Prints what there is to print for the input: nothing after a read that failed; the number of bytes.
+fn answer_input(input: Input, buffer: &[u8], out: &mut [u8]) -> usize
+    requires { ⌜ Arrived input (now buffer) ⌝ }
+    requires { ⌜ longest ≤ length (now out) ⌝ }
+    ensures { λ r. ⌜ Answers (PrintsInput input (now (buffer .entry))) (now (out .entry)) (now (out .exit)) r ⌝ }
+{
+    match input {
+        Input::Whole(n) => layout::answer(&buffer[..n], out),
+        Input::Failed => 0,
+    }
+}
+
 fn main() {
-    let mut input = [0u8; 65536];
+    let mut buffer = [0u8; 65536];
     let mut out = [0u8; 1031];
-    let Input::Whole(n) = read_input(STDIN_FILENO, &mut input) else {
-        return;
-    };
-    let m = layout::answer(&input[..n], &mut out);
-    io::write_all(STDOUT_FILENO, &out[..m]);
+    let input = read_input(STDIN_FILENO, &mut buffer);
+    let n = answer_input(input, &buffer, &mut out);
+    io::write_all(STDOUT_FILENO, &out[..n]);
 }

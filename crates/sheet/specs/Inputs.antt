@@ -1,0 +1,21 @@
+-- What the program promises of its input: how much of the buffer was read, and what is printed for it. Which bytes are read, no contract
+-- can say. Assumes nothing.
+-- Used by the contracts and the proofs.
+use mathlib.Core.Path.{_≡_}
+use mathlib.Core.List.{List, []}
+use Prim.Native.Nat.{ℕ}
+use lib.ListN.{take}
+use Rattle.io.specs.Counts.{Counts}
+use Rattle.layout.specs.Answer.{Prints}
+use Rattle.sheet.specs.declared.Input.{Input}
+use Rattle.sheet.specs.declared.Input.the-variants as input
+
+-- The number counts bytes at the start of the buffer. A read that fails leaves nothing to count.
+abbrev pub Arrived : Input → List ℕ → Type 0
+Arrived (input.Whole n) buffer = Counts n buffer
+Arrived input.Failed buffer = Unit {0}
+
+-- what is printed: for a whole input what its bytes give, after a read that failed nothing
+abbrev pub PrintsInput : Input → (buffer output : List ℕ) → Type 0
+PrintsInput (input.Whole n) buffer output = Prints (take n buffer) output
+PrintsInput input.Failed buffer output = output ≡ []
