@@ -6,7 +6,9 @@ use mathlib.Core.List.{List, []}
 use Prim.Native.Nat.{ℕ}
 use lib.ListN.{take}
 use Rattle.io.specs.Counts.{Counts}
-use Rattle.layout.specs.Answer.{Prints}
+use Rattle.expression.specs.Bytes.{bytes}
+use Rattle.layout.specs.Answer.{Prints, prints-unique}
+use Rattle.layout.specs.Document.{document-prints}
 use Rattle.sheet.specs.declared.Input.{Input}
 use Rattle.sheet.specs.declared.Input.the-variants as input
 
@@ -19,3 +21,14 @@ Arrived input.Failed buffer = Unit {0}
 abbrev pub PrintsInput : Input → (buffer output : List ℕ) → Type 0
 PrintsInput (input.Whole n) buffer output = Prints (take n buffer) output
 PrintsInput input.Failed buffer output = output ≡ []
+
+-- Document 01's sheet of 24 bytes, and a byte of the buffer that was not read.
+
+abbrev buffer : List ℕ
+buffer = bytes "ab\naa\n5 1 9\n5 1 9\n5 1 9\n7"
+
+whole-input : (output : List ℕ) → PrintsInput (input.Whole 24) buffer output → output ≡ bytes "7\naa\n1 0 1\n"
+whole-input output h = prints-unique (bytes "ab\naa\n5 1 9\n5 1 9\n5 1 9\n") output (bytes "7\naa\n1 0 1\n") h document-prints
+
+failed-input : (output : List ℕ) → PrintsInput input.Failed buffer output → output ≡ []
+failed-input output h = h
