@@ -36,7 +36,7 @@ pub answers-as :
 answers-as P Q out out′ answer f a =
     record { bytes = a .bytes; is = f (a .bytes) (a .is); wrote = a .wrote; within = a .within; counted = a .counted }
 
--- the first bytes of the output memory, as many as the answer says, are what is printed; behind them it is as it was
+-- the first bytes of the output memory, as many as the answer says, are what is printed; after them it is as it was
 pub answers-printed :
     (P : List ℕ → Type 0) (out out′ : List ℕ) (answer : ℕ) → Answers P out out′ answer → P (take answer out′) × (drop answer out′ ≡ drop answer out)
 unfolding written
