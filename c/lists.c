@@ -6,7 +6,7 @@
 #include <stdlib.h>
 #include <string.h>
 
-/* So many elements are in front of a list and after it: an odd number, so that a list of bytes begins anywhere. */
+/* Elements in front of a list and after it: an odd number, so that a list of bytes begins anywhere. */
 enum { GUARD = 5 };
 
 int guarded = 1;

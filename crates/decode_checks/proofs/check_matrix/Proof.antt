@@ -65,7 +65,7 @@ mul-if5-2 : tie.Need-mul-if5-2
 mul-if5-2 c =
     let s = c .before .before .before .before .before .before .before in
     let few = sized (s .args .k) (matrix s) (fine (c .before .before .before .before)) .0 in
-    let most = needed-most (s .args .count) (s .args .l) few (s .pre .1) in
+    let most = needed-most (s .args .count) (s .args .l) (omega (arith, few)) (s .pre .1) in
     omega arith
 
 returns-5 : tie.Need-returns-5

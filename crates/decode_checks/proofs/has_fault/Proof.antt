@@ -24,7 +24,7 @@ returns-2 c = sym (fault-width (c .before .before .args .k) (matrix (c .before .
 
 mul-result : tie.Need-mul-result
 mul-result c =
-    let few = c .before .if1 .left in
+    let few : c .before .before .args .count ≤ 255 = omega (arith, c .before .if1 .left) in
     let wide = c .if2 .left in
     let narrow : c .before .before .args .width ≤ 96 = omega arith in
     let h : c .before .before .args .count * c .before .before .args .width ≤ 255 * 96 = mul-le-mul few narrow in
