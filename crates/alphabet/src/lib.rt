@@ -1,5 +1,5 @@
 // Is a list an alphabet (document 01, "Alphabet, labels, paths"), and is a list a text ("Expression text")? Refusals 1 to 3.
-use labels::all_in_range;
+use ctc_labels::all_in_range;
 use refusal::Checked;
 use refusal::Refusal;
 ghost use mathlib.Core.Path.{_≡_};

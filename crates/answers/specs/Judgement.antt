@@ -1,5 +1,5 @@
 -- What Judge reports: of its answer, and of the verdict on a form and a word. Assumes nothing.
--- Used by Examples; in handed, judge and kavurehy.
+-- Used by Examples; in export_counts, judge and kavurehy.
 use Prim.Native.Nat.{ℕ}
 use mathlib.Core.Bool.{Bool, true, false}
 use Rattle.refusal.specs.Number.{numberOf}

@@ -1,5 +1,5 @@
 -- What Read's answer reports. Assumes nothing.
--- Used by Examples; in handed_paths, read_print, read_text, read_word and reader.
+-- Used by Examples; in export_paths, sheet_read, read_text, read_valid and read.
 use Rattle.refusal.specs.Report.{Report, turned-away}
 use Rattle.answers.specs.Decoded.{read}
 use Rattle.answers.specs.declared.Reading.{Reading}

@@ -1,6 +1,6 @@
 -- The accepted words of an automaton, decided: a search over its letters. Two automata that agree on their letters accept the same
 -- words. Assumes nothing.
--- Used by Encode and Examples; in judge, kavurehy, letter_sets and reader.
+-- Used by Encode and Examples; in judge, kavurehy, form_sets and read.
 use Prim.Native.Nat.{ℕ, _≤_}
 use mathlib.Core.Path.{_≡_, refl, sym, ap₂, _∙_}
 use mathlib.Core.Bool.{Bool, true, _&&_}

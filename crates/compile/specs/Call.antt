@@ -1,16 +1,16 @@
 -- What Compile makes of an alphabet and a text: the form of its expression, or the refusal that applies (document 01, "What is turned
 -- away", rows 1 to 10). Assumes nothing.
--- Used by the contracts, the proofs, Examples, Meaning and Steps; in kavurehy, layout, read_print, read_text and reader.
+-- Used by the contracts, the proofs, Examples, Meaning and Steps; in kavurehy, sheet_answer, sheet_read, read_text and read.
 use Prim.Native.Nat.{ℕ}
 use mathlib.Core.List.{List, [], _∷_}
 use lib.ListN.{length}
 use lib.Dec.{ltb}
 use Rattle.refusal.specs.declared.Refusal.the-variants.{Letters, FormMemory}
 use Rattle.refusal.specs.Verdict.{Verdict, refused, check, unless, if-passed}
-use Rattle.expression.specs.Tree.{Tree}
-use Rattle.expression.specs.Text.{Reads, found, fault}
-use Rattle.expression.specs.Letters.{letterCount}
-use Rattle.expression.specs.Read.{expressionOf}
+use Rattle.regex.specs.Tree.{Tree}
+use Rattle.regex.specs.Text.{Reads, found, fault}
+use Rattle.regex.specs.Letters.{letterCount}
+use Rattle.regex.specs.Read.{expressionOf}
 use Rattle.positions.specs.Compiled.{formOf}
 use Rattle.alphabet.specs.Alphabet.{text-checks}
 

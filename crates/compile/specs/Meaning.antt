@@ -1,6 +1,6 @@
 -- Demand 2, stated at Compile: the form that it writes is valid, and accepts a word exactly if the expression's set of words, by its
 -- text, has it. Assumes nothing.
--- Used in kavurehy, read_print, read_text and reader.
+-- Used in kavurehy, sheet_read, read_text and read.
 use Prim.Native.Nat.{ℕ, _≤_}
 use mathlib.Core.Path.{_≡_, refl, sym, ap, _∙_, subst}
 use mathlib.Core.Bool.{Bool, true, false, not, _&&_}
@@ -19,13 +19,13 @@ use Rattle.refusal.specs.Verdict.{Verdict, passed, refused, Check, check, unles
 use Rattle.refusal.specs.declared.Checked.the-variants.{Passed}
 use Rattle.automaton.specs.Automaton.{Accepts}
 use Rattle.automaton.specs.Form.{validForm, view, lettersOf, alphabetOf}
-use Rattle.expression.specs.Tree.{Tree}
-use Rattle.expression.specs.Text.{Reads, found, fault}
-use Rattle.expression.specs.Letters.{letterCount}
-use Rattle.expression.specs.Read.{expressionOf}
-use Rattle.expression.specs.Grammar.{TextOf, WordsOf}
-use Rattle.expression.specs.Exact.{exact, words-of-text, expression-whole}
-use Rattle.expression.specs.Sense.{sensible}
+use Rattle.regex.specs.Tree.{Tree}
+use Rattle.regex.specs.Text.{Reads, found, fault}
+use Rattle.regex.specs.Letters.{letterCount}
+use Rattle.regex.specs.Read.{expressionOf}
+use Rattle.regex.specs.Grammar.{TextOf, WordsOf}
+use Rattle.regex.specs.Exact.{exact, words-of-text, expression-whole}
+use Rattle.regex.specs.Sense.{sensible}
 use Rattle.positions.specs.Compiled.{formOf, form-valid, form-alphabet, form-letters, form-words}
 use Rattle.alphabet.specs.Alphabet.{distinct, is-alphabet, text-checks}
 use Rattle.compile.specs.Call.{read-form, compile-call}

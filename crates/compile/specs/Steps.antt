@@ -12,24 +12,24 @@ use Rattle.refusal.specs.declared.Refusal.{Refusal}
 use Rattle.refusal.specs.declared.Refusal.the-variants as row
 use Rattle.refusal.specs.Verdict.{refused, check, unless, unless-holds, unless-fails, if-passed, first-refusal, first-refused, first-all}
 use Rattle.refusal.specs.declared.Checked.the-variants as checks
-use Rattle.expression.specs.Tree.{Tree}
-use Rattle.expression.specs.Text.{Reads, found, fault}
-use Rattle.expression.specs.Letters.{letterCount}
-use Rattle.expression.specs.Sense.{few, sensible}
-use Rattle.expression.specs.Exact.{exact, expression-whole}
-use Rattle.expression.specs.Read.{expressionOf}
+use Rattle.regex.specs.Tree.{Tree}
+use Rattle.regex.specs.Text.{Reads, found, fault}
+use Rattle.regex.specs.Letters.{letterCount}
+use Rattle.regex.specs.Sense.{few, sensible}
+use Rattle.regex.specs.Exact.{exact, expression-whole}
+use Rattle.regex.specs.Read.{expressionOf}
 use Rattle.positions.specs.Numbered.{automatonOf}
 use Rattle.automaton.specs.Form.{encode}
 use Rattle.positions.specs.Compiled.{formOf, automaton-letters}
-use Rattle.bracket.specs.Answers.{is-found}
-use Rattle.parse.specs.declared.Parsed.the-variants.{Letters, Refused}
-use Rattle.parse.specs.Parsed.{parsedOf, parsed}
-use Rattle.encode.specs.Arrays.{arrayed, form-call}
-use Rattle.encode.specs.Parts.{told-form}
+use Rattle.regex_bracket.specs.Answers.{is-found}
+use Rattle.regex_parse.specs.declared.Parsed.the-variants.{Letters, Refused}
+use Rattle.regex_parse.specs.Parsed.{parsedOf, parsed}
+use Rattle.form_encode.specs.Arrays.{arrayed, form-call}
+use Rattle.form_encode.specs.Parts.{told-form}
 use Rattle.alphabet.specs.Alphabet.{text-checks}
-use Rattle.parts.specs.declared.Built.{Built}
-use Rattle.letters.specs.Found.{treeOf}
-use Rattle.build.specs.Whole.{treeOfText, Buildable, BuildsWhole, no-arc}
+use Rattle.positions_parts.specs.declared.Built.{Built}
+use Rattle.positions_letters.specs.Found.{treeOf}
+use Rattle.positions_build.specs.Whole.{treeOfText, Buildable, BuildsWhole, no-arc}
 use Rattle.compile.specs.Call.{read-form, compile-call}
 
 -- a text that reads, with few letters

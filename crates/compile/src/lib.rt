@@ -6,10 +6,10 @@ use refusal::Refusal;
 ghost use Prim.Native.Nat.{_≤_};
 ghost use lib.ListN.{length};
 ghost use Rattle.refusal.specs.Report.{reported, Fills};
-ghost use Rattle.expression.specs.Read.{expressionOf};
+ghost use Rattle.regex.specs.Read.{expressionOf};
 ghost use Rattle.positions.specs.Numbered.{automatonOf};
-ghost use Rattle.encode.specs.Arrays.{form-call};
-ghost use Rattle.build.specs.Whole.{treeOfText};
+ghost use Rattle.form_encode.specs.Arrays.{form-call};
+ghost use Rattle.positions_build.specs.Whole.{treeOfText};
 ghost use Rattle.compile.specs.Call.{read-form, compile-call};
 ghost use Rattle.compile.specs.Steps.{Compilable};
 
@@ -21,10 +21,10 @@ fn write(alphabet: &[u8], text: &[u8], form: &mut [u32]) -> Counted
 {
     let mut labels = [0u8; 127];
     let mut follow = [[false; 127]; 127];
-    let built = build::build(alphabet, text, &mut labels, &mut follow);
+    let built = positions_build::build(alphabet, text, &mut labels, &mut follow);
     let first = built.first;
     let last = built.last;
-    encode::write_form(
+    form_encode::write_form(
         alphabet.len(),
         built.letters,
         built.nullable,
@@ -41,9 +41,9 @@ fn compile_text(alphabet: &[u8], text: &[u8], form: &mut [u32]) -> Counted
     requires { ⌜ length (now alphabet) ≤ 95 ⌝ }
     ensures { λ r. ⌜ Fills (read-form (now (alphabet .entry)) (length (now (form .entry))) (expressionOf (now (alphabet .entry)) (now (text .entry)))) (reported r) (now (form .entry)) (now (form .exit)) ⌝ }
 {
-    match parse::expression(alphabet, text) {
-        parse::Parsed::Refused(r) => Counted::Refused(r),
-        parse::Parsed::Letters(n) => {
+    match regex_parse::expression(alphabet, text) {
+        regex_parse::Parsed::Refused(r) => Counted::Refused(r),
+        regex_parse::Parsed::Letters(n) => {
             if 127 < n {
                 return Counted::Refused(Refusal::Letters);
             }

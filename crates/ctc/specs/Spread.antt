@@ -1,6 +1,6 @@
 -- Spread (document 01, "Alphabet, labels, paths"): one blank between each two equal neighbours and nowhere else. It undoes collapse
 -- with the fewest labels. Assumes nothing.
--- Used in kavurehy, reader and spread.
+-- Used in kavurehy, read and ctc_spread.
 use Prim.Native.Nat.{ℕ, suc, _+_, _<_, _≤_}
 use mathlib.Core.Path.{_≡_, refl, sym, ap, _∙_}
 use mathlib.Core.Bool.{Bool, true, false, cond}

@@ -14,10 +14,10 @@ use Rattle.refusal.specs.Verdict.{first-refusal, first-passed}
 use Rattle.refusal.specs.Report.{Report, turned-away}
 use Rattle.automaton.specs.Automaton.{Accepts}
 use Rattle.automaton.specs.Form.{validForm, view, lettersOf, alphabetOf}
-use Rattle.reading.specs.Matrix.{Matrix}
+use Rattle.outcome.specs.Matrix.{Matrix}
 use Rattle.decode_checks.specs.Checks.{needed, matrix-checks, decode-checks}
-use Rattle.decode_phases.specs.Answers.{Lent, rooms, labels, DecodeAnswers}
-use Rattle.decode_phases.specs.Demand.{Plain-rival, No-rival, Best-or-none, Kept, answers-as-demanded, none-exactly, rival-reads}
+use Rattle.decode_valid.specs.Answers.{Lent, rooms, labels, DecodeAnswers}
+use Rattle.decode_valid.specs.Demand.{Plain-rival, No-rival, Best-or-none, Kept, answers-as-demanded, none-exactly, rival-reads}
 use Rattle.decode.specs.Promise.{Decodes}
 
 module _ (f : List ℕ) (M : Matrix) (before after : Lent) (answer : Report) (decodes : Decodes f M before after answer) where

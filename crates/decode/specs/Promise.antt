@@ -4,9 +4,9 @@ use mathlib.Core.List.{List}
 use Prim.Native.Nat.{ℕ}
 use Rattle.refusal.specs.Verdict.{first-refusal}
 use Rattle.refusal.specs.Report.{Report}
-use Rattle.reading.specs.Matrix.{Matrix}
+use Rattle.outcome.specs.Matrix.{Matrix}
 use Rattle.decode_checks.specs.Checks.{decode-checks}
-use Rattle.decode_phases.specs.Answers.{Lent, rooms, DecodeAnswers, Checks}
+use Rattle.decode_valid.specs.Answers.{Lent, rooms, DecodeAnswers, Checks}
 
 -- Decode's promise
 abbrev pub Decodes : (form : List ℕ) (M : Matrix) (before after : Lent) (answer : Report) → Type 0

@@ -1,8 +1,8 @@
 -- The matrix that a view lends: its costs, its column width and its column count. Assumes nothing.
--- Used by the contracts and the proofs; in reader.
+-- Used by the contracts and the proofs; in read.
 use mathlib.Core.Path.{_≡_, refl}
 use denote.Ref.{now}
-use Rattle.reading.specs.Matrix.{Matrix, matrix}
+use Rattle.outcome.specs.Matrix.{Matrix, matrix}
 use Rattle.decode.specs.declared.Matrix.{Matrix as View}
 
 abbrev pub value : View → Matrix

@@ -2,7 +2,7 @@
 // decoding").
 use answers::Decoded;
 use decode_checks::check_matrix;
-use decode_phases::decode_valid;
+use decode_valid::decode_valid;
 use form_check::valid;
 use form_words::alphabet;
 use form_words::letters;
@@ -10,7 +10,7 @@ use refusal::Checked;
 use refusal::Refusal;
 ghost use mathlib.Core.Path.{_≡_};
 ghost use Rattle.answers.specs.Decoded.{reported};
-ghost use Rattle.reading.specs.Matrix.{matrix};
+ghost use Rattle.outcome.specs.Matrix.{matrix};
 ghost use Rattle.decode.specs.View.{value};
 ghost use Rattle.decode.specs.Promise.{Decodes};
 

@@ -1,5 +1,5 @@
 -- The checks one by one: which refusal is given, and what is known of an input that passes them all. Assumes nothing.
--- Used by the proofs; in decode, decode_phases, kavurehy, read_print, read_text and read_word.
+-- Used by the proofs; in decode, decode_valid, kavurehy, sheet_read, read_text and read_valid.
 use Prim.Native.Nat.{ℕ, _+_, _*_, _<_, _≤_}
 use mathlib.Core.Path.{_≡_, ap, _∙_}
 use mathlib.Core.Bool.{true, false, not, _||_}
@@ -14,7 +14,7 @@ use Rattle.lists.specs.Each.{all, all-each}
 use Rattle.refusal.specs.declared.Refusal.the-variants.{Matrix as MatrixRow, Cost, OutputMemory, Work}
 use Rattle.refusal.specs.declared.Checked.the-variants.{Passed, Refused}
 use Rattle.refusal.specs.Verdict.{Check, check, first-refusal, first-holds, first-fails, first-passed}
-use Rattle.reading.specs.Matrix.{Matrix, CostsPass, Usable}
+use Rattle.outcome.specs.Matrix.{Matrix, CostsPass, Usable}
 use Rattle.decode_checks.specs.Checks.{Rooms, needed, matrix-fault, passes, matrix-checks}
 
 module _ (k : ℕ) (M : Matrix) where

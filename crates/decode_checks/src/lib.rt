@@ -6,7 +6,7 @@ ghost use mathlib.Core.Path.{_≡_};
 ghost use Prim.Native.Nat.{_≤_};
 ghost use Rattle.lists.specs.Each.{all};
 ghost use Rattle.refusal.specs.Verdict.{first-refusal};
-ghost use Rattle.reading.specs.Matrix.{matrix};
+ghost use Rattle.outcome.specs.Matrix.{matrix};
 ghost use Rattle.decode_checks.specs.Checks.{passes, matrix-fault, matrix-checks};
 
 // Is no cost over 1,000,000?

@@ -15,8 +15,8 @@ use Rattle.lists.specs.Order.{and-both}
 use Rattle.lists.specs.Each.{Each, each-all}
 use Rattle.refusal.specs.declared.Refusal.the-variants.{BadForm, Label}
 use Rattle.refusal.specs.Verdict.{Verdict, passed, refused, check, unless, unless-holds, unless-second, unless-neither}
-use Rattle.labels.specs.Calls.{label-fault}
-use Rattle.labels.specs.Faults.{fault-labels}
+use Rattle.ctc_labels.specs.Calls.{label-fault}
+use Rattle.ctc_labels.specs.Faults.{fault-labels}
 use Rattle.automaton.specs.Automaton.{Accepts}
 use Rattle.automaton.specs.Form.{bit8, validForm, alphabetOf, view}
 use Rattle.automaton.specs.Accepted.{accepts, accepts-decides}

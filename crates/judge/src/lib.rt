@@ -1,12 +1,12 @@
 // The call Judge: does a form accept a word (document 01, "Opening and the compiled form")?
 use answers::Judged;
-use arc_starts::starts;
+use ctc_labels::wide;
 use form_check::valid;
+use form_sets::advance;
+use form_sets::no_letter;
+use form_sets::some_may_end;
+use form_starts::starts;
 use form_words::alphabet;
-use labels::wide;
-use letter_sets::advance;
-use letter_sets::no_letter;
-use letter_sets::some_may_end;
 use refusal::Refusal;
 ghost use mathlib.Core.Path.{_≡_};
 ghost use mathlib.Core.Bool.{true};
@@ -38,7 +38,7 @@ pub fn judge(form: &[u32], word: &[u8]) -> Judged
     if !valid(form) {
         return Judged::Refused(Refusal::BadForm);
     }
-    if labels::has_fault(alphabet(form), 1, word) {
+    if ctc_labels::has_fault(alphabet(form), 1, word) {
         return Judged::Refused(Refusal::Label);
     }
     if accepts(form, word) {

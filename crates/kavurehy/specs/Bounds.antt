@@ -23,24 +23,24 @@ use Rattle.refusal.specs.Verdict.{Verdict, passed, refused, check, unless, firs
 use Rattle.refusal.specs.Report.{Report, report, Fills}
 use Rattle.ctc.specs.Collapse.{collapse, collapse-shorter}
 use Rattle.ctc.specs.Spread.{spread, spread-length}
-use Rattle.labels.specs.Calls.{label-fault}
-use Rattle.collapse.specs.Calls.{collapse-call}
-use Rattle.spread.specs.Calls.{spread-call}
-use Rattle.spread.specs.Turns.{few-pairs-in}
+use Rattle.ctc_labels.specs.Calls.{label-fault}
+use Rattle.ctc_collapse.specs.Calls.{collapse-call}
+use Rattle.ctc_spread.specs.Calls.{spread-call}
+use Rattle.ctc_spread.specs.Turns.{few-pairs-in}
 use Rattle.automaton.specs.Automaton.{Accepts}
 use Rattle.automaton.specs.Form.{validForm, view, lettersOf, alphabetOf, arcWord, letterOf, arcsFrom, encode}
 use Rattle.automaton.specs.Valid.{valid-parts}
 use Rattle.automaton.specs.Encode.{encode-view}
-use Rattle.reading.specs.Matrix.{Matrix}
-use Rattle.reading.specs.Reading.{Outcome}
-use Rattle.expression.specs.Grammar.{WordsOf}
+use Rattle.outcome.specs.Matrix.{Matrix}
+use Rattle.outcome.specs.Reading.{Outcome}
+use Rattle.regex.specs.Grammar.{WordsOf}
 use Rattle.compile.specs.Call.{compile-call}
 use Rattle.compile.specs.Meaning.{compiled-means}
 use Rattle.decode_checks.specs.Checks.{needed, matrix-checks, decode-checks}
 use Rattle.decode_checks.specs.Passing.{fits}
-use Rattle.decode_phases.specs.Answers.{Lent, rooms, labels, Checks, Answers, outcome-report}
+use Rattle.decode_valid.specs.Answers.{Lent, rooms, labels, Checks, Answers, outcome-report}
 use Rattle.decode.specs.Promise.{Decodes}
-use Rattle.spelling.specs.Spelling.{characters}
+use Rattle.read_spelling.specs.Spelling.{characters}
 use Rattle.read_text.specs.Promise.{ReadsBy, Reads}
 
 -- Collapse and Spread: what passes the checks is short.

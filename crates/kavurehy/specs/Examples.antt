@@ -18,18 +18,18 @@ use Rattle.automaton.specs.Automaton.{Accepts}
 use Rattle.automaton.specs.Form.{ordered, validForm, view, followOf, endsOf}
 use Rattle.automaton.specs.Valid.{view-proper}
 use Rattle.automaton.specs.Accepted.{spells, accepts, accepts-decides}
-use Rattle.reading.specs.Matrix.{Matrix, matrix}
-use Rattle.reading.specs.Reading.{Outcome, outcome-same, outcome-unique}
-use Rattle.reading.specs.Choice.{not-after, preferred, better}
-use Rattle.reading.specs.Exhaustive.{over, exhaustive, usable, decided, decided-outcome}
-use Rattle.expression.specs.Bytes.{bytes}
-use Rattle.expression.specs.Grammar.{WordsOf}
+use Rattle.outcome.specs.Matrix.{Matrix, matrix}
+use Rattle.outcome.specs.Reading.{Outcome, outcome-same, outcome-unique}
+use Rattle.outcome.specs.Choice.{not-after, preferred, better}
+use Rattle.outcome.specs.Exhaustive.{over, exhaustive, usable, decided, decided-outcome}
+use Rattle.regex.specs.Bytes.{bytes}
+use Rattle.regex.specs.Grammar.{WordsOf}
 use Rattle.compile.specs.Call.{compile-call}
 use Rattle.compile.specs.Meaning.{compiled-means}
-use Rattle.decode_phases.specs.Answers.{Lent, outcome-report, path-of, word-of, labels}
-use Rattle.spelling.specs.Spelling.{characters}
+use Rattle.decode_valid.specs.Answers.{Lent, outcome-report, path-of, word-of, labels}
+use Rattle.read_spelling.specs.Spelling.{characters}
 use Rattle.judge.specs.Judge.{judged}
-use Rattle.reader.specs.Cases.{cases, cases-stated}
+use Rattle.read.specs.Cases.{cases, cases-stated}
 use Rattle.kavurehy.specs.Handed.{FillsCounted, FillsPlain, Judges, DecodesCounted, ReadsCounted}
 
 -- "A refusal gives zero price and lengths and leaves all memory alone"; "On success, memory beyond the counted bytes or words is untouched

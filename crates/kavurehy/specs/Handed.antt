@@ -8,10 +8,10 @@ use Rattle.lists.specs.Written.{written}
 use Rattle.refusal.specs.Verdict.{Verdict}
 use Rattle.refusal.specs.Report.{Report, report, filling, Fills}
 use Rattle.answers.specs.Judgement.{report as judgement}
-use Rattle.handed.specs.Handed.{length-alone, price-and-length, price-and-lengths, Hands, HandsJudgement}
+use Rattle.export_counts.specs.Handed.{length-alone, price-and-length, price-and-lengths, Hands, HandsJudgement}
 use Rattle.judge.specs.Judge.{judged}
-use Rattle.reading.specs.Matrix.{Matrix}
-use Rattle.decode_phases.specs.Answers.{Lent}
+use Rattle.outcome.specs.Matrix.{Matrix}
+use Rattle.decode_valid.specs.Answers.{Lent}
 use Rattle.decode.specs.Promise.{Decodes}
 use Rattle.read_text.specs.Promise.{Reads}
 

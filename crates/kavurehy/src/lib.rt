@@ -1,15 +1,15 @@
 // The calls exported for C and Rust, and nothing else. A list is passed as a pointer and a length; each call answers 0 or the number
 // of the refusal, and hands its counts back through an array, zeros at a refusal.
-use handed::hand_judgement;
-use handed::hand_length;
-use handed::hand_number;
-use handed_paths::hand_decoded;
-use handed_paths::hand_reading;
+use export_counts::hand_judgement;
+use export_counts::hand_length;
+use export_counts::hand_number;
+use export_paths::hand_decoded;
+use export_paths::hand_reading;
 ghost use lib.ListN.{length};
-ghost use Rattle.collapse.specs.Calls.{collapse-call};
-ghost use Rattle.spread.specs.Calls.{spread-call};
+ghost use Rattle.ctc_collapse.specs.Calls.{collapse-call};
+ghost use Rattle.ctc_spread.specs.Calls.{spread-call};
 ghost use Rattle.confidence.specs.Cost.{costs-call};
-ghost use Rattle.reading.specs.Matrix.{matrix};
+ghost use Rattle.outcome.specs.Matrix.{matrix};
 ghost use Rattle.compile.specs.Call.{compile-call};
 ghost use Rattle.kavurehy.specs.Handed.{FillsCounted, FillsPlain, Judges, DecodesCounted, ReadsCounted};
 
@@ -44,7 +44,7 @@ pub extern "C" fn kavurehy_collapse(
 ) -> u32
     ensures { λ r. ⌜ FillsCounted (collapse-call k (now (path .entry)) (length (now (word .entry)))) (now (word .entry)) (now (word .exit)) (now (counts .exit)) r ⌝ }
 {
-    hand_length(collapse::collapse(k, path, word), counts)
+    hand_length(ctc_collapse::collapse(k, path, word), counts)
 }
 
 // The shortest path that collapses to a word of labels 1 to k; its length in `counts`.
@@ -57,7 +57,7 @@ pub extern "C" fn kavurehy_spread(
 ) -> u32
     ensures { λ r. ⌜ FillsCounted (spread-call k (now (word .entry)) (length (now (path .entry)))) (now (path .entry)) (now (path .exit)) (now (counts .exit)) r ⌝ }
 {
-    hand_length(spread::spread(k, word, path), counts)
+    hand_length(ctc_spread::spread(k, word, path), counts)
 }
 
 // The cheapest path whose collapse the form accepts, and its word; price and word length in `counts`.
@@ -98,7 +98,7 @@ pub extern "C" fn kavurehy_read(
     ensures { λ r. ⌜ ReadsCounted (now (alphabet .entry)) (now (text .entry)) (matrix (now (costs .entry)) width columns) (now (form .entry)) (now (form .exit)) (record { path = now (path .entry); word = now (word .entry); work = now (work .entry) }) (record { path = now (path .exit); word = now (word .exit); work = now (work .exit) }) (now (counts .exit)) r ⌝ }
 {
     hand_reading(
-        reader::read(
+        read::read(
             alphabet,
             text,
             costs,

@@ -1,5 +1,5 @@
 -- A loop that goes through a list by its index and sets the element there, or leaves it. Assumes nothing.
--- Used in relation.
+-- Used in positions_follow.
 use Prim.Native.Nat.{ℕ, _+_, _<_, _≤_}
 use mathlib.Core.Path.{_≡_, refl, sym, subst, _∙_}
 use mathlib.Core.List.{List}

@@ -11,9 +11,9 @@ use lib.ListN.{length}
 use Rattle.automaton.specs.Automaton.{Accepts}
 use Rattle.automaton.specs.Form.{encode, validForm, view, alphabetOf, lettersOf}
 use Rattle.automaton.specs.Encode.{encode-valid, encode-accepts, letters-same, alphabet-same}
-use Rattle.expression.specs.Tree.{Tree, Words}
-use Rattle.expression.specs.Letters.{letterCount}
-use Rattle.expression.specs.Sense.{Sensible, letters-some}
+use Rattle.regex.specs.Tree.{Tree, Words}
+use Rattle.regex.specs.Letters.{letterCount}
+use Rattle.regex.specs.Sense.{Sensible, letters-some}
 use Rattle.positions.specs.Letters.{opened-letters}
 use Rattle.positions.specs.Numbered.{positionAutomaton, automatonOf}
 use Rattle.positions.specs.Exact.{accepts-words, automaton-proper}

@@ -1,6 +1,6 @@
 -- The numbered letters part by part, as equations: for each shape, for a set of labels as a whole, and for a repetition copy by copy;
 -- and what a repetition keeps. Assumes nothing.
--- Used by Exact, FirstLast and Marked; in build and letters.
+-- Used by Exact, FirstLast and Marked; in positions_build and positions_letters.
 use Prim.Native.Nat.{ℕ, zero, suc, _+_, _-_, _≤_, _<_}
 use mathlib.Core.Path.{_≡_, refl, sym}
 use mathlib.Core.Logic.{_⊎_, inl, inr}
@@ -11,7 +11,7 @@ use lib.ListN.{length, length-append}
 use lib.Dec.{eqb, leb, ltb}
 use borrow.Author.Tests.{eq-eqb, ne-eqb, le-leb, lt-leb, lt-ltb, le-ltb}
 use Rattle.lists.specs.Order.{lt-or-le, eq-or-ne}
-use Rattle.expression.specs.Tree.{Count, between, onward}
+use Rattle.regex.specs.Tree.{Count, between, onward}
 use Rattle.positions.specs.Opened.{Opened, joining, alternation, optional, star, plus, empty, anyOf, copies, nested, repeated, labels, letters}
 use Rattle.positions.specs.Numbered.{Positions, numbered}
 

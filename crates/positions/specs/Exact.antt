@@ -11,8 +11,8 @@ use lib.Seq.{getD-append-add}
 use Rattle.lists.specs.Each.{Each, each-append, each-at}
 use Rattle.lists.specs.Among.{among-each}
 use Rattle.automaton.specs.Automaton.{Accepts, Proper}
-use Rattle.expression.specs.Tree.{Tree, set, group, times, join, either, Joined, Words}
-use Rattle.expression.specs.Sense.{Sensible}
+use Rattle.regex.specs.Tree.{Tree, set, group, times, join, either, Joined, Words}
+use Rattle.regex.specs.Sense.{Sensible}
 use Rattle.positions.specs.Opened.{Opened, letter, joining, alternation, optional, star, plus, empty, never, OpenedWords, labelsIn, opened, labels, letters}
 use Rattle.positions.specs.Opening.{label-among, opening-keeps-words}
 use Rattle.positions.specs.Letters.{any-of-labels}

@@ -8,11 +8,11 @@ use mathlib.Core.List.{List, [], _∷_, map, flatMap}
 use Rattle.lists.specs.Among.{keep}
 use Rattle.lists.specs.Ascending.{numbers}
 use Rattle.automaton.specs.Automaton.{Automaton}
-use Rattle.expression.specs.Tree.{range, only, except, between, onward, Tree, set, group, times, join, either}
+use Rattle.regex.specs.Tree.{range, only, except, between, onward, Tree, set, group, times, join, either}
 use Rattle.positions.specs.Opened.{anyOf, copies, nested, repeated, opened, labels}
 use Rattle.automaton.specs.Form.{encode}
 use Rattle.positions.specs.Compiled.{formOf}
-use Rattle.expression.specs.Letters.{labelsOf, letterCount}
+use Rattle.regex.specs.Letters.{labelsOf, letterCount}
 use Rattle.positions.specs.Numbered.{numbered, positionAutomaton, automatonOf}
 
 -- the labels of the letters, whether the empty word is accepted, which letters may be first, which last, and where the arcs of each lead

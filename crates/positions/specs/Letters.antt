@@ -1,5 +1,5 @@
 -- A tree opens into as many letters as it counts (document 01, "Opening and the compiled form"). Assumes nothing.
--- Used by Compiled, Exact and FirstLast; in build and letters.
+-- Used by Compiled, Exact and FirstLast; in positions_build and positions_letters.
 use Prim.Native.Nat.{ℕ, zero, suc, _+_, _-_, _*_}
 use mathlib.Core.Path.{_≡_, refl, sym, ap, _∙_}
 use mathlib.Core.Bool.{cond}
@@ -9,10 +9,10 @@ use native.Mathlib.Omega.{arith}
 use lib.ListN.{length, getD, length-append}
 use Rattle.lists.specs.Among.{keep, keep-same, keeping-length}
 use Rattle.lists.specs.Ascending.{numbers, numbers-among}
-use Rattle.expression.specs.Tree.{Set, Count, between, onward, Tree, set, group, times, join, either, member}
-use Rattle.expression.specs.Letters.{labelsOf, copiesOf, letterCount}
-use Rattle.expression.specs.OwnCounts.{InRange}
-use Rattle.expression.specs.Sense.{Sensible}
+use Rattle.regex.specs.Tree.{Set, Count, between, onward, Tree, set, group, times, join, either, member}
+use Rattle.regex.specs.Letters.{labelsOf, copiesOf, letterCount}
+use Rattle.regex.specs.OwnCounts.{InRange}
+use Rattle.regex.specs.Sense.{Sensible}
 use Rattle.positions.specs.Opened.{Opened, plus, labelsIn, anyOf, copies, nested, repeated, opened, labels, letters}
 
 -- the labels of a set, where the first character is label y

@@ -1,13 +1,13 @@
 -- The letters of an opened expression numbered from left to right: which may be first, which last, and which arcs lead from letter to
 -- letter; and the automaton that they make (document 01, "Opening and the compiled form"). Assumes nothing.
--- Used by 8 files of specs/; in build, compile, layout, letters and reader.
+-- Used by 8 files of specs/; in positions_build, compile, sheet_answer, positions_letters and read.
 use Prim.Native.Nat.{ℕ, zero, suc, _+_, _-_}
 use mathlib.Core.Bool.{Bool, true, false, _&&_, _||_}
 use mathlib.Core.List.{List}
 use lib.ListN.{getD}
 use lib.Dec.{eqb}
 use Rattle.automaton.specs.Automaton.{Automaton}
-use Rattle.expression.specs.Tree.{Tree}
+use Rattle.regex.specs.Tree.{Tree}
 use Rattle.positions.specs.Opened.{Opened, letter, joining, alternation, optional, star, plus, empty, never, opened, labels, letters}
 
 -- whether the empty word is a word; whether a letter may be first, or last, in a word (exactly if some word so begins, or ends, there:

@@ -1,6 +1,6 @@
 -- An opened expression, its set of words, and how the tree of an expression opens (document 01, "Opening and the compiled form").
 -- Assumes nothing.
--- Used by 8 files of specs/; in build, compile, layout, letters and reader.
+-- Used by 8 files of specs/; in positions_build, compile, sheet_answer, positions_letters and read.
 use Prim.Native.Nat.{ℕ, zero, suc, _-_}
 use mathlib.Core.Path.{_≡_}
 use mathlib.Core.Logic.{_⊎_}
@@ -8,7 +8,7 @@ use mathlib.Core.List.{List, [], _∷_, _++_}
 use lib.ListN.{length, getD}
 use Rattle.lists.specs.Among.{keep}
 use Rattle.lists.specs.Ascending.{numbers}
-use Rattle.expression.specs.Tree.{Set, Count, between, onward, Tree, set, group, times, join, either, member, Joined}
+use Rattle.regex.specs.Tree.{Set, Count, between, onward, Tree, set, group, times, join, either, member, Joined}
 
 -- `empty` has the empty word alone and ends a chain of copies; `never` has no word and ends an alternation of labels. Neither has letters.
 pub data Opened : Type 0 where

@@ -9,9 +9,9 @@ use native.Mathlib.Omega.{arith}
 use lib.ListN.{length, getD}
 use Rattle.lists.specs.Among.{Among, among-keep, keep-among}
 use Rattle.lists.specs.Ascending.{numbers, among-numbers, numbers-among}
-use Rattle.expression.specs.Tree.{Set, Count, between, onward, Tree, set, group, times, join, either, member, Allows, Joined, Words}
-use Rattle.expression.specs.OwnCounts.{InRange}
-use Rattle.expression.specs.Sense.{Sensible}
+use Rattle.regex.specs.Tree.{Set, Count, between, onward, Tree, set, group, times, join, either, member, Allows, Joined, Words}
+use Rattle.regex.specs.OwnCounts.{InRange}
+use Rattle.regex.specs.Sense.{Sensible}
 use Rattle.positions.specs.Opened.{Opened, plus, OpenedWords, labelsIn, anyOf, copies, nested, repeated, opened}
 
 -- Sets.

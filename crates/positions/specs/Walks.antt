@@ -10,7 +10,7 @@ use native.Mathlib.Omega.{arith}
 use borrow.Author.Tests.{eqb-true, eq-eqb}
 use Rattle.lists.specs.Order.{not-both, and-left, and-right, and-both, or-either, or-left, or-right}
 use Rattle.automaton.specs.Automaton.{Walk, Accepts}
-use Rattle.expression.specs.Tree.{Joined}
+use Rattle.regex.specs.Tree.{Joined}
 use Rattle.positions.specs.Numbered.{Positions, bare, single, joint, choice, perhaps, again, behind, ending, assembled}
 use Rattle.positions.specs.Inside.{Inside, goes-to, inside-perhaps, inside-again, again-ends, again-arcs, Agree, Apart, joint-ends, joint-arcs, joint-back, choice-front, choice-back}
 

@@ -1,5 +1,5 @@
 -- What Read promises: demand 3, by the expression's words. Assumes nothing.
--- Used by the contracts and Steps; in kavurehy, read_print and reader.
+-- Used by the contracts and Steps; in kavurehy, sheet_read and read.
 use Prim.Native.Nat.{ℕ}
 use mathlib.Core.Path.{_≡_}
 use mathlib.Core.List.{List}
@@ -8,12 +8,12 @@ use Rattle.lists.specs.Written.{written}
 use Rattle.refusal.specs.Verdict.{Verdict, passed, refused, first-refusal}
 use Rattle.refusal.specs.Report.{Report, turned-away, filling}
 use Rattle.automaton.specs.Form.{lettersOf}
-use Rattle.reading.specs.Matrix.{Matrix}
-use Rattle.expression.specs.Grammar.{WordsOf}
+use Rattle.outcome.specs.Matrix.{Matrix}
+use Rattle.regex.specs.Grammar.{WordsOf}
 use Rattle.decode_checks.specs.Checks.{needed, matrix-checks}
-use Rattle.decode_phases.specs.Answers.{Lent, rooms, Answers, Checks}
+use Rattle.decode_valid.specs.Answers.{Lent, rooms, Answers, Checks}
 use Rattle.compile.specs.Call.{compile-call}
-use Rattle.spelling.specs.Spelling.{characters}
+use Rattle.read_spelling.specs.Spelling.{characters}
 
 -- Past Compile, with the form f: rows 12 to 15, or the outcome for the words of the text, the word written as characters. What 'past the
 -- checks with memory enough' means: no refusal but 16 applies.

@@ -14,15 +14,15 @@ use Rattle.refusal.specs.Verdict.{Verdict, passed, refused, first-refusal}
 use Rattle.refusal.specs.Report.{Report, turned-away, counted, report, filling, Fills}
 use Rattle.automaton.specs.Automaton.{Accepts}
 use Rattle.automaton.specs.Form.{view, lettersOf}
-use Rattle.reading.specs.Matrix.{Matrix}
-use Rattle.reading.specs.Reading.{outcome-same}
-use Rattle.expression.specs.Grammar.{WordsOf}
+use Rattle.outcome.specs.Matrix.{Matrix}
+use Rattle.outcome.specs.Reading.{outcome-same}
+use Rattle.regex.specs.Grammar.{WordsOf}
 use Rattle.compile.specs.Call.{compile-call}
 use Rattle.compile.specs.Meaning.{Means, compiled-means}
 use Rattle.decode_checks.specs.Checks.{needed, matrix-checks}
-use Rattle.decode_phases.specs.Answers.{Lent, rooms, Answers, Checks}
-use Rattle.spelling.specs.Spelling.{characters}
-use Rattle.read_word.specs.Words.{ReadsAccepted}
+use Rattle.decode_valid.specs.Answers.{Lent, rooms, Answers, Checks}
+use Rattle.read_spelling.specs.Spelling.{characters}
+use Rattle.read_valid.specs.Words.{ReadsAccepted}
 use Rattle.read_text.specs.Promise.{Reads}
 
 -- Past Compile, with the form f: rows 12 to 15, or the outcome for the words that the form accepts.

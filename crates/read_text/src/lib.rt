@@ -3,7 +3,7 @@
 use answers::Reading;
 use decode_checks::check_matrix;
 use form_words::letters;
-use read_word::read_valid;
+use read_valid::read_valid;
 use refusal::Checked;
 use refusal::Counted;
 ghost use mathlib.Core.Path.{_≡_};
@@ -11,7 +11,7 @@ ghost use lib.ListN.{length};
 ghost use Rattle.answers.specs.Reading.{reported};
 ghost use Rattle.automaton.specs.Form.{alphabetOf};
 ghost use Rattle.automaton.specs.Valid.{Valid};
-ghost use Rattle.reading.specs.Matrix.{matrix};
+ghost use Rattle.outcome.specs.Matrix.{matrix};
 ghost use Rattle.read_text.specs.Promise.{Reads};
 ghost use Rattle.read_text.specs.Steps.{ChecksForm};
 

@@ -6,9 +6,9 @@ use mathlib.Core.List.{List, []}
 use Prim.Native.Nat.{ℕ}
 use lib.ListN.{take}
 use Rattle.io.specs.Counts.{Counts}
-use Rattle.expression.specs.Bytes.{bytes}
-use Rattle.layout.specs.Answer.{Prints, prints-unique}
-use Rattle.layout.specs.Document.{document-prints}
+use Rattle.regex.specs.Bytes.{bytes}
+use Rattle.sheet_answer.specs.Answer.{Prints, prints-unique}
+use Rattle.sheet_answer.specs.Document.{document-prints}
 use Rattle.sheet.specs.declared.Input.{Input}
 use Rattle.sheet.specs.declared.Input.the-variants as input
 

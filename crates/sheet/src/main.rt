@@ -6,9 +6,9 @@ use libc::STDIN_FILENO;
 use libc::STDOUT_FILENO;
 ghost use Prim.Native.Nat.{_<_, _≤_};
 ghost use lib.ListN.{length};
-ghost use Rattle.sheet_text.specs.Sheet.{most-bytes};
-ghost use Rattle.read_print.specs.Answer.{longest};
-ghost use Rattle.read_print.specs.Promise.{Answers};
+ghost use Rattle.sheet_format.specs.Sheet.{most-bytes};
+ghost use Rattle.sheet_read.specs.Answer.{longest};
+ghost use Rattle.sheet_read.specs.Promise.{Answers};
 ghost use Rattle.sheet.specs.Inputs.{Arrived, PrintsInput};
 
 // How many bytes were read until the input ended or the buffer was full; or a read failed.
@@ -43,7 +43,7 @@ fn answer_input(input: Input, buffer: &[u8], out: &mut [u8]) -> usize
     ensures { λ r. ⌜ Answers (PrintsInput input (now (buffer .entry))) (now (out .entry)) (now (out .exit)) r ⌝ }
 {
     match input {
-        Input::Whole(n) => layout::answer(&buffer[..n], out),
+        Input::Whole(n) => sheet_answer::answer(&buffer[..n], out),
         Input::Failed => 0,
     }
 }

@@ -1,5 +1,5 @@
 -- What storing the whole matrix answers: the first column line gives the width that the others must have. Assumes nothing.
--- Used by the contracts and the proofs; in scan.
+-- Used by the contracts and the proofs; in sheet_scan.
 use mathlib.Core.Path.{_≡_, refl, sym, ap, _∙_}
 use mathlib.Core.Option.{some}
 use mathlib.Core.List.{List, [], _∷_, _++_, flatten}
@@ -13,8 +13,8 @@ use borrow.Author.Tests.{leb-true, le-leb}
 use Rattle.lists.specs.Each.{drop-all}
 use Rattle.lists.specs.Order.{and-left, and-right, and-both}
 use Rattle.lists.specs.Written.{written, written-none, stored-then}
-use Rattle.sheet_text.specs.Sheet.{both, equal-columns, fitting, widthOr}
-use Rattle.sheet_text.specs.Rows.{rows, rows-end, rows-some}
+use Rattle.sheet_format.specs.Sheet.{both, equal-columns, fitting, widthOr}
+use Rattle.sheet_format.specs.Rows.{rows, rows-end, rows-some}
 use Rattle.sheet_columns.specs.Storing.{Spoilt, spoilt-stored, StoredColumn, StoredColumns, wide, both-back, flatten-more}
 use Rattle.sheet_columns.specs.declared.Column.the-variants as column
 use Rattle.sheet_columns.specs.declared.Columns.the-variants as columns

@@ -14,11 +14,11 @@ use lib.Dec.{eqb}
 use borrow.Author.Tests.{eqb-true, eq-eqb}
 use Rattle.lists.specs.Each.{drop-here}
 use Rattle.lists.specs.Order.{and-left, and-right, or-either, or-left, or-right}
-use Rattle.expression.specs.Repetition.{digits}
-use Rattle.sheet_text.specs.Rows.{Free, rows, FirstCost, rows-back, put, rows-put}
-use Rattle.digits.specs.Places.{part, part-rest}
-use Rattle.digits.specs.Digits.{digit, separator, digit-range, cost-back, CostAt, ReadCost, cost-begins}
-use Rattle.digits.specs.declared.Cost.the-variants as cost
+use Rattle.regex.specs.Repetition.{digits}
+use Rattle.sheet_format.specs.Rows.{Free, rows, FirstCost, rows-back, put, rows-put}
+use Rattle.sheet_number.specs.Places.{part, part-rest}
+use Rattle.sheet_number.specs.Digits.{digit, separator, digit-range, cost-back, CostAt, ReadCost, cost-begins}
+use Rattle.sheet_number.specs.declared.Cost.the-variants as cost
 
 digits-free : (c : ℕ) (p : List ℕ) → c < 48 → digits p ≡ true → Free c p
 digits-free c [] l h = tt

@@ -15,10 +15,10 @@ use borrow.Author.Tests.{eq-eqb, ne-eqb, eqb-true}
 use Rattle.lists.specs.Each.{all, drop-all}
 use Rattle.lists.specs.Order.{and-left, and-right, and-both}
 use Rattle.lists.specs.Written.{Stored, stored-size, stored-then}
-use Rattle.sheet_text.specs.Sheet.{both}
-use Rattle.sheet_text.specs.Rows.{rows, rows-end, rows-some, beside, put}
-use Rattle.digits.specs.Digits.{ReadCost, cost-begins}
-use Rattle.digits.specs.declared.Cost.the-variants as cost
+use Rattle.sheet_format.specs.Sheet.{both}
+use Rattle.sheet_format.specs.Rows.{rows, rows-end, rows-some, beside, put}
+use Rattle.sheet_number.specs.Digits.{ReadCost, cost-begins}
+use Rattle.sheet_number.specs.declared.Cost.the-variants as cost
 use Rattle.sheet_columns.specs.Rests.{cost-rows, no-column}
 use Rattle.sheet_columns.specs.declared.Column.{Column}
 use Rattle.sheet_columns.specs.declared.Column.the-variants as column

@@ -1,6 +1,6 @@
 // The column lines of a sheet (document 01, "Confidences and the sheet program"): their costs into lent memory, their width and count.
-use digits::Cost;
-use digits::read_cost;
+use sheet_number::Cost;
+use sheet_number::read_cost;
 ghost use Prim.Native.Nat.{_≤_};
 ghost use lib.ListN.{length};
 ghost use Rattle.sheet_columns.specs.Storing.{StoredColumn, StoredColumns};

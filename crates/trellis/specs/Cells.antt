@@ -1,6 +1,6 @@
 -- The costs to go of an automaton's extended states, row by row: what the code computes for the states of one letter, by candidates that
 -- are found once a column. Assumes nothing.
--- Used in capped, offers, row and table.
+-- Used in trellis_costs, trellis_offers, trellis_row and trellis_table.
 use Prim.Native.Nat.{ℕ, _+_, _*_, _-_, _≤_, min}
 use mathlib.Core.Path.{_≡_, refl, sym, ap, ap₂, _∙_}
 use mathlib.Core.Bool.{Bool, true, false}
@@ -9,7 +9,7 @@ use native.Mathlib.Omega.{arith}
 use Rattle.lists.specs.Order.{not-both}
 use Rattle.lists.specs.Least.{Least, least-one, least-either, least-same}
 use Rattle.automaton.specs.Automaton.{Automaton, Proper}
-use Rattle.reading.specs.Matrix.{Matrix, cost}
+use Rattle.outcome.specs.Matrix.{Matrix, cost}
 use Rattle.trellis.specs.Impossible.{TOP, plus}
 use Rattle.trellis.specs.CostToGo.{CostToGo, togo-ends, togo-never, Onward, togo-step}
 use Rattle.trellis.specs.Extended.{OnLetter, AtLetter, Step, stay, pass, arc, rest, leave, may-end, extended, step-within}

@@ -1,13 +1,13 @@
 -- The cost to go from a state: the least price of all ways from it over the columns that are left, TOP where none is below. The last
 -- row, and each row from the next. Assumes nothing.
--- Used by 6 files of specs/; in decode_phases, row, table and trace.
+-- Used by 6 files of specs/; in decode_valid, trellis_row, trellis_table and trellis_trace.
 use Prim.Native.Nat.{ℕ, _+_}
 use mathlib.Core.Path.{_≡_, refl, sym}
 use mathlib.Core.List.{List, [], _∷_}
 use native.Mathlib.Omega.{arith}
 use lib.ListN.{length}
 use Rattle.lists.specs.Least.{Least, least-same, least-through}
-use Rattle.reading.specs.Matrix.{Matrix, cost, priceFrom}
+use Rattle.outcome.specs.Matrix.{Matrix, cost, priceFrom}
 use Rattle.trellis.specs.Graph.{Graph, Way, way-step, way-split, way-here, way-none}
 use Rattle.trellis.specs.Impossible.{TOP, plus}
 

@@ -1,13 +1,13 @@
 -- One mark for the impossible: a price that no path of usable costs reaches. A sum that stops at it takes a cost above it, hence a
 -- barred one, as impossible. Assumes nothing.
--- Used by 6 files of specs/; in capped, column, decode_phases, offers, row and trace.
+-- Used by 6 files of specs/; in trellis_costs, trellis_column, decode_valid, trellis_offers, trellis_row and trellis_trace.
 use Prim.Native.Nat.{ℕ, _+_, _*_, _≤_, _<_, min}
 use mathlib.Core.Path.{_≡_, refl}
 use mathlib.Core.List.{List, [], _∷_}
 use native.Mathlib.Omega.{arith}
 use lib.ListN.{length}
 use Rattle.lists.specs.Each.{Each, each-anywhere}
-use Rattle.reading.specs.Matrix.{Matrix, cost, priceFrom, Usable, PathFrom, CostsPass}
+use Rattle.outcome.specs.Matrix.{Matrix, cost, priceFrom, Usable, PathFrom, CostsPass}
 
 abbrev pub TOP : ℕ
 TOP = 1000000000

@@ -1,6 +1,6 @@
 -- What there is to read by an automaton, from the cost to go of its state 0: nothing where that is TOP, and else the best way.
 -- Assumes nothing.
--- Used in decode_phases.
+-- Used in decode_valid.
 use Prim.Native.Nat.{ℕ, _+_, _≤_, _<_}
 use mathlib.Core.Path.{_≡_, refl, sym, subst}
 use mathlib.Core.Option.{some, none}
@@ -11,8 +11,8 @@ use lib.ListN.{length}
 use Rattle.lists.specs.Order.{lt-or-le}
 use Rattle.lists.specs.Each.{Each}
 use Rattle.automaton.specs.Automaton.{Automaton, Accepts, Proper}
-use Rattle.reading.specs.Matrix.{Matrix, price, CostsPass}
-use Rattle.reading.specs.Reading.{Rival, Best, Outcome}
+use Rattle.outcome.specs.Matrix.{Matrix, price, CostsPass}
+use Rattle.outcome.specs.Reading.{Rival, Best, Outcome}
 use Rattle.trellis.specs.Graph.{Way}
 use Rattle.trellis.specs.Impossible.{TOP, path-below, below-path}
 use Rattle.trellis.specs.CostToGo.{CostToGo}

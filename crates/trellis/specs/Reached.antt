@@ -1,6 +1,6 @@
 -- One column of the trace through extended states: the states that a step from the set leads to, those of them that keep to the price,
 -- and the lowest label among these. Assumes nothing.
--- Used in column, steps and trace.
+-- Used in trellis_column, trellis_steps and trellis_trace.
 use Prim.Native.Nat.{ℕ, _+_, _*_, _/_, _%_, _≤_}
 use mathlib.Core.Path.{_≡_, sym, ap, _∙_, subst}
 use mathlib.Core.Bool.{cond}
@@ -8,7 +8,7 @@ use native.Mathlib.Omega.{arith}
 use lib.Dec.{eqb}
 use borrow.Author.Tests.{eq-eqb, ne-eqb}
 use Rattle.automaton.specs.Automaton.{Automaton, Proper}
-use Rattle.reading.specs.Matrix.{Matrix, cost}
+use Rattle.outcome.specs.Matrix.{Matrix, cost}
 use Rattle.trellis.specs.Impossible.{plus}
 use Rattle.trellis.specs.CostToGo.{CostToGo}
 use Rattle.trellis.specs.Trace.{Shared, Tight, Chosen, some-tight}

@@ -1,12 +1,12 @@
 -- A table of costs to go in a list of numbers: one row for each column and one for the end, a row having the states 0 to 2L.
 -- Assumes nothing.
--- Used in row, table and trace.
+-- Used in trellis_row, trellis_table and trellis_trace.
 use Prim.Native.Nat.{ℕ, _+_, _*_, _≤_}
 use mathlib.Core.Path.{_≡_}
 use mathlib.Core.List.{List}
 use lib.ListN.{getD}
 use Rattle.automaton.specs.Automaton.{Automaton}
-use Rattle.reading.specs.Matrix.{Matrix}
+use Rattle.outcome.specs.Matrix.{Matrix}
 use Rattle.trellis.specs.CostToGo.{CostToGo}
 use Rattle.trellis.specs.Extended.{extended}
 

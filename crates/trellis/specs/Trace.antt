@@ -1,6 +1,6 @@
 -- The trace: through all states that share the cost to go, column by column, the lowest label that keeps to the price. What it writes is
 -- the best way: the cheapest, and the first by labels among equals. Assumes nothing.
--- Used by Outcome and Reached; in trace.
+-- Used by Outcome and Reached; in trellis_trace.
 use Prim.Native.Nat.{ℕ, _+_, _-_, _≤_, _<_}
 use mathlib.Core.Path.{_≡_, refl, sym, ap, subst}
 use mathlib.Core.List.{List, [], _∷_, _++_, append-assoc, append-nil}
@@ -8,9 +8,9 @@ use mathlib.Core.Logic.{inl, inr, ⊎-elim}
 use native.Mathlib.Omega.{arith}
 use lib.ListN.{length}
 use Rattle.lists.specs.Order.{lt-or-le}
-use Rattle.reading.specs.Best.{BestOf, best-same}
-use Rattle.reading.specs.Matrix.{Matrix, cost, priceFrom}
-use Rattle.reading.specs.Order.{NotAfter}
+use Rattle.outcome.specs.Best.{BestOf, best-same}
+use Rattle.outcome.specs.Matrix.{Matrix, cost, priceFrom}
+use Rattle.outcome.specs.Order.{NotAfter}
 use Rattle.trellis.specs.Graph.{Graph, Way, way-step, way-split}
 use Rattle.trellis.specs.Impossible.{TOP, plus}
 use Rattle.trellis.specs.CostToGo.{WayOf, CostToGo}

@@ -6,8 +6,8 @@ use super::show;
 fn compiled(line: &[u8], form: &mut [u32]) -> usize {
     let mut counts = [0u32; 1];
     let refused = kavurehy::kavurehy_compile(
-        fields::field(line, 1),
-        fields::field(line, 2),
+        vectors_fields::field(line, 1),
+        vectors_fields::field(line, 2),
         form,
         &mut counts,
     );

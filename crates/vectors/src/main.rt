@@ -43,9 +43,9 @@ fn place(kind: u8) -> usize {
 fn run(kind: u8, line: &[u8], form: &[u32], words: usize) {
     let mut given = [0u8; 256];
     let mut costs = [0u32; 768];
-    let list = fields::field(line, place(kind));
-    let n = fields::labels(list, &mut given);
-    let m = fields::numbers(list, false, &mut costs);
+    let list = vectors_fields::field(line, place(kind));
+    let n = vectors_fields::labels(list, &mut given);
+    let m = vectors_fields::numbers(list, false, &mut costs);
     call(
         kind,
         line,
@@ -57,9 +57,9 @@ fn run(kind: u8, line: &[u8], form: &[u32], words: usize) {
 
 // Does what the line says; how many words the form has for the lines behind it.
 fn one(line: &[u8], form: &mut [u32; 16258], words: usize) -> usize {
-    match characters::peek(line, 0) {
+    match text::peek(line, 0) {
         b'E' => calls::compile(line, form),
-        b'F' => fields::numbers(fields::field(line, 1), true, form),
+        b'F' => vectors_fields::numbers(vectors_fields::field(line, 1), true, form),
         b'N' => parts::size(line, 1),
         kind => {
             run(kind, line, form, words);
@@ -72,7 +72,7 @@ fn all(input: &[u8], form: &mut [u32; 16258]) {
     let mut at = 0;
     let mut words = 0;
     while at < input.len() {
-        let end = characters::find(input, at, b'\n');
+        let end = text::find(input, at, b'\n');
         words = one(&input[at..end], form, words);
         at = end + 1;
     }

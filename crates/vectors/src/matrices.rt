@@ -44,8 +44,8 @@ pub fn read(line: &[u8], costs: &[u32]) {
     let w = parts::room(line, 6, 256);
     let k = parts::room(line, 7, 65281);
     let refused = kavurehy::kavurehy_read(
-        fields::field(line, 9),
-        fields::field(line, 1),
+        vectors_fields::field(line, 9),
+        vectors_fields::field(line, 1),
         costs,
         parts::size(line, 3),
         parts::size(line, 4),

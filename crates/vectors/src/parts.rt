@@ -5,14 +5,14 @@ ghost use lib.ListN.{length, take, replicate};
 
 // The number in field k.
 pub fn size(line: &[u8], k: usize) -> usize {
-    fields::size(fields::field(line, k))
+    vectors_fields::size(vectors_fields::field(line, k))
 }
 
 // The number in field k, or `most`: so many places of memory that is filled with 9.
 pub fn room(line: &[u8], k: usize, most: usize) -> usize
     ensures { λ r. ⌜ (r ≤ most) × (r ≡ length (take r (replicate {A = ℕ} most 9))) ⌝ }
 {
-    fields::room(fields::field(line, k), most)
+    vectors_fields::room(vectors_fields::field(line, k), most)
 }
 
 // The first n words of a form, or all.

@@ -39,7 +39,7 @@ pub fn say(k: usize) {
 
 // Field k of a line.
 pub fn field(line: &[u8], k: usize) {
-    io::write_all(STDOUT_FILENO, fields::field(line, k));
+    io::write_all(STDOUT_FILENO, vectors_fields::field(line, k));
 }
 
 // A number behind a space.

@@ -4,7 +4,7 @@ use lib.ListN.{length}
 use denote.Ref.{now}
 use Rattle.refusal.specs.declared.Refusal.the-variants.{Letters}
 use Rattle.refusal.specs.Report.{reported, Fills, fills-refused}
-use Rattle.expression.specs.Read.{expressionOf}
+use Rattle.regex.specs.Read.{expressionOf}
 use Rattle.compile.specs.Call.{read-form}
 use Rattle.compile.specs.Steps.{text-refused, text-many, text-compilable, text-form}
 use borrow.Author.Needs.{needs}

@@ -36,7 +36,7 @@ use denote.Triple.Table.{entered, cited}
 use denote.Triple.Walked.{says}
 use denote.Triple.Clauses.{ensured, Lasts, lasts}
 use Rattle.answers.specs.Decoded.{reported}
-use Rattle.reading.specs.Matrix.{matrix, Matrix as Value}
+use Rattle.outcome.specs.Matrix.{matrix, Matrix as Value}
 use Rattle.decode.specs.View.{value}
 use Rattle.decode.specs.Promise.{Decodes}
 use Rattle.decode.specs.declared.Matrix.{Matrix}

@@ -9,7 +9,7 @@ use borrow.Author.Needs.{needs}
 use Rattle.automaton.specs.Automaton.{Accepts}
 use Rattle.automaton.specs.Form.{view, alphabetOf}
 use Rattle.automaton.specs.Valid.{valid-at, view-proper}
-use Rattle.letter_sets.specs.Sets.{Advanced, SpellsFrom, begin, set-more, set-end}
+use Rattle.form_sets.specs.Sets.{Advanced, SpellsFrom, begin, set-more, set-end}
 use Rattle.judge.proofs.accepts.Statement.{statement}
 use Rattle.judge.proofs.accepts.Tie as tie
 

@@ -6,7 +6,7 @@ use denote.Ref.{now}
 use borrow.Author.Tests.{not-true, not-false}
 use Rattle.refusal.specs.Verdict.{passed}
 use Rattle.answers.specs.Judgement.{Judgement, report}
-use Rattle.labels.specs.Calls.{label-fault}
+use Rattle.ctc_labels.specs.Calls.{label-fault}
 use Rattle.automaton.specs.Form.{validForm}
 use Rattle.automaton.specs.Valid.{valid-at}
 use Rattle.judge.specs.Judge.{judged, judged-invalid, judged-no-word, judged-word}

@@ -4,11 +4,11 @@ use lib.ListN.{length}
 use denote.Ref.{now}
 use Rattle.refusal.specs.Verdict.{first-refusal}
 use Rattle.automaton.specs.Form.{lettersOf}
-use Rattle.reading.specs.Matrix.{Matrix, matrix}
+use Rattle.outcome.specs.Matrix.{Matrix, matrix}
 use Rattle.decode_checks.specs.Checks.{matrix-checks}
 use Rattle.decode_checks.specs.Passing.{Fits, fits}
-use Rattle.decode_phases.specs.Answers.{Lent, rooms, checks-refused, checks-passed}
-use Rattle.read_word.specs.Words.{ReadsAccepted}
+use Rattle.decode_valid.specs.Answers.{Lent, rooms, checks-refused, checks-passed}
+use Rattle.read_valid.specs.Words.{ReadsAccepted}
 use borrow.Author.Needs.{needs}
 use Rattle.read_text.proofs.read_form.Statement.{statement}
 use Rattle.read_text.proofs.read_form.Tie as tie

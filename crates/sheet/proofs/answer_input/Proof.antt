@@ -4,7 +4,7 @@ use mathlib.Core.List.{[]}
 use denote.Ref.{now}
 use borrow.Author.Needs.{needs}
 use Rattle.lists.specs.Written.{written-none}
-use Rattle.read_print.specs.Promise.{Answers, answers}
+use Rattle.sheet_read.specs.Promise.{Answers, answers}
 use Rattle.sheet.specs.declared.Input.the-variants as input
 use Rattle.sheet.specs.Inputs.{Arrived, PrintsInput}
 use Rattle.sheet.proofs.answer_input.Statement.{statement}

@@ -1,0 +1,49 @@
+// Lists of labels (document 01, "Alphabet, labels, paths"): are they in range, and which lists are turned away.
+ghost use mathlib.Core.Path.{_≡_};
+ghost use Rattle.lists.specs.Ranges.{in-range};
+ghost use Rattle.lists.specs.Each.{all};
+ghost use Rattle.ctc_labels.specs.Calls.{label-fault};
+
+// A label as a number.
+pub fn wide(x: u8) -> usize
+    ensures { λ r. ⌜ r ≡ x ⌝ }
+{
+    x as usize
+}
+
+// Is x from `low` to `high`?
+fn in_range(low: usize, high: usize, x: usize) -> bool
+    ensures { λ r. ⌜ r ≡ in-range low high x ⌝ }
+{
+    if x < low {
+        return false;
+    }
+    x <= high
+}
+
+// Is each number of a list from `low` to `high`?
+pub fn all_in_range(low: usize, high: usize, list: &[u8]) -> bool
+    ensures { λ r. ⌜ r ≡ all (in-range low high) (now (list .entry)) ⌝ }
+{
+    let mut i: usize = 0;
+    while i < list.len() {
+        if !in_range(low, high, wide(list[i])) {
+            return false;
+        }
+        i += 1;
+    }
+    true
+}
+
+// Is the list turned away as no list of labels of an alphabet of k characters? (Refusal 17.)
+pub fn has_fault(k: usize, low: usize, list: &[u8]) -> bool
+    ensures { λ r. ⌜ r ≡ label-fault k low (now (list .entry)) ⌝ }
+{
+    if !in_range(1, 95, k) {
+        return true;
+    }
+    if 255 < list.len() {
+        return true;
+    }
+    !all_in_range(low, k, list)
+}

@@ -1,0 +1,78 @@
+// The call Spread, on labels and lent memory (document 01, "Alphabet, labels, paths").
+use ctc_labels::has_fault;
+use refusal::Counted;
+use refusal::Refusal;
+ghost use mathlib.Core.Path.{_≡_};
+ghost use Prim.Native.Nat.{_+_, _<_, _≤_};
+ghost use mathlib.Core.Bool.{cond};
+ghost use lib.Dec.{eqb};
+ghost use lib.ListN.{length};
+ghost use Rattle.lists.specs.Each.{Each};
+ghost use Rattle.lists.specs.Written.{Wrote, Stored};
+ghost use Rattle.refusal.specs.Report.{reported, Fills};
+ghost use Rattle.ctc.specs.Spread.{spread as spreadOf, pairs};
+ghost use Rattle.ctc_spread.specs.Calls.{spread-call, spaced};
+
+// 1 for equal labels, else 0.
+fn one_if_equal(a: u8, b: u8) -> usize
+    ensures { λ r. ⌜ r ≡ cond (eqb a b) 1 0 ⌝ }
+{
+    if a == b { 1 } else { 0 }
+}
+
+// How many pairs of equal neighbours a word has.
+fn count_pairs(word: &[u8]) -> usize
+    ensures { λ r. ⌜ r ≡ pairs (now (word .entry)) ⌝ }
+{
+    let mut n: usize = 0;
+    let mut i: usize = 0;
+    while i + 1 < word.len() {
+        n += one_if_equal(word[i], word[i + 1]);
+        i += 1;
+    }
+    n
+}
+
+// Letter x behind letter a goes to place n of the path, with a blank in front if they are equal; the next place.
+fn put_spaced(path: &mut [u8], n: usize, a: u8, x: u8) -> usize
+    requires { ⌜ n + length (spaced a x) ≤ length (now path) ⌝ }
+    ensures { λ r. ⌜ Stored (spaced a x) n (now (path .entry)) (now (path .exit)) r ⌝ }
+{
+    if a == x {
+        path[n] = 0;
+        path[n + 1] = x;
+        return n + 2;
+    }
+    path[n] = x;
+    n + 1
+}
+
+// Writes the spread of a word without blanks; its length.
+fn write_spread(word: &[u8], path: &mut [u8]) -> usize
+    requires { ⌜ (length (spreadOf (now word)) ≤ length (now path)) × Each (0 <_) (now word) ⌝ }
+    ensures { λ r. ⌜ Wrote (spreadOf (now (word .entry))) (now (path .entry)) (now (path .exit)) r ⌝ }
+{
+    let mut a: u8 = 0;
+    let mut n: usize = 0;
+    let mut i: usize = 0;
+    while i < word.len() {
+        let x = word[i];
+        n = put_spaced(path, n, a, x);
+        a = x;
+        i += 1;
+    }
+    n
+}
+
+// Document 01's Spread: the shortest path that collapses to a word of labels 1 to k.
+pub fn spread(k: usize, word: &[u8], path: &mut [u8]) -> Counted
+    ensures { λ r. ⌜ Fills (spread-call k (now (word .entry)) (length (now (path .entry)))) (reported r) (now (path .entry)) (now (path .exit)) ⌝ }
+{
+    if path.len() < word.len() + count_pairs(word) {
+        return Counted::Refused(Refusal::OutputMemory);
+    }
+    if has_fault(k, 1, word) {
+        return Counted::Refused(Refusal::Label);
+    }
+    Counted::Filled(write_spread(word, path))
+}

@@ -1,0 +1,74 @@
+-- What Decode and Read answer past their checks (demand 3), for any set of words, and what a refusal by the checks leaves. Assumes nothing.
+-- Used by the contracts, the proofs, Demand and Phases; in decode, kavurehy, sheet_read, read_text, read_valid and read.
+use Prim.Native.Nat.{ℕ}
+use mathlib.Core.Path.{_≡_, refl}
+use mathlib.Core.Option.{Option, some, none}
+use mathlib.Core.List.{List, []}
+use lib.ListN.{length, drop}
+use Rattle.lists.specs.Written.{written}
+use Rattle.refusal.specs.declared.Refusal.{Refusal}
+use Rattle.refusal.specs.declared.Refusal.the-variants.{NoReading}
+use Rattle.refusal.specs.declared.Checked.{Checked}
+use Rattle.refusal.specs.declared.Checked.the-variants.{Passed, Refused}
+use Rattle.refusal.specs.Report.{Report, turned-away}
+use Rattle.answers.specs.Decoded.{read}
+use Rattle.ctc.specs.Collapse.{collapse}
+use Rattle.automaton.specs.Automaton.{Accepts}
+use Rattle.automaton.specs.Form.{view, lettersOf}
+use Rattle.outcome.specs.Matrix.{Matrix, price}
+use Rattle.outcome.specs.Reading.{Outcome}
+use Rattle.decode_checks.specs.Checks.{Rooms, needed}
+
+-- the lent lists
+pub record Lent : Type 0 where
+  pub path : List ℕ
+  pub word : List ℕ
+  pub work : List ℕ
+
+abbrev pub rooms : Lent → Rooms
+rooms m = record { path = length (m .path); word = length (m .word); work = length (m .work) }
+
+-- What is reported of an outcome, and what stands in path and word memory.
+
+abbrev pub outcome-report : (form : ℕ) → Matrix → Option (List ℕ) → Report
+outcome-report k M none = turned-away NoReading
+outcome-report k M (some p) = read (price M p) (length (collapse p)) k
+
+abbrev pub path-of : Option (List ℕ) → List ℕ
+path-of none = []
+path-of (some p) = p
+
+abbrev pub word-of : (spelt : List ℕ → List ℕ) → Option (List ℕ) → List ℕ
+word-of spelt none = []
+word-of spelt (some p) = spelt (collapse p)
+
+-- a word as labels
+abbrev pub labels : List ℕ → List ℕ
+labels w = w
+
+-- Past the checks: the outcome for this set of words, reported, and written with the word as `spelt` has it; the work words that are not
+-- needed are as they were.
+pub record Answers (Word : List ℕ → Type 0) (spelt : List ℕ → List ℕ) (form : ℕ) (M : Matrix) (need : ℕ) (before after : Lent) (answer : Report) : Type 0 where
+  pub outcome : Option (List ℕ)
+  pub is : Outcome Word M outcome
+  pub answered : answer ≡ outcome-report form M outcome
+  pub path : after .path ≡ written (path-of outcome) (before .path)
+  pub word : after .word ≡ written (word-of spelt outcome) (before .word)
+  pub work : drop need (after .work) ≡ drop need (before .work)
+  pub size : length (after .work) ≡ length (before .work)
+
+-- A refusal by the checks: its number, zeros, and all memory as it was.
+abbrev pub Checks : Checked → (Passes : (before after : Lent) (answer : Report) → Type 0) (before after : Lent) (answer : Report) → Type 0
+Checks (Refused n) Passes before after answer = (answer ≡ turned-away n) × (after ≡ before)
+Checks Passed Passes before after answer = Passes before after answer
+
+module _ (c : Checked) (Passes : (before after : Lent) (answer : Report) → Type 0) where
+  pub checks-refused : (n : Refusal) (memory : Lent) → c ≡ Refused n → Checks c Passes memory memory (turned-away n)
+  checks-refused n memory e = rw e (refl, refl)
+
+  pub checks-passed : (before after : Lent) (answer : Report) → c ≡ Passed → Passes before after answer → Checks c Passes before after answer
+  checks-passed before after answer e h = rw e h
+
+-- what Decode answers past its checks
+abbrev pub DecodeAnswers : (form : List ℕ) (M : Matrix) (before after : Lent) (answer : Report) → Type 0
+DecodeAnswers f M = Answers (Accepts (view f)) labels 0 M (needed (M .count) (lettersOf f))

@@ -1,0 +1,33 @@
+// Decode past its checks (document 01, "Extended states and decoding").
+use answers::Decoded;
+use form_words::letters;
+use refusal::Refusal;
+ghost use Rattle.answers.specs.Decoded.{reported};
+ghost use Rattle.automaton.specs.Form.{alphabetOf, lettersOf};
+ghost use Rattle.automaton.specs.Valid.{Valid};
+ghost use Rattle.outcome.specs.Matrix.{matrix};
+ghost use Rattle.decode_checks.specs.Passing.{Fits};
+ghost use Rattle.decode_valid.specs.Answers.{rooms, DecodeAnswers};
+
+// Fills the table of costs to go and traces the best path through it; a price of TOP says that there is none.
+pub fn decode_valid(
+    form: &[u32],
+    costs: &[u32],
+    width: usize,
+    count: usize,
+    path: &mut [u8],
+    word: &mut [u8],
+    work: &mut [u32],
+) -> Decoded
+    requires { ⌜ Valid (now form) × Fits (alphabetOf (now form)) (lettersOf (now form)) (matrix (now costs) width count) (rooms (record { path = now path; word = now word; work = now work })) ⌝ }
+    ensures { λ r. ⌜ DecodeAnswers (now (form .entry)) (matrix (now (costs .entry)) width count) (record { path = now (path .entry); word = now (word .entry); work = now (work .entry) }) (record { path = now (path .exit); word = now (word .exit); work = now (work .exit) }) (reported r) ⌝ }
+{
+    let stride = 2 * letters(form) + 1;
+    let price = trellis_table::fill(form, costs, width, count, work);
+    if trellis_table::TOP <= price {
+        return Decoded::Refused(Refusal::NoReading);
+    }
+    trellis_trace::trace(form, costs, width, count, work, 0, stride, path);
+    let length = ctc_collapse::write_collapse(&path[..count], word);
+    Decoded::Path { price, length }
+}

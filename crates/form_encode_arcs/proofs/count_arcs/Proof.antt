@@ -1,0 +1,77 @@
+-- `form_encode_arcs::count_arcs` meets its contract: the arcs counted and those of the rows still to come make the whole. Assumes nothing.
+use Prim.Native.Nat.{_+_, _-_, _*_, _≤_}
+use mathlib.Core.Path.{_≡_, ap}
+use mathlib.Core.List.{flatMap}
+use native.Mathlib.Omega.{arith}
+use lib.ListN.{length}
+use denote.Ref.{now}
+use Rattle.form_encode_arcs.specs.Rows.{rowAt, arcsBy}
+use Rattle.lists.specs.Remaining.{from}
+use Rattle.form_encode_arcs.specs.Turns.{arcs-first, count-row-here, count-row-past}
+use Rattle.form_encode_arcs.proofs.count_arcs.Statement.{statement}
+use Rattle.form_encode_arcs.proofs.count_arcs.Tie as tie
+
+abbrev Inv-loop : tie.InvT-loop
+Inv-loop letters follow n₀ i₀ n i =
+    (1 ≤ i) × (i ≤ letters + 1) × (n + 127 ≤ 127 * i) × (n + length (flatMap (rowAt letters follow) (from letters i)) ≡ length (arcsBy letters follow))
+
+abbrev μ-loop : tie.MeasureT-loop
+μ-loop letters follow n₀ i₀ n i = letters + 1 - i
+
+loop-holds : tie.Need-loop-holds Inv-loop μ-loop
+loop-holds c =
+    let s = c .args in
+    let e = ap length (arcs-first (s .letters) (now (s .follow))) in
+    (omega arith, omega arith, omega arith, omega arith)
+
+sub-count-row : tie.Need-sub-count-row Inv-loop μ-loop
+sub-count-row c = omega arith
+
+mul-count-row : tie.Need-mul-count-row Inv-loop μ-loop
+mul-count-row c = omega arith
+
+shared-slice-element-count-row : tie.Need-shared-slice-element-count-row Inv-loop μ-loop
+shared-slice-element-count-row c = omega arith
+
+count-row-requires : tie.Need-count-row-requires Inv-loop μ-loop
+count-row-requires c κs = omega arith
+
+add-n : tie.Need-add-n Inv-loop μ-loop
+add-n c = omega arith
+
+add-i : tie.Need-add-i Inv-loop μ-loop
+add-i c = omega arith
+
+loop-less : tie.Need-loop-less Inv-loop μ-loop
+loop-less c = omega arith
+
+loop-again : tie.Need-loop-again Inv-loop μ-loop
+loop-again c =
+    let s = c .before .before .before .before .before .args in
+    let l = c .before .before .before .before .loop in
+    let t = count-row-here (s .letters) (now (s .follow)) (l .i) (omega arith) in
+    (omega arith, omega arith, omega arith, omega arith)
+
+returns : tie.Need-returns Inv-loop μ-loop
+returns c =
+    let s = c .before .before .args in
+    let l = c .before .loop in
+    let z = count-row-past (s .letters) (now (s .follow)) (l .i) (omega arith) in
+    (omega arith, omega arith)
+
+pub count-arcs-spec : {M : Type 1} → statement M
+count-arcs-spec =
+    tie.close
+    (tie.spec
+    Inv-loop
+    μ-loop
+    loop-holds
+    sub-count-row
+    mul-count-row
+    shared-slice-element-count-row
+    count-row-requires
+    add-n
+    add-i
+    loop-less
+    loop-again
+    returns)

@@ -1,0 +1,75 @@
+-- `form_encode_arcs::count_row` meets its contract: the letters counted and those still to come make the whole. Assumes nothing.
+use Prim.Native.Nat.{_+_, _-_, _<_, _≤_}
+use mathlib.Core.Path.{_≡_, ap}
+use native.Mathlib.Omega.{arith}
+use lib.ListN.{length}
+use borrow.Author.Needs.{needs}
+use denote.Ref.{now}
+use Rattle.lists.specs.Among.{keep}
+use Rattle.lists.specs.Ascending.{numbers}
+use Rattle.form_encode_arcs.specs.Rows.{has}
+use Rattle.lists.specs.Remaining.{from, from-first}
+use Rattle.form_encode_arcs.specs.Turns.{count-here, count-past}
+use Rattle.form_encode_arcs.proofs.count_row.Statement.{statement}
+use Rattle.form_encode_arcs.proofs.count_row.Tie as tie
+
+abbrev Inv-loop : tie.InvT-loop
+Inv-loop letters row n₀ j₀ n j =
+    (n < j) × (j ≤ letters + 1) × (n + length (keep (has row) (from letters j)) ≡ length (keep (has row) (numbers 1 letters)))
+
+abbrev μ-loop : tie.MeasureT-loop
+μ-loop letters row n₀ j₀ n j = letters + 1 - j
+
+loop-holds : tie.Need-loop-holds Inv-loop μ-loop
+loop-holds c =
+    let s = c .before .args in
+    let e = ap (λ js. length (keep (has (now (s .row))) js)) (from-first (s .letters)) in
+    (omega arith, omega arith, omega arith)
+
+sub-one-if : tie.Need-sub-one-if Inv-loop μ-loop
+sub-one-if c = omega arith
+
+shared-slice-read-one-if : tie.Need-shared-slice-read-one-if Inv-loop μ-loop
+shared-slice-read-one-if c = omega arith
+
+one-if-requires : tie.Need-one-if-requires Inv-loop μ-loop
+one-if-requires c κs = search needs
+
+add-n : tie.Need-add-n Inv-loop μ-loop
+add-n c = omega arith
+
+add-j : tie.Need-add-j Inv-loop μ-loop
+add-j c = omega arith
+
+loop-less : tie.Need-loop-less Inv-loop μ-loop
+loop-less c = omega arith
+
+loop-again : tie.Need-loop-again Inv-loop μ-loop
+loop-again c =
+    let s = c .before .before .before .before .before .args in
+    let l = c .before .before .before .loop in
+    let t = count-here (s .letters) (now (s .row)) (l .j) (omega arith) in
+    (omega arith, omega arith, omega arith)
+
+returns : tie.Need-returns Inv-loop μ-loop
+returns c =
+    let s = c .before .before .before .args in
+    let l = c .before .loop in
+    let z = count-past (s .letters) (now (s .row)) (l .j) (omega arith) in
+    (omega arith, omega arith)
+
+pub count-row-spec : {M : Type 1} → statement M
+count-row-spec =
+    tie.close
+    (tie.spec
+    Inv-loop
+    μ-loop
+    loop-holds
+    sub-one-if
+    shared-slice-read-one-if
+    one-if-requires
+    add-n
+    add-j
+    loop-less
+    loop-again
+    returns)

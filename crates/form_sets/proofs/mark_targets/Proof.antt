@@ -1,0 +1,71 @@
+-- `form_sets::mark_targets` meets its contract: the turns so far have marked the targets of their arcs. Assumes nothing.
+use Prim.Native.Nat.{_≤_, _-_}
+use mathlib.Core.Path.{_≡_, subst, _∙_}
+use native.Mathlib.Omega.{arith}
+use denote.Ref.{now}
+use Rattle.lists.specs.Marks.{Marks, Turns, turns-none, turns-more}
+use Rattle.form_sets.specs.Sets.{Labelled, Reached}
+use Rattle.form_sets.proofs.mark_targets.Statement.{statement}
+use Rattle.form_sets.proofs.mark_targets.Tie as tie
+
+abbrev Inv-loop : tie.InvT-loop
+Inv-loop form x b e set₀ n₀ set n = (b ≤ n) × (n ≤ e) × Marks (Turns (Reached form x) b n) set₀ set
+
+abbrev μ-loop : tie.MeasureT-loop
+μ-loop form x b e set₀ n₀ set n = e - n
+
+loop-holds : tie.Need-loop-holds Inv-loop μ-loop
+loop-holds c =
+    let a = c .before .args in
+    let p = c .before .pre in
+    (omega arith, p .3, turns-none (Reached (now (a .form)) (a .x)) (a .b) (now (a .set)))
+
+target-requires : tie.Need-target-requires Inv-loop μ-loop
+target-requires c κs = let p = c .before .before .before .pre in omega arith
+
+mark-requires : tie.Need-mark-requires Inv-loop μ-loop
+mark-requires c κs =
+    let p = c .before .before .before .before .before .pre in
+    let l = c .before .before .before .loop in
+    let arc = p .0 .arc (l .n) (omega arith) (omega arith) in
+    let few = p .0 .head .letters-high in
+    let long = p .0 .long in
+    let t = c .before .target .ensures in
+    (l .inv .2 .size ∙ p .1, omega arith, omega arith)
+
+add-n : tie.Need-add-n Inv-loop μ-loop
+add-n c = omega arith
+
+loop-less : tie.Need-loop-less Inv-loop μ-loop
+loop-less c = omega arith
+
+loop-again : tie.Need-loop-again Inv-loop μ-loop
+loop-again c =
+    let a = c .before .before .before .before .before .before .args in
+    let l = c .before .before .before .before .loop in (
+      omega arith,
+      omega arith,
+      turns-more (Reached (now (a .form)) (a .x)) (a .b) (l .n) (now (a .set)) (l .set) (c .mark .last .1 .1 .1 .0) (l .inv .0) (l .inv .2)
+          (subst (λ j. Marks (Labelled (now (a .form)) (a .x) j) (l .set) (c .mark .last .1 .1 .1 .0)) (c .before .before .target .ensures) (c .mark .ensures)),
+    )
+
+returns : tie.Need-returns Inv-loop μ-loop
+returns c =
+    let a = c .before .before .before .args in
+    let l = c .before .loop in
+    let end : l .n ≡ a .e = omega arith in
+    subst (λ n. Marks (Turns (Reached (now (a .form)) (a .x)) (a .b) n) (now (a .set)) (l .set)) end (l .inv .2)
+
+pub mark-targets-spec : {M : Type 1} → statement M
+mark-targets-spec =
+    tie.close
+    (tie.spec
+    Inv-loop
+    μ-loop
+    loop-holds
+    target-requires
+    mark-requires
+    add-n
+    loop-less
+    loop-again
+    returns)

@@ -1,0 +1,37 @@
+-- The part of a text that is read at a place, where one is. Assumes nothing.
+-- Used by the contracts and 6 files of specs/.
+use mathlib.Core.Path.{_≡_}
+use mathlib.Core.List.{List}
+use mathlib.Core.Bool.{true}
+use Prim.Native.Nat.{ℕ}
+use lib.ListN.{drop}
+use Rattle.regex.specs.Tree.{Count, Tree}
+use Rattle.regex.specs.Read.{Mode, m-group, read}
+use Rattle.positions.specs.Opened.{Opened, opened, repeated}
+use Rattle.text.specs.Place.{place}
+use Rattle.regex_bracket.specs.Answers.{is-found}
+use Rattle.positions_letters.specs.Found.{restOf, treeOf, countOf, counted}
+use Rattle.positions_build.specs.Copies.{fewer}
+
+-- in a text over the alphabet A
+module _ (A text : List ℕ) where
+  -- a part is found, where d more groups may be opened
+  abbrev pub PartAt : Mode → ℕ → ℕ → Type 0
+  PartAt m d at = is-found (read A m d (drop at text)) ≡ true
+
+  -- its tree, where it ends, and how it opens
+  abbrev pub treeAt : Mode → ℕ → ℕ → Tree
+  treeAt m d at = treeOf (read A m d (drop at text))
+
+  abbrev pub endAt : Mode → ℕ → ℕ → ℕ
+  endAt m d at = place text (restOf (read A m d (drop at text)))
+
+  abbrev pub openedAt : Mode → ℕ → ℕ → Opened
+  openedAt m d at = opened A (treeAt m d at)
+
+  -- the count of the piece, and what is left of it behind k copies
+  abbrev pub countAt : ℕ → ℕ → Count
+  countAt d at = countOf (counted (drop (endAt m-group d at) text))
+
+  abbrev pub leftAt : ℕ → ℕ → ℕ → Opened
+  leftAt d at k = repeated (openedAt m-group d at) (fewer (countAt d at) k)

@@ -1,0 +1,39 @@
+// Sets of letters as arrays of bools, and the follow relation as an array of such rows, one row a letter; the letter of number i stands
+// at index i - 1.
+ghost use mathlib.Core.Path.{_≡_};
+ghost use mathlib.Core.Bool.{_||_};
+ghost use Prim.Native.Nat.{_≤_};
+ghost use lib.ListN.{length};
+ghost use Rattle.positions_follow.specs.Sets.{Union, Linked};
+
+pub fn either(a: bool, b: bool) -> bool
+    ensures { λ r. ⌜ r ≡ (a || b) ⌝ }
+{
+    if a { true } else { b }
+}
+
+// The set a becomes its union with the set b.
+pub fn unite(a: &mut [bool], b: &[bool])
+    requires { ⌜ length (now b) ≤ length (now a) ⌝ }
+    ensures { λ _. ⌜ Union (now (a .entry)) (now (b .entry)) (now (a .exit)) ⌝ }
+{
+    let mut i: usize = 0;
+    while i < b.len() {
+        a[i] = either(a[i], b[i]);
+        i += 1;
+    }
+}
+
+// Adds an arc from each letter of one set to each letter of the other.
+pub fn link(follow: &mut [[bool; 127]], from: &[bool], to: &[bool])
+    requires { ⌜ (length (now from) ≤ length (now follow)) × (length (now to) ≤ 127) ⌝ }
+    ensures { λ _. ⌜ Linked (now (from .entry)) (now (to .entry)) (now (follow .entry)) (now (follow .exit)) ⌝ }
+{
+    let mut i: usize = 0;
+    while i < from.len() {
+        if from[i] {
+            unite(&mut follow[i], to);
+        }
+        i += 1;
+    }
+}

@@ -1,0 +1,77 @@
+-- The three demands, as theorems on what Read promises; demands 1 and 3 by the definitions that Decode's are stated by too. Past the checks
+-- with memory enough means: no refusal but 16 applies, so Compile gives a form and the checks of the matrix and the memory pass. Assumes
+-- nothing.
+-- For the reader: nothing uses it.
+use Prim.Native.Nat.{ℕ, _<_}
+use mathlib.Core.Path.{_≡_, ap, _∙_}
+use mathlib.Core.Logic.{_↔_}
+use mathlib.Core.List.{List}
+use lib.ListN.{length, length-map}
+use Rattle.lists.specs.Each.{Each}
+use Rattle.lists.specs.Written.{written, written-none}
+use Rattle.refusal.specs.declared.Refusal.{Refusal}
+use Rattle.refusal.specs.declared.Checked.the-variants.{Passed, Refused}
+use Rattle.refusal.specs.Verdict.{passed, refused, first-refusal}
+use Rattle.refusal.specs.Report.{Report, turned-away, filling}
+use Rattle.ctc.specs.Spread.{spread, Shortest, spread-is-shortest}
+use Rattle.automaton.specs.Form.{lettersOf}
+use Rattle.outcome.specs.Matrix.{Matrix}
+use Rattle.regex.specs.Grammar.{WordsOf}
+use Rattle.compile.specs.Call.{compile-call}
+use Rattle.compile.specs.Meaning.{Means, compiled-means}
+use Rattle.decode_checks.specs.Checks.{needed, matrix-checks}
+use Rattle.decode_valid.specs.Answers.{Lent, rooms, Answers}
+use Rattle.decode_valid.specs.Demand.{Plain-rival, No-rival, Best-or-none, Kept, answers-as-demanded, none-exactly, rival-reads}
+use Rattle.read_spelling.specs.Spelling.{characters}
+use Rattle.read_text.specs.Promise.{Reads}
+
+module _ (A s : List ℕ) (M : Matrix) (form form′ : List ℕ) (before after : Lent) (answer : Report) (reads : Reads A s M form form′ before after answer) where
+  -- Demand 1: what is turned away gets its number, zeros, and memory as the table says.
+
+  pub demand-1-text : (n : Refusal) → compile-call A s (length form) ≡ refused n → (answer ≡ turned-away n) × (after ≡ before) × (form′ ≡ form)
+  demand-1-text n e =
+      let h = rw e at (reads .reads) in
+      (h .0, h .1, reads .memory ∙ ap (λ v. written (filling v) form) e ∙ written-none form)
+
+  module _ (f : List ℕ) (compiles : compile-call A s (length form) ≡ passed f) where
+    compiled : form′ ≡ written f form
+    compiled = reads .memory ∙ ap (λ v. written (filling v) form) compiles
+
+    pub demand-1-matrix :
+        (n : Refusal) → first-refusal (matrix-checks (length A) (lettersOf f) M (rooms before)) ≡ Refused n
+        → (answer ≡ turned-away n) × (after ≡ before) × (form′ ≡ written f form)
+    demand-1-matrix n e =
+        let h = rw e at (rw compiles at (reads .reads)) in
+        (h .0, h .1, compiled)
+
+    -- Demand 2: the form means the text.
+    pub demand-2 : Means A s f
+    demand-2 = compiled-means A s (length form) f compiles
+
+    module _ (passes : first-refusal (matrix-checks (length A) (lettersOf f) M (rooms before)) ≡ Passed) where
+      demanded :
+          Best-or-none (WordsOf A s) (characters A) (length A) (length f) M before after answer
+          × Kept (needed (M .count) (lettersOf f)) M before after answer
+      demanded =
+          let answers : Answers (WordsOf A s) (characters A) (length f) M (needed (M .count) (lettersOf f)) before after answer = rw passes at (rw compiles at (reads .reads)) in
+          answers-as-demanded (length A) (lettersOf f) passes (λ w. length-map w _) .0 answers
+
+      -- Demand 1 past the checks: the form is in its memory; other memory after what is counted, and after the work words that are needed,
+      -- is as it was.
+      pub demand-1-memory : (form′ ≡ written f form) × Kept (needed (M .count) (lettersOf f)) M before after answer
+      demand-1-memory = (compiled, demanded .1)
+
+      -- Demand 3: the cheapest rival, the first by labels among equals, with its word as characters; or 'no reading'.
+      pub demand-3 : Best-or-none (WordsOf A s) (characters A) (length A) (length f) M before after answer
+      demand-3 = demanded .0
+
+      -- 'no reading' exactly when there is no rival; where there is one, the number is 0
+      pub demand-3-none : (answer .number ≡ 16) ↔ No-rival (WordsOf A s) (length A) M
+      demand-3-none = none-exactly demand-3
+
+      pub demand-3-reads : (q : List ℕ) → Plain-rival (WordsOf A s) (length A) M q → answer .number ≡ 0
+      demand-3-reads = rival-reads demand-3
+
+-- Demand 2, of spread: a shortest path that collapses to the word.
+pub demand-2-spread : (w : List ℕ) → Each (λ x. 0 < x) w → Shortest w (spread w)
+demand-2-spread = spread-is-shortest

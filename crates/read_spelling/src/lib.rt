@@ -1,0 +1,16 @@
+// A word's labels as characters of the alphabet, written in place of the labels (demand 3).
+use ctc_labels::wide;
+ghost use Rattle.read_spelling.specs.Spelling.{Labels, Spelt};
+
+// Puts the character of each of the first n labels in its place.
+pub fn write_characters(alphabet: &[u8], word: &mut [u8], n: usize)
+    requires { ⌜ Labels (now alphabet) (now word) n ⌝ }
+    ensures { λ _. ⌜ Spelt (now (alphabet .entry)) n (now (word .entry)) (now (word .exit)) ⌝ }
+{
+    let mut i: usize = 0;
+    while i < n {
+        let x = wide(word[i]);
+        word[i] = alphabet[x - 1];
+        i += 1;
+    }
+}

@@ -1,0 +1,146 @@
+-- Texts read by computation: the expression lines of document 01, the readings taken of its brackets and braces, a case for each refusal
+-- and for each tie of places. Assumes nothing.
+-- Computed examples: nothing uses them.
+use mathlib.Core.Path.{_≡_, refl}
+use mathlib.Core.Option.{none}
+use mathlib.Core.List.{List, [], _∷_, _++_}
+use mathlib.Core.Bool.{Bool, true, false, _&&_}
+use Prim.Native.Nat.{ℕ, zero, suc, _-_}
+use Prim.Native.Char.{code}
+use Prim.Native.String.{String}
+use lib.ListN.{length}
+use lib.Dec.{eqb}
+use Rattle.refusal.specs.declared.Refusal.{Refusal}
+use Rattle.refusal.specs.declared.Refusal.the-variants.{MisplacedSign, Depth, Bracket, Foreign}
+use Rattle.refusal.specs.declared.Refusal.the-variants as row
+use Rattle.refusal.specs.Number.{numberOf}
+use Rattle.regex.specs.Bytes.{bytes}
+use Rattle.regex.specs.Tree.{range, Count, between, onward, except, Tree, set, group, times, join, either}
+use Rattle.regex.specs.Letters.{labelsOf, letterCount}
+use Rattle.regex.specs.Text.{Reads, found, fault, then, first-of, split, enclosed, provided}
+use Rattle.regex.specs.Sets.{closed, reserved, items, members, inside, bracket, alone, escaped, a-set, labelled-set}
+use Rattle.regex.specs.Repetition.{number, from-on, from-to, comma, counts, sign, repetition}
+use Rattle.regex.specs.Read.{grouped, step, go, read, whole, expressionOf}
+
+-- A text that is an expression, with the number of its letters; one that is refused, with the fault's place.
+data Row : Type 0 where
+  letters-of : String → ℕ → Row
+  refused-as : String → Refusal → ℕ → Row
+
+meets : List ℕ → Row → Bool
+unfolding expressionOf
+meets A (letters-of t k) = of (expressionOf A (bytes t))
+  where
+    of : Reads Tree → Bool
+    of (found r s) = eqb k (letterCount A r)
+    of (fault n s) = false
+meets A (refused-as t n k) = of (expressionOf A (bytes t))
+  where
+    of : Reads Tree → Bool
+    of (found r s) = false
+    of (fault m s) = eqb (numberOf n) (numberOf m) && eqb k (length (bytes t) - length s)
+
+-- the first row that is not as it says
+failing : List ℕ → List Row → List Row
+failing A [] = []
+failing A (r ∷ rs) = elim (meets A r) [ true ↦ failing A rs | false ↦ r ∷ [] ]
+
+-- over `ab`
+rows : List Row
+rows =
+    -- "Lines to try"
+    letters-of "ab" 2 ∷ letters-of "aa" 2 ∷ letters-of "a*" 1 ∷ letters-of "a" 1 ∷ letters-of "a|b" 2 ∷ letters-of "a{2}" 2 ∷
+    letters-of "(a|b)*" 2 ∷ letters-of "ab*" 2 ∷ letters-of "a{127}" 127 ∷ letters-of "a{128}" 128 ∷ letters-of "a*?" 1 ∷
+    refused-as "a{0}" row.Count 1 ∷ refused-as "a{2,1}" row.Count 1 ∷ refused-as "a**" MisplacedSign 2 ∷ refused-as "[b-a]" Bracket 0 ∷
+    refused-as "c" Foreign 0 ∷
+    -- 4: nothing to repeat, or a repetition after another
+    refused-as "*" MisplacedSign 0 ∷ refused-as "(+a)" MisplacedSign 1 ∷ refused-as "a|?" MisplacedSign 2 ∷ refused-as "{x" MisplacedSign 0 ∷
+    refused-as "a*{x" MisplacedSign 2 ∷ refused-as "a+*" MisplacedSign 2 ∷ refused-as "a{1}{2}" MisplacedSign 4 ∷ refused-as "a*?*" MisplacedSign 3 ∷
+    letters-of "a??" 1 ∷ refused-as "a???" MisplacedSign 3 ∷ letters-of "a{1,2}?" 2 ∷
+    -- 4: empty branch or group, at the sign that ends it or at the text's end
+    refused-as "" MisplacedSign 0 ∷ refused-as "a||b" MisplacedSign 2 ∷ refused-as "|a" MisplacedSign 0 ∷ refused-as "a|" MisplacedSign 2 ∷
+    refused-as "a()" MisplacedSign 2 ∷ refused-as "(|a)" MisplacedSign 1 ∷ refused-as "(a|)" MisplacedSign 3 ∷ refused-as "(" MisplacedSign 1 ∷
+    -- 4: stray or missing `)`, `^` or `$` unescaped, bad `\`
+    refused-as ")" MisplacedSign 0 ∷ refused-as "a)" MisplacedSign 1 ∷ refused-as "(a" MisplacedSign 2 ∷ refused-as "((a)" MisplacedSign 4 ∷
+    refused-as "^a" MisplacedSign 0 ∷ refused-as "a$" MisplacedSign 1 ∷ refused-as "\\a" MisplacedSign 0 ∷ refused-as "a\\" MisplacedSign 1 ∷
+    refused-as "\\]" MisplacedSign 0 ∷ refused-as "\\c" MisplacedSign 0 ∷
+    -- 5: at most 16 groups open together
+    letters-of "((((((((((((((((a))))))))))))))))" 1 ∷ refused-as "(((((((((((((((((a)))))))))))))))))" Depth 16 ∷
+    letters-of "((((((((((((((((a)(b))))))))))))))))" 2 ∷ refused-as "((((((((((((((((a(" Depth 17 ∷
+    -- 6
+    letters-of "a{001}" 1 ∷ letters-of "a{0,}" 1 ∷ letters-of "a{3,}" 3 ∷ letters-of "a{0,1}" 1 ∷ letters-of "a{9}" 9 ∷ letters-of "a{255}" 255 ∷
+    refused-as "a{00}" row.Count 1 ∷ refused-as "a{0,0}" row.Count 1 ∷ refused-as "a{,2}" row.Count 1 ∷ refused-as "a{}" row.Count 1 ∷
+    refused-as "a{0001}" row.Count 1 ∷ refused-as "a{1" row.Count 1 ∷ refused-as "a{" row.Count 1 ∷ refused-as "a{1,2,3}" row.Count 1 ∷
+    refused-as "a{ 1}" row.Count 1 ∷ refused-as "a{:}" row.Count 1 ∷ refused-as "a{1/}" row.Count 1 ∷ refused-as "a{256}" row.Count 1 ∷
+    refused-as "a{1,256}" row.Count 1 ∷
+    -- 8
+    letters-of "[a-c]" 2 ∷ letters-of "[^a]" 1 ∷ letters-of "." 2 ∷ refused-as "[c]" Foreign 0 ∷ refused-as "[^ab]" Foreign 0 ∷
+    refused-as "\\." Foreign 0 ∷
+    -- the leftmost; at one byte the lower number
+    refused-as "c)" Foreign 0 ∷ refused-as "a)c" MisplacedSign 1 ∷ refused-as "(c" Foreign 1 ∷ refused-as "[b-a](" Bracket 0 ∷
+    refused-as "a{0}c" row.Count 1 ∷ refused-as "ca{0}" Foreign 0 ∷ refused-as "((((((((((((((((a)(" MisplacedSign 19 ∷ refused-as "[d-c]" Bracket 0 ∷
+    refused-as "c{0}" Foreign 0 ∷ []
+
+-- over `+-.:=A[]\`ab}`
+bracket-rows : List Row
+bracket-rows =
+    letters-of "-" 1 ∷ letters-of "]}" 2 ∷ letters-of "." 13 ∷ letters-of "\\\\" 1 ∷ letters-of "\\." 1 ∷
+    -- `-` first or just before the closing `]`, or as a range's end
+    letters-of "[--b]" 11 ∷ letters-of "[---]" 1 ∷ letters-of "[+--]" 2 ∷ letters-of "[a-b-]" 3 ∷ letters-of "[a-]" 2 ∷ letters-of "[-]" 1 ∷
+    letters-of "[--]" 1 ∷ letters-of "[^-a]" 11 ∷ refused-as "[a--]" Bracket 0 ∷ refused-as "[a-b-c]" Bracket 0 ∷
+    refused-as "[a-b-ca]" Bracket 0 ∷ refused-as "[a-b-+ab]" Bracket 0 ∷ refused-as "[+-a-b]" Bracket 0 ∷ letters-of "[+-a-]" 11 ∷
+    -- `]` as first item is ordinary
+    letters-of "[]]" 1 ∷ letters-of "[^]]" 12 ∷ letters-of "[]-a]" 3 ∷ letters-of "[]-]" 2 ∷ refused-as "[]" Bracket 0 ∷ refused-as "[^]" Bracket 0 ∷
+    refused-as "[" Bracket 0 ∷ refused-as "[a" Bracket 0 ∷ refused-as "a[b" Bracket 1 ∷
+    -- `[.` `[=` `[:` inside
+    letters-of "[.]" 1 ∷ letters-of "[=]" 1 ∷ letters-of "[:a:]" 2 ∷ letters-of "[[a]" 2 ∷ letters-of "[\\a]" 2 ∷ refused-as "[A-[.]" Bracket 0 ∷
+    refused-as "[[.]" Bracket 0 ∷ refused-as "[a[=]" Bracket 0 ∷ refused-as "[[:a:]]" Bracket 0 ∷ refused-as "[^[:a]" Bracket 0 ∷ []
+
+-- over `^ab`: `^` complements only right after the `[`
+complement-rows : List Row
+complement-rows = letters-of "[a^]" 2 ∷ letters-of "[^^]" 2 ∷ letters-of "[^a^]" 1 ∷ letters-of "\\^" 1 ∷ refused-as "[^^ab]" Foreign 0 ∷ []
+
+-- over `ba`: a range goes by byte value and not by label
+label-rows : List Row
+label-rows = letters-of "[a-b]" 2 ∷ refused-as "[b-a]" Bracket 0 ∷ []
+
+many : ℕ → List ℕ → List ℕ
+many zero s = []
+many (suc n) s = s ++ many n s
+
+size : List ℕ → Reads Tree → ℕ
+size A (found t r) = letterCount A t
+size A (fault n r) = 0
+
+signs : List ℕ
+signs = bytes "^.[$()|*+?{\\"
+
+sign-texts : List ℕ
+sign-texts = bytes "\\^\\.\\[\\$\\(\\)\\|\\*\\+\\?\\{\\\\"
+
+tried :
+    (failing (bytes "ab") rows ≡ [])
+    × (failing (bytes "+-.:=A[]\\`ab}") bracket-rows ≡ [])
+    × (failing (bytes "^ab") complement-rows ≡ [])
+    × (failing (bytes "ba") label-rows ≡ [])
+    -- each sign, made ordinary
+    × (size signs (expressionOf signs sign-texts) ≡ 12)
+    -- 232 bytes
+    × (size (bytes "ab") (expressionOf (bytes "ab") (many 11 (bytes "((a|b[a-b]{1,2}?)*)a?") ++ bytes "a")) ≡ 78)
+    -- whole trees: how the parts bind, each repetition, sets
+    × (expressionOf (bytes "abc") (bytes "ab|c{1,3}?")
+    ≡ found (either (join (set (alone 97)) (set (alone 98))) (times (set (alone 99)) (between 1 3))) [])
+    × (expressionOf (bytes "a") (bytes "a*a+a?a{2}a{0,}a{1,2}")
+    ≡ found
+    (join (times (set (alone 97)) (onward 0)) (join (times (set (alone 97)) (onward 1)) (join (times (set (alone 97)) (between 0 1))
+    (join (times (set (alone 97)) (between 2 2)) (join (times (set (alone 97)) (onward 0)) (times (set (alone 97)) (between 1 2))))))) [])
+    × (expressionOf (bytes "abc-") (bytes ".([^a-b-]*)")
+    ≡ found (join (set (except [])) (group (times (set (except (range 97 98 ∷ range 45 45 ∷ []))) (onward 0)))) [])
+unfolding failing meets rows bracket-rows complement-rows label-rows many size signs sign-texts labelsOf letterCount then first-of split enclosed provided closed reserved items members inside bracket escaped a-set labelled-set number from-on from-to comma counts sign repetition grouped step go read whole expressionOf
+tried = (refl, refl, refl, refl, refl, refl, refl, refl, refl)
+
+-- "A `-` may begin an item only first or just before the closing `]`": in the middle it may not, whatever follows it inside
+hyphen-inside : (b : ℕ) (s : List ℕ) → items false (code "-" ∷ (b ∷ s)) ≡ none
+unfolding items provided
+hyphen-inside b [] = refl
+hyphen-inside b (d ∷ s) = refl

@@ -1,0 +1,48 @@
+-- A refusal is at the leftmost fault (document 01, "What is turned away": "among 4 to 8 the one leftmost in the text").
+-- Assumes nothing.
+-- For the reader: nothing uses it.
+use mathlib.Core.Path.{_≡_, refl}
+use mathlib.Core.List.{List, [], _∷_, _++_}
+use Prim.Native.Nat.{ℕ, _≤_}
+use native.Mathlib.Omega.{arith}
+use lib.ListN.{length}
+use Rattle.refusal.specs.declared.Refusal.{Refusal}
+use Rattle.regex.specs.Tree.{Tree}
+use Rattle.regex.specs.Text.{fault}
+use Rattle.regex.specs.Read.{m-alternation, read, whole, expressionOf}
+use Rattle.regex.specs.Grammar.{TextOf}
+use Rattle.regex.specs.Says.{Says, of-fault, then-says}
+use Rattle.regex.specs.Front.{Front, Stop, Begins, stop-behind}
+use Rattle.regex.specs.Sound.{read-sound}
+use Rattle.regex.specs.Exact.{exact}
+use Rattle.regex.specs.Places.{Place, refused-at}
+
+-- A refusal of row 4 to 8 at the leftmost fault: the text from the fault on begins as the row says, the text is no expression, and the
+-- text in front of the fault begins one, so that no fault is further left.
+pub record Leftmost (A s : List ℕ) (n : Refusal) (r : List ℕ) : Type 0 where
+  pub place : Place A n r
+  pub none : (t : Tree) → TextOf A 16 t s → ⊥
+  pub front : List ℕ
+  pub splits : s ≡ front ++ r
+  pub begins : Begins A m-alternation 16 front
+
+pub leftmost : (A : List ℕ) → 1 ≤ length A → (s : List ℕ) (n : Refusal) (r : List ℕ) → expressionOf A s ≡ fault n r → Leftmost A s n r
+unfolding expressionOf whole
+leftmost A l s n r e =
+    let stop = of-fault (λ (t : Tree) (r : List ℕ). Unit {0}) (Stop A m-alternation 16 s) (expressionOf A s) n r (expression-stops) e in
+    record {
+      place = refused-at A s n r e;
+      none = λ t h. let k = exact A s t .1 h in let z : _≡_ {A = ℕ} 0 1 = cc in omega arith;
+      front = stop .front;
+      splits = stop .splits;
+      begins = stop .begins l;
+    }
+  where
+    behind : (t : Tree) (r : List ℕ) → Front A m-alternation 16 s t r → Says (λ t r. Unit {0}) (Stop A m-alternation 16 s) (whole t r)
+    behind t [] f = tt
+    behind t (b ∷ r) f = stop-behind A 16 s t (b ∷ r) _ (b ∷ r) m-alternation f refl
+
+    expression-stops : Says (λ t r. Unit {0}) (Stop A m-alternation 16 s) (expressionOf A s)
+    expression-stops =
+        then-says (Front A m-alternation 16 s) _ (Stop A m-alternation 16 s) _ (read A m-alternation 16 s) whole
+        (read-sound A m-alternation 16 s) (λ n r h. h) behind

@@ -1,0 +1,199 @@
+-- Where a fault of rows 4 to 8 is: what the text from it on begins with, and that it is bad. Assumes nothing.
+-- Used by Leftmost and SignExamples.
+use mathlib.Core.Path.{_≡_, refl, ap₂}
+use mathlib.Core.List.{List, [], _∷_}
+use mathlib.Core.Bool.{Bool, true, false, _||_}
+use Prim.Native.Nat.{ℕ, zero, suc, _<_}
+use Prim.Native.Char.{code}
+use native.Mathlib.Omega.{arith}
+use lib.Dec.{eqb}
+use borrow.Author.Tests.{eqb-true}
+use Rattle.lists.specs.Each.{all, all-each}
+use Rattle.refusal.specs.declared.Refusal.{Refusal}
+use Rattle.refusal.specs.declared.Refusal.the-variants as row
+use Rattle.regex.specs.Bytes.{bytes}
+use Rattle.regex.specs.Tree.{Range, Count, Set, only, except, Tree}
+use Rattle.regex.specs.Letters.{labelsOf}
+use Rattle.regex.specs.Text.{Reads, found, fault, then, first-of, one-of, next, rest, split, enclosed, provided}
+use Rattle.regex.specs.Sets.{closed, reserved, items, members, inside, bracket, special, escaped, a-set, labelled-set}
+use Rattle.regex.specs.Repetition.{repeats, number, from-to, counts, sign, repetition}
+use Rattle.regex.specs.Read.{Mode, m-alternation, m-branch, m-piece, m-group, ends, grouped, step, measure, read, whole, expressionOf}
+use Rattle.regex.specs.Own.{of-one}
+use Rattle.regex.specs.Says.{Says, of-fault, says-found, branch-says, first-says, enclosed-says, then-says}
+use Rattle.regex.specs.Steps.{rest-length, rest-less, read-forward, read-step}
+
+-- the text's end, or one of the signs that can be misplaced
+abbrev pub misplaced : List ℕ → Bool
+misplaced [] = true
+misplaced (b ∷ r) = one-of (bytes "*+?{|)^$\\") b
+
+-- What the text r from the fault on begins with, by the fault's row: a sign or the text's end, an opening parenthesis, bad braces, a bad
+-- bracket, a set without a label. The other rows have no place in the text.
+pub data Place (A : List ℕ) : Refusal → List ℕ → Type 0 where
+  at-sign : {r : List ℕ} → misplaced r ≡ true → Place A row.MisplacedSign r
+  at-group : {r : List ℕ} → next "(" r ≡ true → Place A row.Depth r
+  at-braces : {r : List ℕ} → next "{" r ≡ true → sign r ≡ fault row.Count r → Place A row.Count r
+  at-bracket : {r : List ℕ} → next "[" r ≡ true → a-set r ≡ fault row.Bracket r → Place A row.Bracket r
+  at-set : {r : List ℕ} (c : Set) (v : List ℕ) → a-set r ≡ found c v → labelsOf A c ≡ 0 → Place A row.Foreign r
+
+end-misplaced : (s : List ℕ) → ends s ≡ true → misplaced s ≡ true
+end-misplaced [] e = refl
+end-misplaced (b ∷ s) e = of-one (λ c. misplaced (c ∷ s) ≡ true) (bytes "|)") b (refl, (refl, tt)) e
+
+special-misplaced : (b : ℕ) (s : List ℕ) → special b ≡ true → one-of (bytes "(.[") b ≡ false → misplaced (b ∷ s) ≡ true
+unfolding all
+special-misplaced b s e k =
+    rw k at (of-one (λ c. either c ≡ true) (bytes "^.[$()|*+?{\\") b (all-each either (λ c. either c ≡ true) (λ c h. h) (bytes "^.[$()|*+?{\\") refl) e)
+  where
+    either : ℕ → Bool
+    either c = one-of (bytes "(.[") c || misplaced (c ∷ s)
+
+module _ (A : List ℕ) where
+  -- a fault is at its place, and P says what is found
+  abbrev Placed : {X : Type 0} → (X → List ℕ → Type 0) → Reads X → Type 0
+  Placed P x = Says P (Place A) x
+
+  abbrev Any : {X : Type 0} → X → List ℕ → Type 0
+  Any a r = Unit {0}
+
+  then-placed :
+      {X Y : Type 0} (P : X → List ℕ → Type 0) (P′ : Y → List ℕ → Type 0) (x : Reads X) (f : X → List ℕ → Reads Y) →
+      Placed P x → ((a : X) (r : List ℕ) → P a r → Placed P′ (f a r)) → Placed P′ (then x f)
+  then-placed P P′ x f h g = then-says P P′ (Place A) (Place A) x f h (λ n r p. p) g
+
+  -- the row n, at the text w
+  abbrev At : Refusal → List ℕ → Refusal → List ℕ → Type 0
+  At n w m r = (m ≡ n) × (r ≡ w)
+
+  at-placed : {X : Type 0} (n : Refusal) (w : List ℕ) (x : Reads X) → Says Any (At n w) x → (x ≡ fault n w → Place A n w) → Placed Any x
+  at-placed n w (found a r) h g = tt
+  at-placed n w (fault m r) h g = rw (h .0, h .1) (g (ap₂ fault (h .0) (h .1)))
+
+  inside-at : (f : List Range → Set) (w s : List ℕ) → Says Any (At row.Bracket w) (inside f w s)
+  unfolding inside
+  inside-at f w s =
+      then-says Any Any (At row.Bracket w) (At row.Bracket w) (enclosed row.Bracket w members (closed s)) _
+      (enclosed-says Any (At row.Bracket w) row.Bracket w members (closed s) (refl, refl) (λ x rs e q. tt)) (λ n r p. p) (λ rs r h. tt)
+
+  bracket-at : (w s : List ℕ) → Says Any (At row.Bracket w) (bracket w s)
+  unfolding bracket
+  bracket-at w s = branch-says Any (At row.Bracket w) (next "^" s) _ _ (λ e. inside-at except w (rest s)) (λ e. inside-at only w s)
+
+  escaped-placed : (w s : List ℕ) → misplaced w ≡ true → Placed Any (escaped w s)
+  unfolding escaped
+  escaped-placed w [] k = at-sign k
+  escaped-placed w (b ∷ s) k = branch-says Any (Place A) (special b) _ _ (λ e. tt) (λ e. at-sign k)
+
+  a-set-placed : (s : List ℕ) → next "(" s ≡ false → Placed Any (a-set s)
+  unfolding a-set first-of
+  a-set-placed [] k = at-sign refl
+  a-set-placed (b ∷ s) k =
+      let or-else = first-says {X = Set} Any (Place A) in
+      or-else (eqb b (code "\\")) _ _ _ (λ e₁. escaped-placed (b ∷ s) s (rw (eqb-true b (code "\\") e₁)))
+      (λ e₁. or-else (eqb b (code ".")) _ _ _ (λ e₂. tt)
+      (λ e₂. or-else (eqb b (code "[")) _ _ _
+      (λ e₃. at-placed row.Bracket (b ∷ s) (bracket (b ∷ s) s) (bracket-at (b ∷ s) s) (λ q. at-bracket e₃ (rw (e₁, a-set) (rw (e₂, e₃) q))))
+      (λ e₃. or-else (special b) _ _ _ (λ e₄. at-sign (special-misplaced b s e₄ (rw (k, e₂, e₃)))) (λ e₄. tt))))
+
+  labelled-set-placed : (s : List ℕ) → next "(" s ≡ false → Placed Any (labelled-set A s)
+  unfolding labelled-set
+  labelled-set-placed s k =
+      then-placed _ Any (a-set s) _ (says-found Any (Place A) (a-set s) (a-set-placed s k))
+      (λ c r h. branch-says Any (Place A) (eqb (labelsOf A c) 0) _ _ (λ e. at-set c r (h .1) (eqb-true (labelsOf A c) 0 e)) (λ e. tt))
+
+  sign-placed : (s : List ℕ) → repeats s ≡ true → Placed Any (sign s)
+  unfolding sign first-of
+  sign-placed [] k = at-sign refl
+  sign-placed (b ∷ s) k =
+      let or-else = first-says {X = Count} Any (Place A) in
+      or-else (eqb b (code "*")) _ _ _ (λ e. tt)
+      (λ e₁. or-else (eqb b (code "+")) _ _ _ (λ e. tt)
+      (λ e₂. or-else (eqb b (code "?")) _ _ _ (λ e. tt)
+      (λ e₃. or-else (eqb b (code "{")) _ _ _
+      (λ e. at-placed row.Count (b ∷ s) (enclosed row.Count (b ∷ s) counts (split "}" s))
+      (enclosed-says Any (At row.Count (b ∷ s)) row.Count (b ∷ s) counts (split "}" s) (refl, refl) (λ x c q h. tt))
+      (λ q. at-braces e (rw (e₁, sign) (rw (e₂, e₃, e) q))))
+      (λ e₄. at-sign (of-one (λ c. misplaced (c ∷ s) ≡ true) (bytes "*+?{") b (refl, (refl, (refl, (refl, tt)))) k)))))
+
+  repetition-placed : (s : List ℕ) → repeats s ≡ true → Placed Any (repetition s)
+  unfolding repetition
+  repetition-placed s k =
+      then-placed Any Any (sign s) _ (sign-placed s k) (λ c r h. branch-says Any (Place A) (next "?" r) _ _ (λ e. tt) (λ e. tt))
+
+  -- the text after a tree: after a branch or an alternation it ends, or `|` or `)` is next
+  abbrev After : Mode → Tree → List ℕ → Type 0
+  After m-group t r = Unit {0}
+  After m-piece t r = Unit {0}
+  After m-branch t r = ends r ≡ true
+  After m-alternation t r = ends r ≡ true
+
+  -- What a step says, where what is read of less text, or of as much in a closer mode, says so.
+  module _ (k : ℕ) (h : (m : Mode) (d : ℕ) (s : List ℕ) → measure m s < k → Placed (After m) (read A m d s)) where
+    -- with the equation, by which less text is left
+    read-found : (m : Mode) (d : ℕ) (s : List ℕ) → measure m s < k → Placed (λ t r. After m t r × (read A m d s ≡ found t r)) (read A m d s)
+    read-found m d s l = says-found (After m) (Place A) (read A m d s) (h m d s l)
+
+    grouped-placed : (d : ℕ) (s : List ℕ) → measure m-group s < suc k → next "(" s ≡ true → Placed Any (grouped (read A m-alternation) d s)
+    unfolding grouped
+    grouped-placed zero s l e = at-group e
+    grouped-placed (suc d) s l e =
+        let f = rest-less "(" s e in
+        then-placed (After m-alternation) Any (read A m-alternation d (rest s)) _ (h m-alternation d (rest s) (omega arith))
+        (λ t s₁ g. branch-says Any (Place A) (next ")" s₁) _ _ (λ q. tt) (λ q. at-sign (end-misplaced s₁ g)))
+
+    step-placed : (m : Mode) (d : ℕ) (s : List ℕ) → measure m s < suc k → Placed (After m) (step A (read A) m d s)
+    unfolding step
+    step-placed m-alternation d s l =
+        then-placed _ (After m-alternation) (read A m-branch d s) _ (read-found m-branch d s (omega arith))
+        (λ t s₁ g. branch-says (After m-alternation) (Place A) (next "|" s₁) _ _
+        (λ e. let f = read-forward A m-branch d s t s₁ (g .1) in let f₁ = rest-length s₁ in
+        then-placed (After m-alternation) (After m-alternation) (read A m-alternation d (rest s₁)) _ (h m-alternation d (rest s₁) (omega arith)) (λ u r q. q))
+        (λ e. g .0))
+    step-placed m-branch d s l =
+        then-placed _ (After m-branch) (read A m-piece d s) _ (read-found m-piece d s (omega arith))
+        (λ t s₁ g. branch-says (After m-branch) (Place A) (ends s₁) _ _ (λ e. e)
+        (λ e. let f = read-forward A m-piece d s t s₁ (g .1) in
+        then-placed (After m-branch) (After m-branch) (read A m-branch d s₁) _ (h m-branch d s₁ (omega arith)) (λ u r q. q)))
+    step-placed m-piece d s l =
+        then-placed (After m-group) (After m-piece) (read A m-group d s) _ (h m-group d s (omega arith))
+        (λ t s₁ g. branch-says (After m-piece) (Place A) (repeats s₁) _ _
+        (λ e. then-placed Any (After m-piece) (repetition s₁) _ (repetition-placed s₁ e) (λ c r q. tt)) (λ e. tt))
+    step-placed m-group d s l =
+        branch-says (After m-group) (Place A) (next "(" s) _ _ (grouped-placed d s l)
+        (λ e. then-placed Any (After m-group) (labelled-set A s) _ (labelled-set-placed s e) (λ c r q. tt))
+
+  read-placed : (k : ℕ) (m : Mode) (d : ℕ) (s : List ℕ) → measure m s < k → Placed (After m) (read A m d s)
+  read-placed zero m d s l = absurd (omega arith)
+  read-placed (suc k) m d s l = rw (read-step A m d s) (step-placed k (read-placed k) m d s l)
+
+  whole-placed : (t : Tree) (r : List ℕ) → ends r ≡ true → Placed Any (whole t r)
+  unfolding whole
+  whole-placed t [] g = tt
+  whole-placed t (b ∷ r) g = at-sign (end-misplaced (b ∷ r) g)
+
+  -- A text is refused at the row's place.
+  pub refused-at : (s : List ℕ) (n : Refusal) (r : List ℕ) → expressionOf A s ≡ fault n r → Place A n r
+  unfolding expressionOf
+  refused-at s n r e =
+      of-fault Any (Place A) (expressionOf A s) n r
+      (then-placed (After m-alternation) Any (read A m-alternation 16 s) whole
+      (read-placed (suc (measure m-alternation s)) m-alternation 16 s (omega arith)) whole-placed)
+      e
+
+-- Texts with nothing wrong at their front are no places: `a`, `{2}`, `[a]`, and over `a` the character itself.
+record NoPlaces : Type 0 where
+  sign-place : Place (bytes "a") row.MisplacedSign (bytes "a") → ⊥
+  group-place : Place (bytes "a") row.Depth (bytes "a") → ⊥
+  braces-place : Place (bytes "a") row.Count (bytes "{2}") → ⊥
+  bracket-place : Place (bytes "a") row.Bracket (bytes "[a]") → ⊥
+  set-place : Place (bytes "a") row.Foreign (bytes "a") → ⊥
+
+no-places : NoPlaces
+unfolding sign first-of enclosed split counts number from-to provided a-set bracket inside closed members reserved items then labelsOf
+no-places = record {
+  sign-place = elim [ at-sign e ↦ let z : _≡_ {A = ℕ} 0 1 = cc in omega arith ];
+  group-place = elim [ at-group e ↦ let z : _≡_ {A = ℕ} 0 1 = cc in omega arith ];
+  braces-place = elim [ at-braces k e ↦ let z : _≡_ {A = ℕ} 0 1 = cc in omega arith ];
+  bracket-place = elim [ at-bracket k e ↦ let z : _≡_ {A = ℕ} 0 1 = cc in omega arith ];
+  set-place = elim [ at-set c v e l ↦ let z : _≡_ {A = ℕ} 0 1 = cc in omega arith ];
+}

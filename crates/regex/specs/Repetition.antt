@@ -1,0 +1,67 @@
+-- A repetition, as a count of words (document 01, "Expression text"): "`*`, `+`, `?`, `{n}`, `{n,}`, `{n,m}`; counts have 1 to 3
+-- digits, each is at most 255, n ≤ m, and m (or the n of `{n}`) is at least 1." Assumes nothing.
+-- Used by 10 files of specs/; in 12 other crates.
+use mathlib.Core.Option.{Option, some, none}
+use mathlib.Core.List.{List, [], _∷_}
+use mathlib.Core.Bool.{Bool, true, false, _&&_}
+use Prim.Native.Nat.{ℕ, _+_, _*_, _-_}
+use Prim.Native.Char.{code}
+use lib.ListN.{length}
+use lib.Dec.{eqb, leb}
+use Rattle.refusal.specs.declared.Refusal.the-variants as row
+use Rattle.regex.specs.Bytes.{bytes}
+use Rattle.regex.specs.Tree.{Count, between, onward}
+use Rattle.regex.specs.Text.{Reads, found, fault, then, when, first-of, next, next-of, rest, split, enclosed, provided}
+
+abbrev pub digits : List ℕ → Bool
+digits [] = true
+digits (b ∷ s) = (leb (code "0") b && leb b (code "9")) && digits s
+
+-- in decimal, behind the digits that make n
+abbrev pub value : ℕ → List ℕ → ℕ
+value n [] = n
+value n (b ∷ s) = value (10 * n + (b - code "0")) s
+
+-- 1 to 3 digits, at most 255
+unfoldable pub number : List ℕ → Option ℕ
+number s = provided (digits s && leb 1 (length s) && leb (length s) 3 && leb (value 0 s) 255) (some (value 0 s))
+
+-- `{n,}`
+unfoldable pub from-on : Option ℕ → Option Count
+from-on none = none
+from-on (some n) = some (onward n)
+
+-- `{n,m}`, and `{n}` with m = n
+unfoldable pub from-to : Option ℕ → Option ℕ → Option Count
+from-to none _ = none
+from-to (some n) none = none
+from-to (some n) (some m) = provided (leb n m && leb 1 m) (some (between n m))
+
+-- what stands in front of the comma, and behind it
+unfoldable pub comma : List ℕ → List ℕ → Option Count
+comma n [] = from-on (number n)
+comma n (b ∷ m) = from-to (number n) (number (b ∷ m))
+
+-- what stands in the braces
+unfoldable pub counts : List ℕ → Option Count
+counts i = elim (split "," i) [ none ↦ from-to (number i) (number i) | some x ↦ comma (x .0) (x .1) ]
+
+-- a repetition stands here
+abbrev pub repeats : List ℕ → Bool
+repeats s = next-of (bytes "*+?{") s
+
+-- Row 6: "braces ill-formed or out of range", at the `{`.
+unfoldable pub sign : List ℕ → Reads Count
+sign [] = fault row.MisplacedSign []
+sign (b ∷ s) =
+    first-of
+    (when (eqb b (code "*")) (found (onward 0) s)
+    ∷ when (eqb b (code "+")) (found (onward 1) s)
+    ∷ when (eqb b (code "?")) (found (between 0 1) s)
+    ∷ when (eqb b (code "{")) (enclosed row.Count (b ∷ s) counts (split "}" s))
+    ∷ [])
+    (fault row.MisplacedSign (b ∷ s))
+
+-- "One `?` may follow any repetition (the 2024 modifier); it leaves the set of words unaltered."
+unfoldable pub repetition : List ℕ → Reads Count
+repetition s = then (sign s) (λ c r. elim (next "?" r) [ true ↦ found c (rest r) | false ↦ found c r ])

@@ -1,0 +1,64 @@
+-- Small sets of words: a range goes by byte value, a complement stays within the alphabet, a repetition joins as many words as it
+-- allows, `|` means either side. Assumes nothing.
+-- Computed examples: nothing uses them.
+use mathlib.Core.Path.{_≡_, refl, ap, _∙_}
+use mathlib.Core.Logic.{_↔_, inr}
+use mathlib.Core.List.{List, [], _∷_}
+use mathlib.Core.Bool.{true}
+use Prim.Native.Nat.{ℕ, zero, suc, _-_, _+_, _≤_}
+use native.Mathlib.Omega.{arith}
+use lib.ListN.{length, getD, length-append}
+use Rattle.regex.specs.Bytes.{bytes}
+use Rattle.regex.specs.Tree.{range, Count, between, onward, Set, only, except, member, set, times, join, either, Allows, Joined, Words}
+use Rattle.regex.specs.Sets.{alone}
+
+-- `[a-b]` over `ba` has both labels
+by-value : Words (bytes "ba") (set (only (range 97 98 ∷ []))) (1 ∷ []) × Words (bytes "ba") (set (only (range 97 98 ∷ []))) (2 ∷ [])
+by-value = ((1, omega arith, omega arith, refl, refl), (2, omega arith, omega arith, refl, refl))
+
+-- `[^a]` over `ab` means b alone
+complement : (w : List ℕ) → Words (bytes "ab") (set (except (range 97 97 ∷ []))) w ↔ (w ≡ 2 ∷ [])
+complement w = (λ h. h .4 ∙ ap (λ (x : ℕ). x ∷ []) (by (h .0) (h .1) (h .2) (h .3)), λ e. (2, omega arith, omega arith, refl, e))
+  where
+    by : (x : ℕ) → 1 ≤ x → x ≤ 2 → member (except (range 97 97 ∷ [])) (getD (bytes "ab") (x - 1) 0) ≡ true → x ≡ 2
+    by zero l m e = absurd (omega arith)
+    by (suc zero) l m e = let z : _≡_ {A = ℕ} 0 1 = cc in absurd (omega arith)
+    by (suc (suc zero)) l m e = refl
+    by (suc (suc (suc x))) l m e = absurd (omega arith)
+
+-- the words of a repeated set have as many letters as the repetition allows
+module _ (A : List ℕ) (c : Set) where
+  joined-length : (k : ℕ) (w : List ℕ) → Joined (Words A (set c)) k w → length w ≡ k
+  joined-length zero w h = ap length h
+  joined-length (suc k) w h =
+      let a : length (h .0) ≡ 1 = ap length (h .3 .4) in
+      let b : length (h .1) ≡ k = joined-length k (h .1) (h .4) in
+      let e : length w ≡ length (h .0) + length (h .1) = ap length (h .2) ∙ length-append (h .0) (h .1) in
+      omega arith
+
+  repeated-length : (k : Count) (w : List ℕ) → Words A (times (set c) k) w → Allows k (length w)
+  repeated-length k w h = rw (joined-length (h .0) w (h .2)) (h .1)
+
+one-a : Words (bytes "ab") (set (alone 97)) (1 ∷ [])
+one-a = (1, omega arith, omega arith, refl, refl)
+
+-- `a{1,2}` means a and aa, but neither the empty word nor aaa
+one-or-two : (w : List ℕ) → Type 0
+one-or-two w = Words (bytes "ab") (times (set (alone 97)) (between 1 2)) w
+
+counted : one-or-two (1 ∷ []) × one-or-two (1 ∷ 1 ∷ []) × (one-or-two [] → ⊥) × (one-or-two (1 ∷ 1 ∷ 1 ∷ []) → ⊥)
+unfolding one-or-two
+counted = (
+  (1, (omega arith, omega arith), (1 ∷ [], [], refl, one-a, refl)),
+  (2, (omega arith, omega arith), (1 ∷ [], 1 ∷ [], refl, one-a, (1 ∷ [], [], refl, one-a, refl))),
+  λ h. let l = repeated-length (bytes "ab") (alone 97) (between 1 2) [] h in omega (arith, l .0),
+  λ h. let l = repeated-length (bytes "ab") (alone 97) (between 1 2) (1 ∷ 1 ∷ 1 ∷ []) h in omega (arith, l .1),
+)
+
+-- `a*` has the empty word, `a+` has not
+empty-word : Words (bytes "ab") (times (set (alone 97)) (onward 0)) [] × (Words (bytes "ab") (times (set (alone 97)) (onward 1)) [] → ⊥)
+empty-word = ((0, omega arith, refl), λ h. let l = repeated-length (bytes "ab") (alone 97) (onward 1) [] h in omega arith)
+
+-- `ab|b` has b
+either-side : Words (bytes "ab") (either (join (set (alone 97)) (set (alone 98))) (set (alone 98))) (2 ∷ [])
+either-side = inr (2, omega arith, omega arith, refl, refl)

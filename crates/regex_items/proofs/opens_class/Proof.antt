@@ -1,0 +1,48 @@
+-- `regex_items::opens_class` meets its contract. Assumes nothing.
+use borrow.Author.Needs.{needs}
+use denote.Ref.{now}
+use mathlib.Core.Path.{ap, _∙_}
+use Rattle.regex.specs.Bytes.{bytes}
+use Rattle.regex.specs.Text.{one-of}
+use Rattle.regex_items.specs.Items.{opens-not, opens-by}
+use Rattle.regex_items.proofs.opens_class.Statement.{statement}
+use Rattle.regex_items.proofs.opens_class.Tie as tie
+
+shared-slice-read-if1 : tie.Need-shared-slice-read-if1
+shared-slice-read-if1 c = search needs
+
+returns : tie.Need-returns
+returns c =
+    let start = c .before .before .before in
+    opens-not (now (start .args .inside)) (start .args .i) (start .pre) (c .if1 .taken)
+
+slice-aggregate-one-of : tie.Need-slice-aggregate-one-of
+slice-aggregate-one-of c = search needs
+
+add-peek : tie.Need-add-peek
+add-peek c = search needs
+
+peek-requires : tie.Need-peek-requires
+peek-requires c κs = search needs
+
+one-of-requires : tie.Need-one-of-requires
+one-of-requires c κs = search needs
+
+returns-2 : tie.Need-returns-2
+returns-2 c =
+    let start = c .before .before .before .before .before .before in
+    let else1 = c .before .before .before in
+    c .one-of .ensures ∙ ap (one-of (bytes ".=:")) (c .before .peek .ensures) ∙ opens-by (now (start .args .inside)) (start .args .i)
+    (start .pre) (else1 .if1 .left)
+
+pub opens-class-spec : {M : Type 1} → statement M
+opens-class-spec =
+    tie.close
+    (tie.spec
+    shared-slice-read-if1
+    returns
+    slice-aggregate-one-of
+    add-peek
+    peek-requires
+    one-of-requires
+    returns-2)

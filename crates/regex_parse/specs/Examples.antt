@@ -1,0 +1,30 @@
+-- Texts checked by computation: letters up to 128, and each refusal. Assumes nothing.
+-- Computed examples: nothing uses them.
+use mathlib.Core.Path.{_≡_, refl}
+use mathlib.Core.List.{List, [], _∷_, map}
+use Prim.Native.String.{String}
+use Rattle.refusal.specs.declared.Refusal.the-variants.{MisplacedSign, Depth, Count, Bracket, Foreign}
+use Rattle.regex.specs.Bytes.{bytes}
+use Rattle.regex.specs.Letters.{labelsOf, letterCount}
+use Rattle.regex.specs.Text.{then, first-of, split, enclosed, provided}
+use Rattle.regex.specs.Sets.{closed, reserved, items, members, inside, bracket, escaped, a-set, labelled-set}
+use Rattle.regex.specs.Repetition.{number, from-on, from-to, comma, counts, sign, repetition}
+use Rattle.regex.specs.Read.{grouped, step, go, read, whole, expressionOf}
+use Rattle.regex_parse.specs.declared.Parsed.{Parsed}
+use Rattle.regex_parse.specs.declared.Parsed.the-variants.{Letters, Refused}
+use Rattle.regex_parse.specs.Parsed.{parsed}
+
+-- over `ab`
+answers : List String → List Parsed
+answers texts = map (λ t. parsed (bytes "ab") (bytes t)) texts
+
+tried :
+    (answers ("ab*" ∷ "a{127}" ∷ "a{128}" ∷ "(a{255}){255}" ∷ "a*?" ∷ "[^a]{2,}" ∷ [])
+    ≡ Letters 2 ∷ Letters 127 ∷ Letters 128 ∷ Letters 128 ∷ Letters 1 ∷ Letters 2 ∷ [])
+    -- 4, at a repetition after another, a stray `)` and an empty branch; 5, at the 17th group; 6; 7; 8
+    × (answers ("a**" ∷ "a)" ∷ "a|" ∷ []) ≡ Refused MisplacedSign ∷ Refused MisplacedSign ∷ Refused MisplacedSign ∷ [])
+    × (answers ("((((((((((((((((a))))))))))))))))" ∷ "(((((((((((((((((a)))))))))))))))))" ∷ []) ≡ Letters 1 ∷ Refused Depth ∷ [])
+    × (answers ("a{0}" ∷ "a{1,256}" ∷ "[b-a]" ∷ "[c]" ∷ "c" ∷ [])
+    ≡ Refused Count ∷ Refused Count ∷ Refused Bracket ∷ Refused Foreign ∷ Refused Foreign ∷ [])
+unfolding answers map parsed expressionOf whole read go step grouped repetition sign counts comma from-to from-on number labelled-set a-set escaped bracket inside members items reserved closed provided enclosed split first-of then letterCount labelsOf
+tried = (refl, refl, refl, refl)

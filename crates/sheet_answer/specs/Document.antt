@@ -1,0 +1,59 @@
+-- Document 01's sheet and some of its lines to try, as inputs of the sheet program and what is printed for each. Assumes nothing.
+-- Computed examples. Used in sheet.
+use Prim.Native.Nat.{ℕ}
+use mathlib.Core.Path.{_≡_, refl}
+use mathlib.Core.Option.{some, none}
+use mathlib.Core.List.{List, [], _∷_, flatMap, flatten}
+use lib.ListN.{take}
+use Rattle.lists.specs.Each.{all}
+use Rattle.lists.specs.Among.{any, keep}
+use Rattle.lists.specs.Ascending.{numbers}
+use Rattle.refusal.specs.Verdict.{unless, if-passed, first-refusal}
+use Rattle.ctc.specs.Collapse.{merge, without-blanks, collapse}
+use Rattle.automaton.specs.Form.{encode}
+use Rattle.regex.specs.Bytes.{bytes}
+use Rattle.regex.specs.Letters.{labelsOf, letterCount}
+use Rattle.regex.specs.Text.{then, first-of, split, enclosed, provided}
+use Rattle.regex.specs.Sets.{closed as closes, reserved, items, members, inside, bracket, escaped, a-set, labelled-set}
+use Rattle.regex.specs.Repetition.{number, from-on, from-to, comma, counts, sign, repetition}
+use Rattle.regex.specs.Read.{grouped, step, go, read, whole, expressionOf}
+use Rattle.positions.specs.Opened.{anyOf, copies, nested, repeated, opened, labels}
+use Rattle.positions.specs.Numbered.{numbered, positionAutomaton}
+use Rattle.alphabet.specs.Alphabet.{distinct}
+use Rattle.compile.specs.Call.{compile-call}
+use Rattle.read.specs.Cases.{cases, cases-stated}
+use Rattle.sheet_format.specs.Sheet.{onto, pieces, both, every, closed, costOf, columnOf, laid, sheetFrom, sheetOf}
+use Rattle.sheet_decimal.specs.Numerals.{digits, decimal}
+use Rattle.sheet_path.specs.Labels.{following, spaced}
+use Rattle.sheet_read.specs.Promise.{Answers, answers-printed}
+use Rattle.sheet_answer.specs.Answer.{Prints, prints-unique}
+
+-- "Input in full" and "Output in full"
+pub document-prints : Prints (bytes "ab\naa\n5 1 9\n5 1 9\n5 1 9\n") (bytes "7\naa\n1 0 1\n")
+unfolding cases onto pieces both every closed costOf columnOf flatten laid sheetFrom sheetOf provided digits decimal following spaced flatMap collapse merge without-blanks first-refusal compile-call distinct if-passed unless all any keep numbers encode labelsOf letterCount then first-of split enclosed closes reserved items members inside bracket escaped a-set labelled-set number from-on from-to comma counts sign repetition grouped step go read whole expressionOf anyOf copies nested repeated opened labels numbered positionAutomaton
+document-prints = record { outcome = some (1 ∷ 0 ∷ 1 ∷ []); is = cases-stated .1 .0 .0; lines = refl }
+
+-- the program's output: the first bytes of its memory
+pub document-written :
+    (out out′ : List ℕ) (n : ℕ) → Answers (Prints (bytes "ab\naa\n5 1 9\n5 1 9\n5 1 9\n")) out out′ n → take n out′ ≡ bytes "7\naa\n1 0 1\n"
+document-written out out′ n a =
+    prints-unique (bytes "ab\naa\n5 1 9\n5 1 9\n5 1 9\n") (take n out′) (bytes "7\naa\n1 0 1\n")
+    (answers-printed (Prints (bytes "ab\naa\n5 1 9\n5 1 9\n5 1 9\n")) out out′ n a .0) document-prints
+
+-- two columns that differ; no column: three lines, two of them empty; two columns are too few for `aa`; 18 before 1; 8; 12 before 13
+pub others-print :
+    Prints (bytes "ab\nab\n5 1 9\n5 9 2\n") (bytes "3\nab\n1 2\n")
+    × Prints (bytes "ab\na*\n") (bytes "0\n\n\n")
+    × Prints (bytes "ab\naa\n5 1 9\n5 1 9\n") (bytes "refused 16\n")
+    × Prints (bytes "aa\n") (bytes "refused 18\n")
+    × Prints (bytes "ab\nc\n") (bytes "refused 8\n")
+    × Prints (bytes "ab\na\n1000001 2\n") (bytes "refused 12\n")
+unfolding cases onto pieces both every closed costOf columnOf flatten laid sheetFrom sheetOf provided digits decimal following spaced flatMap collapse merge without-blanks first-refusal compile-call distinct if-passed unless all any keep numbers encode labelsOf letterCount then first-of split enclosed closes reserved items members inside bracket escaped a-set labelled-set number from-on from-to comma counts sign repetition grouped step go read whole expressionOf anyOf copies nested repeated opened labels numbered positionAutomaton
+others-print = (
+  record { outcome = some (1 ∷ 2 ∷ []); is = cases-stated .0 .0; lines = refl },
+  record { outcome = some []; is = cases-stated .1 .1 .1 .0 .0; lines = refl },
+  record { outcome = none; is = cases-stated .1 .1 .0 .0; lines = refl },
+  refl,
+  refl,
+  refl,
+)

@@ -1,0 +1,109 @@
+-- Sheets read by computation: document 01's sheet, the edges of the layout, and texts that are no sheet. Assumes nothing.
+-- Computed examples: nothing uses them.
+use mathlib.Core.Path.{_≡_, refl}
+use mathlib.Core.Option.{Option, some, none}
+use mathlib.Core.List.{List, [], _∷_, map, flatten}
+use mathlib.Core.Bool.{Bool, true, false}
+use Prim.Native.Nat.{ℕ}
+use Rattle.lists.specs.Each.{all}
+use Rattle.regex.specs.Bytes.{bytes}
+use Rattle.regex.specs.Text.{provided}
+use Rattle.outcome.specs.Matrix.{matrix}
+use Rattle.sheet_format.specs.Sheet.{
+  onto,
+  pieces,
+  both,
+  every,
+  closed,
+  costOf,
+  columnOf,
+  Sheet,
+  laid,
+  sheetFrom,
+  sheetOf,
+  matrixOf,
+}
+
+three-pieces : pieces 10 (bytes "a\nb\n") ≡ bytes "a" ∷ (bytes "b" ∷ ([] ∷ []))
+unfolding pieces onto
+three-pieces = refl
+
+-- document 01's sheet
+column : List ℕ
+column = 5 ∷ (1 ∷ (9 ∷ []))
+
+document : Sheet
+document = record { alphabet = bytes "ab"; text = bytes "aa"; columns = column ∷ (column ∷ (column ∷ [])) }
+
+document-sheet : sheetOf (bytes "ab\naa\n5 1 9\n5 1 9\n5 1 9\n") ≡ some document
+unfolding document column sheetOf sheetFrom laid flatten columnOf costOf closed every both pieces onto provided all
+document-sheet = refl
+
+document-matrix : matrixOf document ≡ matrix (5 ∷ (1 ∷ (9 ∷ (5 ∷ (1 ∷ (9 ∷ (5 ∷ (1 ∷ (9 ∷ []))))))))) 3 3
+unfolding document column flatten
+document-matrix = refl
+
+-- "one line for each column", "one column after another": the first line to try, `ab` over (5,1,9)(5,9,2)
+two-columns : Sheet
+two-columns = record { alphabet = bytes "ab"; text = bytes "ab"; columns = (5 ∷ (1 ∷ (9 ∷ []))) ∷ ((5 ∷ (9 ∷ (2 ∷ []))) ∷ []) }
+
+two-columns-sheet : sheetOf (bytes "ab\nab\n5 1 9\n5 9 2\n") ≡ some two-columns
+unfolding two-columns sheetOf sheetFrom laid flatten columnOf costOf closed every both pieces onto provided all
+two-columns-sheet = refl
+
+two-columns-matrix : matrixOf two-columns ≡ matrix (5 ∷ (1 ∷ (9 ∷ (5 ∷ (9 ∷ (2 ∷ [])))))) 3 2
+unfolding two-columns flatten
+two-columns-matrix = refl
+
+-- no column line: the width is K + 1; both lines may be empty
+no-column : Sheet
+no-column = record { alphabet = bytes "ab"; text = bytes "aa"; columns = [] }
+
+no-column-sheet : sheetOf (bytes "ab\naa\n") ≡ some no-column
+unfolding no-column sheetOf sheetFrom laid flatten columnOf costOf closed every both pieces onto provided all
+no-column-sheet = refl
+
+no-column-matrix : matrixOf no-column ≡ matrix [] 3 0
+unfolding no-column flatten
+no-column-matrix = refl
+
+empty-lines : sheetOf (bytes "\n\n") ≡ some (record { alphabet = []; text = []; columns = [] })
+unfolding sheetOf sheetFrom laid flatten columnOf costOf closed every both pieces onto provided all
+empty-lines = refl
+
+-- the costs that texts are
+costs :
+    map (λ s. costOf (bytes s)) ("0" ∷ ("7" ∷ ("10" ∷ ("1000000" ∷ ("9999999" ∷ [])))))
+    ≡ some 0 ∷ (some 7 ∷ (some 10 ∷ (some 1000000 ∷ (some 9999999 ∷ []))))
+unfolding costOf provided
+costs = refl
+
+-- texts that are no cost, and texts that are no sheet
+is-none : {A : Type 0} → Option A → Bool
+is-none none = true
+is-none (some a) = false
+
+no-costs : all (λ s. is-none (costOf (bytes s))) ("" ∷ ("00" ∷ ("01" ∷ ("0000001" ∷ ("10000000" ∷ ("-" ∷ ("1a" ∷ ("+1" ∷ [])))))))) ≡ true
+unfolding all costOf provided is-none
+no-costs = refl
+
+no-sheets : all (λ s. is-none (sheetOf (bytes s)))
+    (""
+    ∷ "ab"
+    ∷ "ab\n"
+    ∷ "ab\naa"
+    ∷ "ab\naa\n5 1 9"
+    ∷ "ab\naa\n\n"
+    ∷ "ab\naa\n5 1 9\n\n"
+    ∷ "ab\naa\n5 1 9\n5 1\n"
+    ∷ "ab\naa\n5 1\n5 1 9\n"
+    ∷ "ab\naa\n5  1\n"
+    ∷ "ab\naa\n 5 1\n"
+    ∷ "ab\naa\n5 1 \n"
+    ∷ "ab\naa\n5 01\n"
+    ∷ "ab\naa\n5\t1\n"
+    ∷ "ab\r\naa\r\n5 1 9\r\n"
+    ∷ [])
+    ≡ true
+unfolding is-none sheetOf sheetFrom laid flatten columnOf costOf closed every both pieces onto provided all
+no-sheets = refl

@@ -1,0 +1,330 @@
+-- The columns that the rest of a sheet holds, from any place on: what the rest's first line or first number makes of them.
+-- Assumes nothing.
+-- Used by Limits and Parts; in sheet_number, sheet_scan and sheet_columns.
+use mathlib.Core.Path.{_≡_, refl, sym, ap, _∙_}
+use mathlib.Core.Option.{Option, some, none}
+use mathlib.Core.List.{List, [], _∷_, _++_, append-assoc, append-nil}
+use mathlib.Core.Bool.{Bool, true, false, cond}
+use mathlib.Core.Logic.{_⊎_, inl, inr, ⊎-elim}
+use Prim.Native.Nat.{ℕ, _<_}
+use native.Mathlib.Omega.{arith}
+use lib.ListN.{length}
+use lib.Dec.{eqb}
+use borrow.Author.Tests.{ne-eqb, eq-eqb}
+use Rattle.lists.specs.Each.{Each, each-append}
+use Rattle.lists.specs.Order.{eq-or-ne}
+use Rattle.sheet_format.specs.Sheet.{onto, pieces, both, every, closed, linesOf, costOf, columnOf}
+
+-- no byte is the separator c
+abbrev pub Free : ℕ → List ℕ → Type 0
+Free c p = Each (λ b. b ≡ c → ⊥) p
+
+-- Pieces.
+
+-- every text has a first piece
+record Some (c : ℕ) (s : List ℕ) : Type 0 where
+  first : List ℕ
+  others : List (List ℕ)
+  is : pieces c s ≡ first ∷ others
+
+onto-some : (b : ℕ) (ps : List (List ℕ)) → (q : List ℕ) × (qs : List (List ℕ)) × (onto b ps ≡ q ∷ qs)
+unfolding onto
+onto-some b [] = (b ∷ [], [], refl)
+onto-some b (p ∷ ps) = (b ∷ p, ps, refl)
+
+some-piece : (c : ℕ) (s : List ℕ) → Some c s
+unfolding pieces
+some-piece c [] = record { first = []; others = []; is = refl }
+some-piece c (b ∷ s) = by (eqb b c) refl
+  where
+    by : (t : Bool) → eqb b c ≡ t → Some c (b ∷ s)
+    by true e = record { first = []; others = pieces c s; is = rw e }
+    by false e = let o = onto-some b (pieces c s) in record { first = o .0; others = o .1; is = rw e (o .2) }
+
+-- a part without separators in front of pieces
+unfoldable ahead : List ℕ → List (List ℕ) → List (List ℕ)
+ahead p [] = p ∷ []
+ahead p (q ∷ qs) = (p ++ q) ∷ qs
+
+ahead-onto : (b : ℕ) (p : List ℕ) (ps : List (List ℕ)) → onto b (ahead p ps) ≡ ahead (b ∷ p) ps
+unfolding ahead onto
+ahead-onto b p [] = refl
+ahead-onto b p (q ∷ qs) = refl
+
+pieces-ahead : (c : ℕ) (p s : List ℕ) → Free c p → pieces c (p ++ s) ≡ ahead p (pieces c s)
+unfolding ahead pieces
+pieces-ahead c [] s f = by (some-piece c s)
+  where
+    by : Some c s → pieces c s ≡ ahead [] (pieces c s)
+    by o = rw (o .is)
+pieces-ahead c (b ∷ p) s f = rw (ne-eqb b c (f .0), pieces-ahead c p s (f .1)) (ahead-onto b p (pieces c s))
+
+-- a piece that ends here
+pieces-end : (c : ℕ) (p s : List ℕ) → Free c p → pieces c (p ++ (c ∷ s)) ≡ p ∷ pieces c s
+unfolding ahead pieces
+pieces-end c p s f = pieces-ahead c p (c ∷ s) f ∙ rw (eq-eqb c c refl, append-nil)
+
+-- Lines.
+
+closed-more : (p : List ℕ) (c : ℕ) (s : List ℕ) → closed (p ∷ pieces c s) ≡ both (some p) (closed (pieces c s))
+unfolding closed
+closed-more p c s = let o = some-piece c s in rw (o .is)
+
+-- the first line ends here
+pub lines-end : (p s : List ℕ) → Free 10 p → linesOf (p ++ (10 ∷ s)) ≡ both (some p) (linesOf s)
+lines-end p s f = ap closed (pieces-end 10 p s f) ∙ closed-more p 10 s
+
+-- a text that begins with a part of a line
+unfoldable longer : List ℕ → Option (List (List ℕ)) → Option (List (List ℕ))
+longer p none = none
+longer p (some []) = none
+longer p (some (l ∷ ls)) = some ((p ++ l) ∷ ls)
+
+longer-both : (p q : List ℕ) (o : Option (List (List ℕ))) → both (some (p ++ q)) o ≡ longer p (both (some q) o)
+unfolding longer both
+longer-both p q none = refl
+longer-both p q (some ls) = refl
+
+closed-ahead : (a : ℕ) (p : List ℕ) (ps : List (List ℕ)) → closed (ahead (a ∷ p) ps) ≡ longer (a ∷ p) (closed ps)
+unfolding closed ahead longer
+closed-ahead a p [] = refl
+closed-ahead a p ([] ∷ []) = refl
+closed-ahead a p ((b ∷ q) ∷ []) = refl
+closed-ahead a p (q ∷ (r ∷ ps)) = longer-both (a ∷ p) q (closed (r ∷ ps))
+
+lines-longer : (a : ℕ) (p s : List ℕ) → Free 10 (a ∷ p) → linesOf ((a ∷ p) ++ s) ≡ longer (a ∷ p) (linesOf s)
+lines-longer a p s f = ap closed (pieces-ahead 10 (a ∷ p) s f) ∙ closed-ahead a p (pieces 10 s)
+
+-- a last line without its newline
+pub lines-open : (p : List ℕ) → 0 < length p → Free 10 p → linesOf p ≡ none
+unfolding longer closed pieces
+lines-open [] l f = absurd (omega arith)
+lines-open (a ∷ p) l f = ap linesOf (sym (append-nil (a ∷ p))) ∙ lines-longer a p [] f
+
+pub lines-none : linesOf [] ≡ some []
+unfolding closed pieces
+lines-none = refl
+
+-- a text whose lines are known begins with the first of them
+pub record FirstLine (s l : List ℕ) (ls : List (List ℕ)) : Type 0 where
+  pub behind : List ℕ
+  pub splits : s ≡ l ++ (10 ∷ behind)
+  pub others : linesOf behind ≡ some ls
+
+pub lines-back : (s l : List ℕ) (ls : List (List ℕ)) → linesOf s ≡ some (l ∷ ls) → FirstLine s l ls
+unfolding longer both
+lines-back [] l ls e = let n = lines-none in let z : _≡_ {A = ℕ} 0 1 = cc in absurd (omega arith)
+lines-back (b ∷ s) l ls e =
+    ⊎-elim (λ q. ends (linesOf s) refl q (sym (ap (λ a. linesOf (a ∷ s)) q ∙ lines-end [] s tt) ∙ e))
+    (λ q. goes-on (linesOf s) (lines-back s) (sym (lines-longer b [] s (q, tt)) ∙ e)) (eq-or-ne b 10)
+  where
+    ends : (o : Option (List (List ℕ))) → linesOf s ≡ o → b ≡ 10 → both (some []) o ≡ some (l ∷ ls) → FirstLine (b ∷ s) l ls
+    ends none p q h = let z : _≡_ {A = ℕ} 0 1 = cc in absurd (omega arith)
+    ends (some ms) p q h =
+        let k : [] ≡ l = cc in
+        let m : ms ≡ ls = cc in
+        record { behind = s; splits = ap (λ a. a ∷ s) q ∙ ap (λ x. x ++ (10 ∷ s)) k; others = p ∙ ap some m }
+
+    goes-on :
+        (o : Option (List (List ℕ))) → ((m : List ℕ) (ms : List (List ℕ)) → o ≡ some (m ∷ ms) → FirstLine s m ms)
+        → longer (b ∷ []) o ≡ some (l ∷ ls) → FirstLine (b ∷ s) l ls
+    goes-on none ih h = let z : _≡_ {A = ℕ} 0 1 = cc in absurd (omega arith)
+    goes-on (some []) ih h = let z : _≡_ {A = ℕ} 0 1 = cc in absurd (omega arith)
+    goes-on (some (m ∷ ms)) ih h =
+        let k : b ∷ m ≡ l = cc in
+        let n : ms ≡ ls = cc in
+        let f = ih m ms refl in
+        record {
+          behind = f .behind;
+          splits = ap (λ x. b ∷ x) (f .splits) ∙ ap (λ x. x ++ (10 ∷ f .behind)) k;
+          others = f .others ∙ ap some n;
+        }
+
+-- Columns.
+
+unfoldable pub columnsOf : Option (List (List ℕ)) → Option (List (List ℕ))
+columnsOf none = none
+columnsOf (some ls) = every columnOf ls
+
+-- the columns of a sheet's rest
+abbrev pub rows : List ℕ → Option (List (List ℕ))
+rows s = columnsOf (linesOf s)
+
+-- a cost in front of the first column
+unfoldable pub beside : Option ℕ → Option (List (List ℕ)) → Option (List (List ℕ))
+beside none o = none
+beside (some v) none = none
+beside (some v) (some []) = none
+beside (some v) (some (c ∷ cs)) = some ((v ∷ c) ∷ cs)
+
+both-none : {A : Type 0} (x : Option A) → both x none ≡ none
+unfolding both
+both-none none = refl
+both-none (some a) = refl
+
+pub rows-end : rows [] ≡ some []
+unfolding columnsOf closed pieces every
+rows-end = refl
+
+-- the first column ends with this line
+pub rows-line : (p s : List ℕ) → Free 10 p → rows (p ++ (10 ∷ s)) ≡ both (columnOf p) (rows s)
+unfolding columnsOf both every
+rows-line p s f = ap columnsOf (lines-end p s f) ∙ by (linesOf s)
+  where
+    by : (o : Option (List (List ℕ))) → columnsOf (both (some p) o) ≡ both (columnOf p) (columnsOf o)
+    by none = sym (both-none (columnOf p))
+    by (some ls) = refl
+
+-- the line that a cost alone is
+pub column-one : (p : List ℕ) → Free 32 p → columnOf p ≡ both (costOf p) (some [])
+unfolding columnOf every ahead pieces
+column-one p f = ap (every costOf) (ap (pieces 32) (sym (append-nil p)) ∙ pieces-ahead 32 p [] f ∙ ap (λ q. q ∷ []) (append-nil p))
+
+-- a line's first cost ends here
+column-more : (p l : List ℕ) → Free 32 p → columnOf (p ++ (32 ∷ l)) ≡ both (costOf p) (columnOf l)
+unfolding columnOf every
+column-more p l f = ap (every costOf) (pieces-end 32 p l f)
+
+beside-both : (x : Option ℕ) (y : Option (List ℕ)) (z : Option (List (List ℕ))) → both (both x y) z ≡ beside x (both y z)
+unfolding both beside
+beside-both none y z = refl
+beside-both (some v) none z = refl
+beside-both (some v) (some c) none = refl
+beside-both (some v) (some c) (some cs) = refl
+
+beside-none : (x : Option ℕ) → beside x none ≡ none
+unfolding beside
+beside-none none = refl
+beside-none (some v) = refl
+
+beside-nothing : (x : Option ℕ) → beside x (some []) ≡ none
+unfolding beside
+beside-nothing none = refl
+beside-nothing (some v) = refl
+
+free-snoc : (p : List ℕ) → Free 10 p → Free 10 (p ++ (32 ∷ []))
+free-snoc p f = each-append (λ b. b ≡ 10 → ⊥) p (32 ∷ []) f (λ e. omega arith, tt)
+
+-- a space stands behind the first cost
+pub rows-space : (p s : List ℕ) → Free 10 p → Free 32 p → rows (p ++ (32 ∷ s)) ≡ beside (costOf p) (rows s)
+unfolding columnsOf longer every
+rows-space p s f g =
+    ap columnsOf (ap linesOf (sym (append-assoc p (32 ∷ []) s)) ∙ front p f) ∙ by (linesOf s)
+  where
+    front : (p : List ℕ) → Free 10 p → linesOf ((p ++ (32 ∷ [])) ++ s) ≡ longer (p ++ (32 ∷ [])) (linesOf s)
+    front [] f = lines-longer 32 [] s (free-snoc [] f)
+    front (a ∷ p) f = lines-longer a (p ++ (32 ∷ [])) s (free-snoc (a ∷ p) f)
+
+    by : (o : Option (List (List ℕ))) → columnsOf (longer (p ++ (32 ∷ [])) o) ≡ beside (costOf p) (columnsOf o)
+    by none = sym (beside-none (costOf p))
+    by (some []) = sym (beside-nothing (costOf p))
+    by (some (l ∷ ls)) =
+        ap (λ q. both (columnOf q) (every columnOf ls)) (append-assoc p (32 ∷ []) l)
+        ∙ ap (λ q. both q (every columnOf ls)) (column-more p l g)
+        ∙ beside-both (costOf p) (columnOf l) (every columnOf ls)
+
+-- the first piece is the whole text, or a separator stands behind it
+abbrev Leads : ℕ → List ℕ → List ℕ → Type 0
+Leads c p s = (s ≡ p) ⊎ ((r : List ℕ) × (s ≡ p ++ (c ∷ r)))
+
+piece-back : (c : ℕ) (s p : List ℕ) (ps : List (List ℕ)) → pieces c s ≡ p ∷ ps → Leads c p s
+unfolding pieces onto
+piece-back c [] p ps e = inl cc
+piece-back c (b ∷ s) p ps e =
+    let o = some-piece c s in ⊎-elim ends (λ n. goes-on n o (piece-back c s (o .first) (o .others) (o .is))) (eq-or-ne b c)
+  where
+    ends : b ≡ c → Leads c p (b ∷ s)
+    ends q =
+        let h : [] ∷ pieces c s ≡ p ∷ ps = rw (eq-eqb b c q) at e in
+        let k : [] ≡ p = cc in
+        inr (s, ap (λ a. a ∷ s) q ∙ ap (λ x. x ++ (c ∷ s)) k)
+
+    goes-on : (b ≡ c → ⊥) → (o : Some c s) → Leads c (o .first) s → Leads c p (b ∷ s)
+    goes-on n o l =
+        let h : (b ∷ o .first) ∷ o .others ≡ p ∷ ps = rw (ne-eqb b c n, o .is) at e in
+        let k : b ∷ o .first ≡ p = cc in
+        ⊎-elim (λ q. inl (ap (λ x. b ∷ x) q ∙ k)) (λ r. inr (r .0, ap (λ x. b ∷ x) (r .1) ∙ ap (λ x. x ++ (c ∷ r .0)) k)) l
+
+both-front : {A : Type 0} (x : Option A) (o : Option (List A)) (ys : List A) → both x o ≡ some ys → (y : A) × (x ≡ some y)
+unfolding both
+both-front none o ys e = let z : _≡_ {A = ℕ} 0 1 = cc in absurd (omega arith)
+both-front (some a) o ys e = (a, refl)
+
+-- a rest that has a column begins with a cost, and a separator stands behind it
+pub record FirstCost (s : List ℕ) : Type 0 where
+  pub text : List ℕ
+  pub cost : ℕ
+  pub separator : ℕ
+  pub behind : List ℕ
+  pub splits : s ≡ text ++ (separator ∷ behind)
+  pub is-cost : costOf text ≡ some cost
+  pub is-separator : (separator ≡ 32) ⊎ (separator ≡ 10)
+
+pub rows-back : (s c : List ℕ) (cs : List (List ℕ)) → rows s ≡ some (c ∷ cs) → FirstCost s
+unfolding columnsOf columnOf every
+rows-back s c cs e = by (linesOf s) refl e
+  where
+    first : (l : List ℕ) (ls : List (List ℕ)) → FirstLine s l ls → Some 32 l → (d : List ℕ) → columnOf l ≡ some d → FirstCost s
+    first l ls f o d h =
+        let g : both (costOf (o .first)) (every costOf (o .others)) ≡ some d = ap (every costOf) (sym (o .is)) ∙ h in
+        let x = both-front (costOf (o .first)) (every costOf (o .others)) d g in
+        ⊎-elim
+        (λ q.
+        record {
+          text = o .first;
+          cost = x .0;
+          separator = 10;
+          behind = f .behind;
+          splits = f .splits ∙ ap (λ t. t ++ (10 ∷ f .behind)) q;
+          is-cost = x .1;
+          is-separator = inr refl;
+        })
+        (λ r.
+        record {
+          text = o .first;
+          cost = x .0;
+          separator = 32;
+          behind = r .0 ++ (10 ∷ f .behind);
+          splits = f .splits ∙ ap (λ t. t ++ (10 ∷ f .behind)) (r .1) ∙ append-assoc (o .first) (32 ∷ r .0) (10 ∷ f .behind);
+          is-cost = x .1;
+          is-separator = inl refl;
+        })
+        (piece-back 32 l (o .first) (o .others) (o .is))
+
+    by : (o : Option (List (List ℕ))) → linesOf s ≡ o → columnsOf o ≡ some (c ∷ cs) → FirstCost s
+    by none q h = let z : _≡_ {A = ℕ} 0 1 = cc in absurd (omega arith)
+    by (some []) q h = let z : _≡_ {A = ℕ} 0 1 = cc in absurd (omega arith)
+    by (some (l ∷ ls)) q h =
+        let x = both-front (columnOf l) (every columnOf ls) (c ∷ cs) h in
+        first l ls (lines-back s l ls q) (some-piece 32 l) (x .0) (x .1)
+
+-- what a cost makes of the columns behind its separator b
+abbrev pub put : Option ℕ → ℕ → Option (List (List ℕ)) → Option (List (List ℕ))
+put x b o = cond (eqb b 10) (both (both x (some [])) o) (beside x o)
+
+pub rows-put :
+    (p : List ℕ) (b : ℕ) (s : List ℕ) → Free 10 p → Free 32 p → (b ≡ 32) ⊎ (b ≡ 10) → rows (p ++ (b ∷ s)) ≡ put (costOf p) b (rows s)
+rows-put p b s f g (inl e) = rw e (rows-space p s f g)
+rows-put p b s f g (inr e) = rw e (rows-line p s f ∙ ap (λ c. both c (rows s)) (column-one p g))
+
+-- a rest that is not empty has a column, or none are read
+both-some : {A : Type 0} (x : Option A) (o : Option (List A)) → both x o ≡ some [] → ⊥
+unfolding both
+both-some none o e = let z : _≡_ {A = ℕ} 0 1 = cc in omega arith
+both-some (some a) none e = let z : _≡_ {A = ℕ} 0 1 = cc in omega arith
+both-some (some a) (some bs) e = let z : _≡_ {A = ℕ} 0 1 = cc in omega arith
+
+pub rows-some : (s : List ℕ) → 0 < length s → rows s ≡ some [] → ⊥
+unfolding columnsOf longer every
+rows-some [] l e = absurd (omega arith)
+rows-some (b ∷ s) l e =
+    ⊎-elim (λ q. both-some (columnOf []) (rows s) (sym (line q) ∙ e))
+    (λ q. by (linesOf s) (sym (ap columnsOf (lines-longer b [] s (q, tt))) ∙ e)) (eq-or-ne b 10)
+  where
+    line : b ≡ 10 → rows (b ∷ s) ≡ both (columnOf []) (rows s)
+    line q = ap (λ a. rows (a ∷ s)) q ∙ rows-line [] s tt
+
+    by : (o : Option (List (List ℕ))) → columnsOf (longer (b ∷ []) o) ≡ some [] → ⊥
+    by none e = let z : _≡_ {A = ℕ} 0 1 = cc in omega arith
+    by (some []) e = let z : _≡_ {A = ℕ} 0 1 = cc in omega arith
+    by (some (l ∷ ls)) e = both-some (columnOf (b ∷ l)) (every columnOf ls) e

@@ -1,0 +1,103 @@
+-- The layout of a sheet (document 01, "Confidences and the sheet program"): "alphabet line, expression line, then one line for each
+-- column, numbers of 1 to 7 digits with no extra leading zero, one space between." What is no sheet is row 18. Assumes nothing.
+-- Used by 4 files of specs/; in sheet_number, vectors_fields, sheet_answer, sheet_scan, sheet and sheet_columns.
+use mathlib.Core.Option.{Option, some, none}
+use mathlib.Core.List.{List, [], _∷_, flatten}
+use mathlib.Core.Bool.{Bool, true, false, cond, not, _&&_}
+use Prim.Native.Nat.{ℕ, _+_}
+use Prim.Native.Char.{code}
+use lib.ListN.{length}
+use lib.Dec.{eqb, leb}
+use Rattle.lists.specs.Each.{all}
+use Rattle.regex.specs.Text.{provided}
+use Rattle.regex.specs.Repetition.{digits, value}
+use Rattle.outcome.specs.Matrix.{Matrix, matrix}
+
+-- a byte in front of the first piece
+unfoldable pub onto : ℕ → List (List ℕ) → List (List ℕ)
+onto b [] = (b ∷ []) ∷ []
+onto b (p ∷ ps) = (b ∷ p) ∷ ps
+
+-- the parts of a text between its separators c: one part more than there are separators
+unfoldable pub pieces : ℕ → List ℕ → List (List ℕ)
+pieces c [] = [] ∷ []
+pieces c (b ∷ s) = cond (eqb b c) ([] ∷ pieces c s) (onto b (pieces c s))
+
+-- one in front of the others, if there is the one and there are the others
+unfoldable pub both : {A : Type 0} → Option A → Option (List A) → Option (List A)
+both none ys = none
+both (some y) none = none
+both (some y) (some ys) = some (y ∷ ys)
+
+-- what each element gives, if each gives something
+unfoldable pub every : {A B : Type 0} → (A → Option B) → List A → Option (List B)
+every f [] = some []
+every f (x ∷ xs) = both (f x) (every f xs)
+
+-- the pieces but for the last, which must be empty
+unfoldable pub closed : List (List ℕ) → Option (List (List ℕ))
+closed [] = none
+closed ([] ∷ []) = some []
+closed ((b ∷ p) ∷ []) = none
+closed (p ∷ (q ∷ ps)) = both (some p) (closed (q ∷ ps))
+
+-- the lines of a text that ends with a newline
+abbrev pub linesOf : List ℕ → Option (List (List ℕ))
+linesOf s = closed (pieces 10 s)
+
+-- a 0 stands in front of another digit
+abbrev pub extra-zero : List ℕ → Bool
+extra-zero [] = false
+extra-zero (a ∷ []) = false
+extra-zero (a ∷ (b ∷ s)) = eqb a (code "0")
+
+-- the cost that is written so
+unfoldable pub costOf : List ℕ → Option ℕ
+costOf s = provided (digits s && leb 1 (length s) && leb (length s) 7 && not (extra-zero s)) (some (value 0 s))
+
+-- the costs of a column line
+unfoldable pub columnOf : List ℕ → Option (List ℕ)
+columnOf line = every costOf (pieces (code " ") line)
+
+pub record Sheet : Type 0 where
+  pub alphabet : List ℕ
+  pub text : List ℕ
+  pub columns : List (List ℕ)
+
+-- each column has as many costs as the first
+abbrev pub equal-columns : List (List ℕ) → Bool
+equal-columns [] = true
+equal-columns (c ∷ cs) = all (λ d. eqb (length d) (length c)) cs
+
+-- equally long, and not more than 16,384 costs
+abbrev pub fitting : List (List ℕ) → Bool
+fitting cs = equal-columns cs && leb (length (flatten cs)) 16384
+
+-- a sheet of two lines and columns, if the columns fit
+unfoldable pub laid : List ℕ → List ℕ → Option (List (List ℕ)) → Option Sheet
+laid a t none = none
+laid a t (some cs) = provided (fitting cs) (some (record { alphabet = a; text = t; columns = cs }))
+
+-- the alphabet line, the expression line and the column lines: "There may be no column line".
+unfoldable pub sheetFrom : Option (List (List ℕ)) → Option Sheet
+sheetFrom none = none
+sheetFrom (some []) = none
+sheetFrom (some (a ∷ [])) = none
+sheetFrom (some (a ∷ (t ∷ ls))) = laid a t (every columnOf ls)
+
+-- the most bytes that a sheet may have
+abbrev pub most-bytes : ℕ
+most-bytes = 65535
+
+-- Row 18: "not this layout, no final newline, columns unequal, over 65,535 bytes or 16,384 costs".
+unfoldable pub sheetOf : List ℕ → Option Sheet
+sheetOf input = provided (leb (length input) most-bytes) (sheetFrom (linesOf input))
+
+-- without a column line "the column width then counts as K + 1"
+abbrev pub widthOr : ℕ → List (List ℕ) → ℕ
+widthOr other [] = other
+widthOr other (c ∷ cs) = length c
+
+-- the columns one behind another
+abbrev pub matrixOf : Sheet → Matrix
+matrixOf S = matrix (flatten (S .columns)) (widthOr (length (S .alphabet) + 1) (S .columns)) (length (S .columns))

@@ -1,0 +1,13 @@
+-- `sheet_number::is_separator` meets its contract, by its two tests. Assumes nothing.
+use borrow.Author.Tests.{eq-eqb, ne-eqb}
+use Rattle.sheet_number.proofs.is_separator.Statement.{statement}
+use Rattle.sheet_number.proofs.is_separator.Tie as tie
+
+returns : tie.Need-returns
+returns c = simp (eq-eqb _ _ (c .if1 .taken))
+
+returns-2 : tie.Need-returns-2
+returns-2 c = simp (ne-eqb _ _ (c .if1 .left))
+
+pub is-separator-spec : {M : Type 1} → statement M
+is-separator-spec = tie.close (tie.spec returns returns-2)

@@ -1,0 +1,17 @@
+-- `sheet_number::line_end` meets its contract: the first newline is the line's end. Assumes nothing.
+use denote.Ref.{now}
+use borrow.Author.Needs.{needs}
+use Rattle.sheet_number.specs.Places.{line-found}
+use Rattle.sheet_number.proofs.line_end.Statement.{statement}
+use Rattle.sheet_number.proofs.line_end.Tie as tie
+
+find-requires : tie.Need-find-requires
+find-requires c κs = search needs
+
+returns : tie.Need-returns
+returns c =
+    let s = c .before .before in
+    line-found (now (s .args .input)) (s .args .at) (c .find .result) (s .pre) (c .find .ensures)
+
+pub line-end-spec : {M : Type 1} → statement M
+line-end-spec = tie.close (tie.spec find-requires returns)

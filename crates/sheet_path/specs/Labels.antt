@@ -1,0 +1,23 @@
+-- Labels in decimal, one space between, as bytes. Assumes nothing.
+-- Used by the contracts, the proofs and Turns; in sheet_answer and sheet_lines.
+use Prim.Native.Nat.{ℕ}
+use Prim.Native.Char.{code}
+use mathlib.Core.Path.{_≡_, refl}
+use mathlib.Core.List.{List, [], _∷_, _++_, flatMap}
+use Rattle.regex.specs.Bytes.{bytes}
+use Rattle.sheet_decimal.specs.Numerals.{digits, decimal}
+
+-- labels in decimal, each behind a space
+unfoldable pub following : List ℕ → List ℕ
+following p = flatMap (λ x. code " " ∷ decimal x) p
+
+-- labels in decimal, one space between
+unfoldable pub spaced : List ℕ → List ℕ
+spaced [] = []
+spaced (x ∷ p) = decimal x ++ following p
+
+-- Checked on three labels.
+
+labels : spaced (1 ∷ 0 ∷ 95 ∷ []) ≡ bytes "1 0 95"
+unfolding spaced following decimal digits flatMap
+labels = refl

@@ -1,0 +1,28 @@
+// What is printed of Read's answer: the line of a refusal, or the lines of the word and the path that lie in lent memory (document 01,
+// "Output in full").
+use answers::Reading;
+ghost use Prim.Native.Nat.{_≤_};
+ghost use lib.ListN.{length};
+ghost use Rattle.lists.specs.Written.{Wrote};
+ghost use Rattle.sheet_print.specs.Printed.{Shown, answer-lines};
+
+// Prints what Read answered of `count` columns, with path and word memory as it left them; the number of bytes.
+pub fn print_answer(
+    answer: Reading,
+    count: usize,
+    path: &[u8],
+    word: &[u8],
+    out: &mut [u8],
+) -> usize
+    requires { ⌜ Shown answer count (now path) (now word) × (length (answer-lines answer count (now path) (now word)) ≤ length (now out)) ⌝ }
+    ensures { λ r. ⌜ Wrote (answer-lines answer count (now (path .entry)) (now (word .entry))) (now (out .entry)) (now (out .exit)) r ⌝ }
+{
+    match answer {
+        Reading::Refused(r) => sheet_lines::print_refusal(r, out),
+        Reading::Path {
+            price,
+            length,
+            form: _,
+        } => sheet_lines::print_reading(price, &word[..length], &path[..count], out),
+    }
+}

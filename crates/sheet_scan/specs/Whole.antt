@@ -1,0 +1,123 @@
+-- The sheet that an input is, by the ends of its first two lines and the columns behind them: a lemma for each return of `scan`.
+-- Assumes nothing.
+-- Used by the proofs.
+use mathlib.Core.Path.{_≡_, refl, sym, ap, _∙_}
+use mathlib.Core.Option.{Option, some, none}
+use mathlib.Core.List.{List, [], _∷_, _++_, append-nil}
+use mathlib.Core.Bool.{true}
+use mathlib.Core.Logic.{_⊎_, inl, inr, ⊎-elim}
+use Prim.Native.Nat.{ℕ, _+_, _-_, _<_, _≤_}
+use native.Mathlib.Omega.{arith}
+use lib.ListN.{length, drop}
+use borrow.Author.Tests.{le-leb, lt-leb}
+use Rattle.lists.specs.Each.{drop-here, drop-all}
+use Rattle.lists.specs.Order.{eq-or-ne, true-or-false}
+use Rattle.lists.specs.Written.{written}
+use Rattle.regex.specs.Text.{provided}
+use Rattle.sheet_format.specs.Sheet.{both, linesOf, Sheet, fitting, laid, sheetFrom, most-bytes, sheetOf, widthOr, matrixOf}
+use Rattle.sheet_format.specs.Rows.{lines-end, lines-open, lines-none, columnsOf, rows}
+use Rattle.sheet_number.specs.Places.{part, part-length, part-rest, LineEnd}
+use Rattle.sheet_columns.specs.Matrices.{StoredMatrix}
+use Rattle.sheet_columns.specs.declared.Body.the-variants as body
+use Rattle.sheet_scan.specs.Answers.{answerOf, Scans}
+use Rattle.sheet_scan.specs.declared.Scanned.the-variants as scanned
+
+-- The line at a place.
+
+module _ (input : List ℕ) (at e : ℕ) (h : LineEnd input at e) where
+  lines-at : e < length input → linesOf (drop at input) ≡ both (some (part at e input)) (linesOf (drop (e + 1) input))
+  lines-at l =
+      ap linesOf
+      (part-rest input at e (h .from)
+      ∙ ap (λ r. part at e input ++ r) (drop-here 0 input e l ∙ ap (λ b. b ∷ drop (e + 1) input) (h .newline l)))
+      ∙ lines-end (part at e input) (drop (e + 1) input) (h .line)
+
+  -- the input ends, and no line is left
+  lines-short : e ≡ length input → (linesOf (drop at input) ≡ none) ⊎ (linesOf (drop at input) ≡ some [])
+  lines-short l = ⊎-elim (λ q. inr (ap linesOf (drop-all input at (omega arith)) ∙ lines-none)) (λ q. inl (open-line q)) (eq-or-ne at e)
+    where
+      open-line : (at ≡ e → ⊥) → linesOf (drop at input) ≡ none
+      open-line q =
+          let f = h .from in
+          let n = part-length input at e f (h .within) in
+          let d : drop at input ≡ part at e input =
+          part-rest input at e f ∙ ap (λ r. part at e input ++ r) (drop-all input e (omega arith)) ∙ append-nil (part at e input) in
+          ap linesOf d ∙ lines-open (part at e input) (omega arith) (h .line)
+
+-- No sheet.
+
+pub scans-bad : (input before after : List ℕ) → sheetOf input ≡ none → length after ≡ length before → Scans input before after scanned.Bad
+scans-bad input before after e n =
+    record {
+      answer = sym (ap answerOf e);
+      costs = λ S h. let z : _≡_ {A = ℕ} 0 1 = cc in absurd (omega arith);
+      size = n;
+    }
+
+pub sheet-long : (input : List ℕ) → most-bytes < length input → sheetOf input ≡ none
+unfolding sheetOf provided
+sheet-long input l = rw (lt-leb (length input) most-bytes l)
+
+module _ (input : List ℕ) (l : length input ≤ most-bytes) where
+  sheet-from : sheetOf input ≡ sheetFrom (linesOf input)
+  unfolding sheetOf provided
+  sheet-from = rw (le-leb (length input) most-bytes l)
+
+  pub sheet-no-line : (a : ℕ) → LineEnd input 0 a → a ≡ length input → sheetOf input ≡ none
+  unfolding sheetFrom
+  sheet-no-line a h e = sheet-from ∙ ⊎-elim (λ q. ap sheetFrom q) (λ q. ap sheetFrom q) (lines-short input 0 a h e)
+
+  module _ (a : ℕ) (h : LineEnd input 0 a) (al : a < length input) where
+    first-line : sheetOf input ≡ sheetFrom (both (some (part 0 a input)) (linesOf (drop (a + 1) input)))
+    first-line = sheet-from ∙ ap sheetFrom (lines-at input 0 a h al)
+
+    pub sheet-one-line : (e : ℕ) → LineEnd input (a + 1) e → e ≡ length input → sheetOf input ≡ none
+    unfolding sheetFrom both
+    sheet-one-line e k q =
+        first-line
+        ∙ ⊎-elim (λ o. ap (λ x. sheetFrom (both (some (part 0 a input)) x)) o) (λ o. ap (λ x. sheetFrom (both (some (part 0 a input)) x)) o)
+        (lines-short input (a + 1) e k q)
+
+    module _ (e : ℕ) (k : LineEnd input (a + 1) e) (el : e < length input) where
+      both-lines : sheetOf input ≡ laid (part 0 a input) (part (a + 1) e input) (rows (drop (e + 1) input))
+      unfolding sheetFrom both laid columnsOf
+      both-lines =
+          first-line ∙ ap (λ x. sheetFrom (both (some (part 0 a input)) x)) (lines-at input (a + 1) e k el) ∙ by (linesOf (drop (e + 1) input))
+        where
+          by :
+              (o : Option (List (List ℕ)))
+              → sheetFrom (both (some (part 0 a input)) (both (some (part (a + 1) e input)) o))
+              ≡ laid (part 0 a input) (part (a + 1) e input) (columnsOf o)
+          by none = refl
+          by (some ls) = refl
+
+      module _ (before after : List ℕ) where
+        pub sheet-unfit : StoredMatrix (a + 1) input (e + 1) before after body.Bad → sheetOf input ≡ none
+        unfolding laid provided
+        sheet-unfit s = both-lines ∙ by (rows (drop (e + 1) input)) (s .0)
+          where
+            by :
+                (o : Option (List (List ℕ))) → ((cs : List (List ℕ)) → o ≡ some cs → fitting cs ≡ true → ⊥)
+                → laid (part 0 a input) (part (a + 1) e input) o ≡ none
+            by none s = refl
+            by (some cs) s = ⊎-elim (λ t. absurd (s cs refl t)) (λ t. rw t) (true-or-false (fitting cs))
+
+        module _ (w n : ℕ) (s : StoredMatrix (a + 1) input (e + 1) before after (body.Matrix w n)) where
+          abbrev whole : Sheet
+          whole = record { alphabet = part 0 a input; text = part (a + 1) e input; columns = s .columns }
+
+          is-sheet : sheetOf input ≡ some whole
+          unfolding laid provided
+          is-sheet = both-lines ∙ ap (laid (part 0 a input) (part (a + 1) e input)) (s .are) ∙ rw (s .fits)
+
+          pub scans-sheet : length after ≡ length before → Scans input before after (scanned.Sheet a (e - (a + 1)) w n)
+          scans-sheet size =
+              let i : sheetOf input ≡ some whole = is-sheet in
+              let p : length (part 0 a input) ≡ a = part-length input 0 a (h .from) (h .within) ∙ omega arith in
+              let q : length (part (a + 1) e input) ≡ e - (a + 1) = part-length input (a + 1) e (k .from) (k .within) in
+              let v : w ≡ widthOr (length (part 0 a input) + 1) (s .columns) = s .is-width ∙ ap (λ i. widthOr (i + 1) (s .columns)) (sym p) in
+              record {
+                answer = cc;
+                costs = λ S f. let t : whole ≡ S = cc in s .memory ∙ ap (λ T. written (matrixOf T .costs) before) t;
+                size = size;
+              }

@@ -1,0 +1,122 @@
+// The states that a step from a set of states leads to. A set of states is an array of truth values, state 2i − 1 standing for letter i
+// and state 2i for the blanks after it.
+use form_words::label;
+use form_words::letters;
+use form_words::may_be_first;
+use form_words::target;
+ghost use mathlib.Core.Path.{_≡_};
+ghost use mathlib.Core.Bool.{false};
+ghost use Prim.Native.Nat.{_+_, _*_, _<_, _≤_};
+ghost use lib.ListN.{length, replicate};
+ghost use Rattle.lists.specs.Marks.{Has, Marks, Turns};
+ghost use Rattle.automaton.specs.Form.{lettersOf, view};
+ghost use Rattle.automaton.specs.Valid.{Valid};
+ghost use Rattle.form_starts.specs.Starts.{Begins, ArcStarts};
+ghost use Rattle.trellis.specs.Reached.{entering as enteringOf, Reached};
+ghost use Rattle.trellis_steps.specs.Steps.{Onto, OtherLetter, Led, Behind, TargetOf, From, Within};
+
+// The label of each step into state u: the blank, or that of its letter.
+pub fn entering(form: &[u32], u: usize) -> usize
+    requires { ⌜ (lettersOf (now form) < length (now form)) × (u ≤ 2 * lettersOf (now form)) ⌝ }
+    ensures { λ r. ⌜ r ≡ enteringOf (view (now (form .entry))) u ⌝ }
+{
+    if u % 2 == 0 {
+        return 0;
+    }
+    label(form, (u + 1) / 2)
+}
+
+// Marks the state on letter j, unless its label is `own`, the label that the path is on.
+fn mark_letter(form: &[u32], own: usize, j: usize, set: &mut [bool; 255])
+    requires { ⌜ Valid (now form) × (1 ≤ j) × (j ≤ lettersOf (now form)) × (length (now set) ≡ 255) ⌝ }
+    ensures { λ _. ⌜ Marks (OtherLetter (view (now (form .entry))) own j) (now (set .entry)) (now (set .exit)) ⌝ }
+{
+    if label(form, j) != own {
+        set[2 * j - 1] = true;
+    }
+}
+
+// Marks the state on letter j if it may be first, unless its label is `own`.
+fn mark_first(form: &[u32], own: usize, j: usize, set: &mut [bool; 255])
+    requires { ⌜ Valid (now form) × (1 ≤ j) × (j ≤ lettersOf (now form)) × (length (now set) ≡ 255) ⌝ }
+    ensures { λ _. ⌜ Marks (Led (view (now (form .entry))) own 0 j) (now (set .entry)) (now (set .exit)) ⌝ }
+{
+    if may_be_first(form, j) {
+        mark_letter(form, own, j, set);
+    }
+}
+
+// Marks the states on letters that may be first.
+fn mark_firsts(form: &[u32], own: usize, set: &mut [bool; 255])
+    requires { ⌜ Valid (now form) × (length (now set) ≡ 255) ⌝ }
+    ensures { λ _. ⌜ Marks (Behind (view (now (form .entry))) own 0) (now (set .entry)) (now (set .exit)) ⌝ }
+{
+    let l = letters(form);
+    let mut j = 1;
+    while j <= l {
+        mark_first(form, own, j, set);
+        j += 1;
+    }
+}
+
+// Marks the states on the targets of the arcs from b up to e.
+fn mark_targets(form: &[u32], own: usize, b: usize, e: usize, set: &mut [bool; 255])
+    requires { ⌜ Valid (now form) × (lettersOf (now form) < b) × (b ≤ e) × (e ≤ length (now form)) × (length (now set) ≡ 255) ⌝ }
+    ensures { λ _. ⌜ Marks (Turns (TargetOf (now (form .entry)) own) b e) (now (set .entry)) (now (set .exit)) ⌝ }
+{
+    let mut n = b;
+    while n < e {
+        mark_letter(form, own, target(form, n), set);
+        n += 1;
+    }
+}
+
+// Marks the states on letters that may stand behind letter i, whose arcs stand from b up to e.
+fn mark_behind(form: &[u32], own: usize, i: usize, b: usize, e: usize, set: &mut [bool; 255])
+    requires { ⌜ Valid (now form) × Begins (now form) i b × Begins (now form) (i + 1) e × (length (now set) ≡ 255) ⌝ }
+    ensures { λ _. ⌜ Marks (Behind (view (now (form .entry))) own i) (now (set .entry)) (now (set .exit)) ⌝ }
+{
+    if i == 0 {
+        mark_firsts(form, own, set);
+        return;
+    }
+    mark_targets(form, own, b, e, set);
+}
+
+// Marks the states that a step from state s leads to: itself, the blanks after its letter, and the letters that may stand behind it.
+// From a letter no arc leads to an equal label; in blanks `own` is the blank, which no letter has.
+fn mark_steps(form: &[u32], begins: &[usize], s: usize, set: &mut [bool; 255])
+    requires { ⌜ Valid (now form) × ArcStarts (now form) (now begins) × (s ≤ 2 * lettersOf (now form)) × (length (now set) ≡ 255) ⌝ }
+    ensures { λ _. ⌜ Marks (Onto (view (now (form .entry))) s) (now (set .entry)) (now (set .exit)) ⌝ }
+{
+    let i = (s + 1) / 2;
+    let own = entering(form, s);
+    set[s] = true;
+    set[2 * i] = true;
+    mark_behind(form, own, i, begins[i], begins[i + 1], set);
+}
+
+// Marks the states that a step from state s leads to, if it is in the set.
+fn mark_from(form: &[u32], begins: &[usize], from: &[bool; 255], s: usize, set: &mut [bool; 255])
+    requires { ⌜ Valid (now form) × ArcStarts (now form) (now begins) × (s ≤ 2 * lettersOf (now form)) × (length (now set) ≡ 255) ⌝ }
+    ensures { λ _. ⌜ Marks (From (view (now (form .entry))) (now (from .entry)) s) (now (set .entry)) (now (set .exit)) ⌝ }
+{
+    if from[s] {
+        mark_steps(form, begins, s, set);
+    }
+}
+
+// The states that a step from the set leads to.
+pub fn reached(form: &[u32], begins: &[usize], from: &[bool; 255]) -> [bool; 255]
+    requires { ⌜ Valid (now form) × ArcStarts (now form) (now begins) × Within (now form) (now from) ⌝ }
+    ensures { λ r. ⌜ Marks (Reached (view (now (form .entry))) (Has (now (from .entry)))) (replicate 255 false) r ⌝ }
+{
+    let last = 2 * letters(form);
+    let mut set = [false; 255];
+    let mut s = 0;
+    while s <= last {
+        mark_from(form, begins, from, s, &mut set);
+        s += 1;
+    }
+    set
+}

@@ -1,0 +1,68 @@
+// The table of costs to go of Decode, filled backward, row by row (document 01, "Extended states and decoding").
+use form_starts::starts;
+use form_words::letters;
+use trellis_costs::last_cost;
+use trellis_row::fill_row;
+ghost use Prim.Native.Nat.{_+_, _*_, _<_};
+ghost use lib.ListN.{length};
+ghost use Rattle.automaton.specs.Form.{lettersOf, view};
+ghost use Rattle.automaton.specs.Valid.{Valid};
+ghost use Rattle.outcome.specs.Matrix.{matrix};
+ghost use Rattle.trellis.specs.Table.{Row};
+ghost use Rattle.trellis_table.specs.Last.{LastFilled};
+ghost use Rattle.trellis_table.specs.Fill.{states, Sized, RowsFilled, Filled};
+
+// The mark for the impossible, which the answer may be.
+pub use trellis_costs::TOP;
+
+// Writes the last row, at `base`.
+fn fill_last(form: &[u32], work: &mut [u32], base: usize)
+    requires { ⌜ Valid (now form) × (base + 2 * lettersOf (now form) < length (now work)) ⌝ }
+    ensures { λ _. ⌜ LastFilled (now (form .entry)) (now (work .entry)) (now (work .exit)) base ⌝ }
+{
+    let n = 2 * letters(form) + 1;
+    let mut s = 0;
+    while s < n {
+        work[base + s] = last_cost(form, s);
+        s += 1;
+    }
+}
+
+// Writes the rows of all columns, `stride` apart, from the last column to the first; the last row stands behind them.
+fn fill_rows(
+    form: &[u32],
+    costs: &[u32],
+    width: usize,
+    count: usize,
+    work: &mut [u32],
+    stride: usize,
+)
+    requires { ⌜ Sized (now form) (matrix (now costs) width count) (now work) stride × Row (view (now form)) (matrix (now costs) width count) (now work) (count * stride) count 0 ⌝ }
+    ensures { λ _. ⌜ RowsFilled (now (form .entry)) (matrix (now (costs .entry)) width count) (now (work .entry)) (now (work .exit)) stride 0 ⌝ }
+{
+    let begins = starts(form);
+    let mut t = count;
+    while 0 < t {
+        t -= 1;
+        fill_row(
+            form,
+            &begins,
+            costs,
+            t * width,
+            work,
+            t * stride,
+            t * stride + stride,
+        );
+    }
+}
+
+// Fills the table of costs to go. The answer is the least price, or TOP where there is none.
+pub fn fill(form: &[u32], costs: &[u32], width: usize, count: usize, work: &mut [u32]) -> u32
+    requires { ⌜ Sized (now form) (matrix (now costs) width count) (now work) (states (now form)) ⌝ }
+    ensures { λ r. ⌜ Filled (now (form .entry)) (matrix (now (costs .entry)) width count) (now (work .entry)) (now (work .exit)) r ⌝ }
+{
+    let stride = 2 * letters(form) + 1;
+    fill_last(form, work, count * stride);
+    fill_rows(form, costs, width, count, work, stride);
+    work[0]
+}

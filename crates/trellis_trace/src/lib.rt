@@ -1,0 +1,48 @@
+// The best path, traced forward through the table of costs to go (document 01, "Extended states and decoding"): the set of all
+// equally cheap states is taken on column by column, by the lowest label that keeps to the price.
+use form_starts::starts;
+use form_words::letters;
+use trellis_column::Front;
+use trellis_column::advance;
+ghost use Prim.Native.Nat.{_≤_};
+ghost use lib.ListN.{length};
+ghost use Rattle.automaton.specs.Form.{view};
+ghost use Rattle.outcome.specs.Matrix.{matrix};
+ghost use Rattle.trellis_trace.specs.Traced.{Ready, Traced};
+
+// Writes the best path, one label for each column. The row of column t begins at base + t * stride of the work memory: rows of several
+// tables may stand in one list, as request T-08 will need.
+pub fn trace(
+    form: &[u32],
+    costs: &[u32],
+    width: usize,
+    count: usize,
+    work: &[u32],
+    base: usize,
+    stride: usize,
+    path: &mut [u8],
+)
+    requires { ⌜ Ready (now form) (matrix (now costs) width count) (now work) base stride × (count ≤ length (now path)) ⌝ }
+    ensures { λ _. ⌜ Traced (view (now (form .entry))) (matrix (now (costs .entry)) width count) (now (path .entry)) (now (path .exit)) ⌝ }
+{
+    let begins = starts(form);
+    let states = 2 * letters(form) + 1;
+    let mut set = [false; 255];
+    set[0] = true;
+    let price = work[base];
+    let mut front = Front {
+        label: 0,
+        left: price,
+        set: set,
+    };
+    let mut t = 0;
+    while t < count {
+        let at = t * width;
+        let end = at + width;
+        let row = base + (t + 1) * stride;
+        let past = row + states;
+        front = advance(form, &begins, &costs[at..end], &work[row..past], front);
+        path[t] = front.label;
+        t += 1;
+    }
+}

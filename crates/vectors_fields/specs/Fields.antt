@@ -1,0 +1,52 @@
+-- What a line of the vectors says: its fields, which have tabs between them, and the numbers in a field. Assumes nothing.
+-- Used by the contracts, the proofs, Examples, Narrow and Numbers.
+use mathlib.Core.Path.{_≡_, sym}
+use mathlib.Core.List.{List, [], _∷_, map}
+use mathlib.Core.Bool.{Bool, false, cond, _&&_}
+use Prim.Native.Nat.{ℕ, _+_, _*_, _%_, _≤_}
+use Prim.Native.Char.{code}
+use lib.ListN.{length, getD, take}
+use lib.Dec.{eqb, ltb}
+use lib.Seq.{length-take-le}
+use Rattle.sheet_format.specs.Sheet.{pieces}
+
+-- field k of a line; empty where the line has fewer fields
+abbrev pub fieldOf : List ℕ → ℕ → List ℕ
+fieldOf line k = getD (pieces (code "\t") line) k []
+
+-- the digit that a byte is, in decimal or in hexadecimal
+abbrev pub digit : Bool → ℕ → ℕ
+digit hexadecimal b = cond (hexadecimal && ltb 64 b) ((b % 16 + 9) % 16) (b % 16)
+
+-- the number with one digit more; of the number in front of it 28 bits count
+abbrev pub more : Bool → ℕ → ℕ → ℕ
+more hexadecimal v b = cond hexadecimal 16 10 * (v % 268435456) + digit hexadecimal b
+
+-- the number that is written so, behind the digits that make v
+unfoldable pub value : Bool → ℕ → List ℕ → ℕ
+value hexadecimal v [] = v
+value hexadecimal v (b ∷ s) = value hexadecimal (more hexadecimal v b) s
+
+-- the numbers of a field, which have spaces between them; an empty field has none
+unfoldable pub numbersOf : Bool → List ℕ → List ℕ
+numbersOf hexadecimal [] = []
+numbersOf hexadecimal (b ∷ s) = map (value hexadecimal 0) (pieces (code " ") (b ∷ s))
+
+-- the first number of a field, 0 if there is none; `-` stands for the largest size
+abbrev pub sizeOf : List ℕ → ℕ
+sizeOf field = cond (eqb (getD field 0 0) (code "-")) 18446744073709551615 (getD (numbersOf false field) 0 0)
+
+-- a number as a byte
+abbrev pub low : ℕ → ℕ
+low x = x % 256
+
+-- the first 256 numbers of a field, as bytes
+abbrev pub labelsOf : List ℕ → List ℕ
+labelsOf field = map low (take 256 (numbersOf false field))
+
+-- the first n of a list are n; both parts are stated, so that a proof of `&list[..n]` finds them
+abbrev pub Counts : ℕ → List ℕ → Type 0
+Counts n l = (n ≤ length l) × (n ≡ length (take n l))
+
+pub counts : (n : ℕ) (l : List ℕ) → n ≤ length l → Counts n l
+counts n l h = (h, sym (length-take-le n l h))

@@ -1,0 +1,145 @@
+// The fields of a line of text, which have tabs between them, and the numbers in a field, for the program that runs vectors.
+ghost use mathlib.Core.Path.{_≡_};
+ghost use mathlib.Core.Bool.{false};
+ghost use mathlib.Core.List.{map};
+ghost use Prim.Native.Nat.{_-_, _≤_, min};
+ghost use lib.ListN.{length, take, drop};
+ghost use Rattle.lists.specs.Written.{Stored, Wrote};
+ghost use Rattle.vectors_fields.specs.Fields.{fieldOf, numbersOf, sizeOf, low, labelsOf, Counts};
+ghost use Rattle.vectors_fields.specs.Numbers.{ended, onward};
+
+// Where field k begins: behind the k-th tab, or at the end.
+fn start(line: &[u8], k: usize) -> usize
+    ensures { λ r. ⌜ (r ≤ length (now (line .entry))) × (fieldOf (drop r (now (line .entry))) 0 ≡ fieldOf (now (line .entry)) k) ⌝ }
+{
+    let mut at = 0;
+    let mut i = 0;
+    while i < k {
+        at = text::find(line, at, b'\t');
+        if at == line.len() {
+            return at;
+        }
+        at += 1;
+        i += 1;
+    }
+    at
+}
+
+// Field k of a line.
+pub fn field(line: &[u8], k: usize) -> &[u8]
+    ensures { λ r. ⌜ now r ≡ fieldOf (now (line .entry)) k ⌝ }
+{
+    let a = start(line, k);
+    let e = text::find(line, a, b'\t');
+    &line[a..e]
+}
+
+// A number as a size.
+fn wide(x: u32) -> usize
+    ensures { λ r. ⌜ r ≡ x ⌝ }
+{
+    x as usize
+}
+
+// The number with one more digit; none behind a space.
+fn longer(v: u32, hexadecimal: bool, b: u8) -> u32
+    ensures { λ r. ⌜ r ≡ onward hexadecimal v b ⌝ }
+{
+    let w = v % 268435456;
+    let d = (b % 16) as u32;
+    if b == b' ' {
+        return 0;
+    }
+    if !hexadecimal {
+        return 10 * w + d;
+    }
+    if 64 < b {
+        return 16 * w + (d + 9) % 16;
+    }
+    16 * w + d
+}
+
+// The list with one number more, if the number ends here and there is room.
+fn push(list: &mut [u32], n: usize, v: u32, b: u8) -> usize
+    requires { ⌜ n ≤ length (now list) ⌝ }
+    ensures { λ r. ⌜ Stored (take (length (now (list .entry)) - n) (ended b v)) n (now (list .entry)) (now (list .exit)) r ⌝ }
+    ensures { λ r. ⌜ r ≤ length (now (list .exit)) ⌝ }
+{
+    if b != b' ' {
+        return n;
+    }
+    if n == list.len() {
+        return n;
+    }
+    list[n] = v;
+    n + 1
+}
+
+// The numbers of a field go into `list`, as many as it has room for; how many there are.
+pub fn numbers(field: &[u8], hexadecimal: bool, list: &mut [u32]) -> usize
+    ensures { λ r. ⌜ Wrote (take (length (now (list .entry))) (numbersOf hexadecimal (now (field .entry)))) (now (list .entry)) (now (list .exit)) r ⌝ }
+    ensures { λ r. ⌜ Counts r (now (list .exit)) ⌝ }
+{
+    if field.len() == 0 {
+        return 0;
+    }
+    let mut i = 0;
+    let mut n = 0;
+    let mut v = 0;
+    while i < field.len() {
+        n = push(list, n, v, field[i]);
+        v = longer(v, hexadecimal, field[i]);
+        i += 1;
+    }
+    push(list, n, v, b' ')
+}
+
+// One number; a field that begins with `-` is the largest there is.
+pub fn size(field: &[u8]) -> usize
+    ensures { λ r. ⌜ r ≡ sizeOf (now (field .entry)) ⌝ }
+{
+    if text::peek(field, 0) == b'-' {
+        return 18446744073709551615;
+    }
+    let mut list = [0u32; 1];
+    numbers(field, false, &mut list);
+    wide(list[0])
+}
+
+// So many places of memory, at most `most`.
+pub fn room(field: &[u8], most: usize) -> usize
+    ensures { λ r. ⌜ (r ≡ min (sizeOf (now (field .entry))) most) × (r ≤ most) ⌝ }
+{
+    let n = size(field);
+    if n < most {
+        return n;
+    }
+    most
+}
+
+// The first n numbers as bytes; how many found room.
+fn narrow(list: &[u32], n: usize, bytes: &mut [u8]) -> usize
+    requires { ⌜ n ≤ length (now list) ⌝ }
+    ensures { λ r. ⌜ Wrote (take (length (now (bytes .entry))) (map low (take n (now (list .entry))))) (now (bytes .entry)) (now (bytes .exit)) r ⌝ }
+    ensures { λ r. ⌜ r ≤ length (now (bytes .exit)) ⌝ }
+{
+    let mut i = 0;
+    while i < n {
+        if i == bytes.len() {
+            return i;
+        }
+        bytes[i] = (list[i] % 256) as u8;
+        i += 1;
+    }
+    i
+}
+
+// The numbers of a field as bytes, at most 256; how many there are.
+pub fn labels(field: &[u8], bytes: &mut [u8]) -> usize
+    ensures { λ r. ⌜ Wrote (take (length (now (bytes .entry))) (labelsOf (now (field .entry)))) (now (bytes .entry)) (now (bytes .exit)) r ⌝ }
+    ensures { λ r. ⌜ Counts r (now (bytes .exit)) ⌝ }
+{
+    let mut list = [0u32; 256];
+    let n = numbers(field, false, &mut list);
+    narrow(&list, n, bytes)
+}
