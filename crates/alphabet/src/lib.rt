@@ -5,13 +5,14 @@ use refusal::Refusal;
 ghost use mathlib.Core.Path.{_≡_};
 ghost use lib.ListN.{drop};
 ghost use lib.Dec.{eqb};
+ghost use Rattle.lists.specs.Memory.{old};
 ghost use Rattle.lists.specs.Among.{any};
 ghost use Rattle.refusal.specs.Verdict.{first-refusal};
 ghost use Rattle.alphabet.specs.Alphabet.{distinct, is-alphabet, text-checks};
 
 // Does the byte stand in the list, from an index on?
 fn comes_again(list: &[u8], from: usize, b: u8) -> bool
-    ensures { λ r. ⌜ r ≡ any (eqb b) (drop from (now (list .entry))) ⌝ }
+    ensures { λ r. ⌜ r ≡ any (eqb b) (drop from (old list)) ⌝ }
 {
     let mut i = from;
     while i < list.len() {
@@ -25,7 +26,7 @@ fn comes_again(list: &[u8], from: usize, b: u8) -> bool
 
 // Is no byte there twice?
 fn are_distinct(list: &[u8]) -> bool
-    ensures { λ r. ⌜ r ≡ distinct (now (list .entry)) ⌝ }
+    ensures { λ r. ⌜ r ≡ distinct (old list) ⌝ }
 {
     let mut i: usize = 0;
     while i < list.len() {
@@ -39,7 +40,7 @@ fn are_distinct(list: &[u8]) -> bool
 
 // 1 to 95 distinct bytes, each 32 to 126?
 fn is_alphabet(list: &[u8]) -> bool
-    ensures { λ r. ⌜ r ≡ is-alphabet (now (list .entry)) ⌝ }
+    ensures { λ r. ⌜ r ≡ is-alphabet (old list) ⌝ }
 {
     let n = list.len();
     if n < 1 {
@@ -56,7 +57,7 @@ fn is_alphabet(list: &[u8]) -> bool
 
 // Rows 1, 2 and 3.
 pub fn check_text(alphabet: &[u8], text: &[u8]) -> Checked
-    ensures { λ r. ⌜ r ≡ first-refusal (text-checks (now (alphabet .entry)) (now (text .entry))) ⌝ }
+    ensures { λ r. ⌜ r ≡ first-refusal (text-checks (old alphabet) (old text)) ⌝ }
 {
     if !is_alphabet(alphabet) {
         return Checked::Refused(Refusal::Alphabet);

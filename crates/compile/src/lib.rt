@@ -5,6 +5,7 @@ use refusal::Counted;
 use refusal::Refusal;
 ghost use Prim.Native.Nat.{_≤_};
 ghost use lib.ListN.{length};
+ghost use Rattle.lists.specs.Memory.{old, new};
 ghost use Rattle.refusal.specs.Report.{reported, Fills};
 ghost use Rattle.regex.specs.Read.{expressionOf};
 ghost use Rattle.positions.specs.Numbered.{automatonOf};
@@ -17,7 +18,7 @@ ghost use Rattle.compile.specs.Steps.{Compilable};
 // written.
 fn write(alphabet: &[u8], text: &[u8], form: &mut [u32]) -> Counted
     requires { ⌜ (length (now alphabet) ≤ 95) × Compilable (now alphabet) (now text) ⌝ }
-    ensures { λ r. ⌜ Fills (form-call (length (now (alphabet .entry))) (automatonOf (now (alphabet .entry)) (treeOfText (now (alphabet .entry)) (now (text .entry)))) (length (now (form .entry)))) (reported r) (now (form .entry)) (now (form .exit)) ⌝ }
+    ensures { λ r. ⌜ Fills (form-call (length (old alphabet)) (automatonOf (old alphabet) (treeOfText (old alphabet) (old text))) (length (old form))) (reported r) (old form) (new form) ⌝ }
 {
     let mut labels = [0u8; 127];
     let mut follow = [[false; 127]; 127];
@@ -39,7 +40,7 @@ fn write(alphabet: &[u8], text: &[u8], form: &mut [u32]) -> Counted
 // Past rows 1 to 3.
 fn compile_text(alphabet: &[u8], text: &[u8], form: &mut [u32]) -> Counted
     requires { ⌜ length (now alphabet) ≤ 95 ⌝ }
-    ensures { λ r. ⌜ Fills (read-form (now (alphabet .entry)) (length (now (form .entry))) (expressionOf (now (alphabet .entry)) (now (text .entry)))) (reported r) (now (form .entry)) (now (form .exit)) ⌝ }
+    ensures { λ r. ⌜ Fills (read-form (old alphabet) (length (old form)) (expressionOf (old alphabet) (old text))) (reported r) (old form) (new form) ⌝ }
 {
     match regex_parse::expression(alphabet, text) {
         regex_parse::Parsed::Refused(r) => Counted::Refused(r),
@@ -54,7 +55,7 @@ fn compile_text(alphabet: &[u8], text: &[u8], form: &mut [u32]) -> Counted
 
 // Document 01's Compile. What it writes means the text's words: `compiled-means` of specs/Meaning.antt.
 pub fn compile(alphabet: &[u8], text: &[u8], form: &mut [u32]) -> Counted
-    ensures { λ r. ⌜ Fills (compile-call (now (alphabet .entry)) (now (text .entry)) (length (now (form .entry)))) (reported r) (now (form .entry)) (now (form .exit)) ⌝ }
+    ensures { λ r. ⌜ Fills (compile-call (old alphabet) (old text) (length (old form))) (reported r) (old form) (new form) ⌝ }
 {
     match check_text(alphabet, text) {
         Checked::Refused(r) => Counted::Refused(r),

@@ -6,6 +6,7 @@ ghost use mathlib.Core.Path.{_≡_};
 ghost use Prim.Native.Nat.{_*_, _^_, _≤_};
 ghost use mathlib.Core.List.{map};
 ghost use lib.ListN.{length};
+ghost use Rattle.lists.specs.Memory.{old, new};
 ghost use Rattle.lists.specs.Written.{Wrote};
 ghost use Rattle.refusal.specs.Report.{reported, Fills};
 ghost use Rattle.confidence.specs.Cost.{shift, cost-of, costs-call};
@@ -54,7 +55,7 @@ pub fn cost(c: u8) -> u32
 // Writes the cost of each confidence; their number.
 fn write_costs(confidences: &[u8], costs: &mut [u32]) -> usize
     requires { ⌜ length (now confidences) ≤ length (now costs) ⌝ }
-    ensures { λ r. ⌜ Wrote (map cost-of (now (confidences .entry))) (now (costs .entry)) (now (costs .exit)) r ⌝ }
+    ensures { λ r. ⌜ Wrote (map cost-of (old confidences)) (old costs) (new costs) r ⌝ }
 {
     let mut i: usize = 0;
     while i < confidences.len() {
@@ -66,7 +67,7 @@ fn write_costs(confidences: &[u8], costs: &mut [u32]) -> usize
 
 // The call: one cost for each confidence.
 pub fn costs(confidences: &[u8], costs: &mut [u32]) -> Counted
-    ensures { λ r. ⌜ Fills (costs-call (now (confidences .entry)) (length (now (costs .entry)))) (reported r) (now (costs .entry)) (now (costs .exit)) ⌝ }
+    ensures { λ r. ⌜ Fills (costs-call (old confidences) (length (old costs))) (reported r) (old costs) (new costs) ⌝ }
 {
     if costs.len() < confidences.len() {
         return Counted::Refused(Refusal::OutputMemory);

@@ -4,6 +4,7 @@ use refusal::Counted;
 use refusal::Refusal;
 ghost use Prim.Native.Nat.{_+_, _≤_};
 ghost use lib.ListN.{length};
+ghost use Rattle.lists.specs.Memory.{old, new};
 ghost use Rattle.lists.specs.Written.{Wrote, Stored};
 ghost use Rattle.refusal.specs.Report.{reported, Fills};
 ghost use Rattle.ctc.specs.Collapse.{collapse as collapseOf};
@@ -12,7 +13,7 @@ ghost use Rattle.ctc_collapse.specs.Calls.{collapse-call, added};
 // Label x behind label a goes to place n of the word, or is left out; the next place.
 fn put_added(word: &mut [u8], n: usize, a: u8, x: u8) -> usize
     requires { ⌜ n + length (added a x) ≤ length (now word) ⌝ }
-    ensures { λ r. ⌜ Stored (added a x) n (now (word .entry)) (now (word .exit)) r ⌝ }
+    ensures { λ r. ⌜ Stored (added a x) n (old word) (new word) r ⌝ }
 {
     if x == a {
         return n;
@@ -27,7 +28,7 @@ fn put_added(word: &mut [u8], n: usize, a: u8, x: u8) -> usize
 // Writes a path's collapse; its length.
 pub fn write_collapse(path: &[u8], word: &mut [u8]) -> usize
     requires { ⌜ length (now path) ≤ length (now word) ⌝ }
-    ensures { λ r. ⌜ Wrote (collapseOf (now (path .entry))) (now (word .entry)) (now (word .exit)) r ⌝ }
+    ensures { λ r. ⌜ Wrote (collapseOf (old path)) (old word) (new word) r ⌝ }
 {
     let mut a: u8 = 0;
     let mut n: usize = 0;
@@ -43,7 +44,7 @@ pub fn write_collapse(path: &[u8], word: &mut [u8]) -> usize
 
 // Document 01's Collapse: the word that a path of labels 0 to k collapses to.
 pub fn collapse(k: usize, path: &[u8], word: &mut [u8]) -> Counted
-    ensures { λ r. ⌜ Fills (collapse-call k (now (path .entry)) (length (now (word .entry)))) (reported r) (now (word .entry)) (now (word .exit)) ⌝ }
+    ensures { λ r. ⌜ Fills (collapse-call k (old path) (length (old word))) (reported r) (old word) (new word) ⌝ }
 {
     if word.len() < path.len() {
         return Counted::Refused(Refusal::OutputMemory);

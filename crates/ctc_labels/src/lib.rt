@@ -1,29 +1,15 @@
 // Lists of labels (document 01, "Alphabet, labels, paths"): are they in range, and which lists are turned away.
+use numbers::in_range;
+use numbers::wide;
 ghost use mathlib.Core.Path.{_≡_};
+ghost use Rattle.lists.specs.Memory.{old};
 ghost use Rattle.lists.specs.Ranges.{in-range};
 ghost use Rattle.lists.specs.Each.{all};
 ghost use Rattle.ctc_labels.specs.Calls.{label-fault};
 
-// A label as a number.
-pub fn wide(x: u8) -> usize
-    ensures { λ r. ⌜ r ≡ x ⌝ }
-{
-    x as usize
-}
-
-// Is x from `low` to `high`?
-fn in_range(low: usize, high: usize, x: usize) -> bool
-    ensures { λ r. ⌜ r ≡ in-range low high x ⌝ }
-{
-    if x < low {
-        return false;
-    }
-    x <= high
-}
-
 // Is each number of a list from `low` to `high`?
 pub fn all_in_range(low: usize, high: usize, list: &[u8]) -> bool
-    ensures { λ r. ⌜ r ≡ all (in-range low high) (now (list .entry)) ⌝ }
+    ensures { λ r. ⌜ r ≡ all (in-range low high) (old list) ⌝ }
 {
     let mut i: usize = 0;
     while i < list.len() {
@@ -37,7 +23,7 @@ pub fn all_in_range(low: usize, high: usize, list: &[u8]) -> bool
 
 // Is the list turned away as no list of labels of an alphabet of k characters? (Refusal 17.)
 pub fn has_fault(k: usize, low: usize, list: &[u8]) -> bool
-    ensures { λ r. ⌜ r ≡ label-fault k low (now (list .entry)) ⌝ }
+    ensures { λ r. ⌜ r ≡ label-fault k low (old list) ⌝ }
 {
     if !in_range(1, 95, k) {
         return true;

@@ -7,6 +7,7 @@ ghost use Prim.Native.Nat.{_+_, _<_, _≤_};
 ghost use mathlib.Core.Bool.{cond};
 ghost use lib.Dec.{eqb};
 ghost use lib.ListN.{length};
+ghost use Rattle.lists.specs.Memory.{old, new};
 ghost use Rattle.lists.specs.Each.{Each};
 ghost use Rattle.lists.specs.Written.{Wrote, Stored};
 ghost use Rattle.refusal.specs.Report.{reported, Fills};
@@ -22,7 +23,7 @@ fn one_if_equal(a: u8, b: u8) -> usize
 
 // How many pairs of equal neighbours a word has.
 fn count_pairs(word: &[u8]) -> usize
-    ensures { λ r. ⌜ r ≡ pairs (now (word .entry)) ⌝ }
+    ensures { λ r. ⌜ r ≡ pairs (old word) ⌝ }
 {
     let mut n: usize = 0;
     let mut i: usize = 0;
@@ -36,7 +37,7 @@ fn count_pairs(word: &[u8]) -> usize
 // Letter x behind letter a goes to place n of the path, with a blank in front if they are equal; the next place.
 fn put_spaced(path: &mut [u8], n: usize, a: u8, x: u8) -> usize
     requires { ⌜ n + length (spaced a x) ≤ length (now path) ⌝ }
-    ensures { λ r. ⌜ Stored (spaced a x) n (now (path .entry)) (now (path .exit)) r ⌝ }
+    ensures { λ r. ⌜ Stored (spaced a x) n (old path) (new path) r ⌝ }
 {
     if a == x {
         path[n] = 0;
@@ -50,7 +51,7 @@ fn put_spaced(path: &mut [u8], n: usize, a: u8, x: u8) -> usize
 // Writes the spread of a word without blanks; its length.
 fn write_spread(word: &[u8], path: &mut [u8]) -> usize
     requires { ⌜ (length (spreadOf (now word)) ≤ length (now path)) × Each (0 <_) (now word) ⌝ }
-    ensures { λ r. ⌜ Wrote (spreadOf (now (word .entry))) (now (path .entry)) (now (path .exit)) r ⌝ }
+    ensures { λ r. ⌜ Wrote (spreadOf (old word)) (old path) (new path) r ⌝ }
 {
     let mut a: u8 = 0;
     let mut n: usize = 0;
@@ -66,7 +67,7 @@ fn write_spread(word: &[u8], path: &mut [u8]) -> usize
 
 // Document 01's Spread: the shortest path that collapses to a word of labels 1 to k.
 pub fn spread(k: usize, word: &[u8], path: &mut [u8]) -> Counted
-    ensures { λ r. ⌜ Fills (spread-call k (now (word .entry)) (length (now (path .entry)))) (reported r) (now (path .entry)) (now (path .exit)) ⌝ }
+    ensures { λ r. ⌜ Fills (spread-call k (old word) (length (old path))) (reported r) (old path) (new path) ⌝ }
 {
     if path.len() < word.len() + count_pairs(word) {
         return Counted::Refused(Refusal::OutputMemory);

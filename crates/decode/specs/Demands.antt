@@ -14,7 +14,7 @@ use Rattle.refusal.specs.Verdict.{first-refusal, first-passed}
 use Rattle.refusal.specs.Report.{Report, turned-away}
 use Rattle.automaton.specs.Automaton.{Accepts}
 use Rattle.automaton.specs.Form.{validForm, view, lettersOf, alphabetOf}
-use Rattle.outcome.specs.Matrix.{Matrix}
+use Rattle.matrix.specs.Matrix.{Matrix}
 use Rattle.decode_checks.specs.Checks.{needed, matrix-checks, decode-checks}
 use Rattle.decode_valid.specs.Answers.{Lent, rooms, labels, DecodeAnswers}
 use Rattle.decode_valid.specs.Demand.{Plain-rival, No-rival, Best-or-none, Kept, answers-as-demanded, none-exactly, rival-reads}

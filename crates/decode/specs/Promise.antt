@@ -4,7 +4,7 @@ use mathlib.Core.List.{List}
 use Prim.Native.Nat.{ℕ}
 use Rattle.refusal.specs.Verdict.{first-refusal}
 use Rattle.refusal.specs.Report.{Report}
-use Rattle.outcome.specs.Matrix.{Matrix}
+use Rattle.matrix.specs.Matrix.{Matrix}
 use Rattle.decode_checks.specs.Checks.{decode-checks}
 use Rattle.decode_valid.specs.Answers.{Lent, rooms, DecodeAnswers, Checks}
 

@@ -6,20 +6,15 @@ use decode_valid::decode_valid;
 use form_check::valid;
 use form_words::alphabet;
 use form_words::letters;
+use matrix::Matrix;
+use matrix::matrix_of;
 use refusal::Checked;
 use refusal::Refusal;
-ghost use mathlib.Core.Path.{_≡_};
+ghost use Rattle.lists.specs.Memory.{old, new};
 ghost use Rattle.answers.specs.Decoded.{reported};
-ghost use Rattle.outcome.specs.Matrix.{matrix};
-ghost use Rattle.decode.specs.View.{value};
+ghost use Rattle.matrix.specs.Matrix.{matrix};
+ghost use Rattle.matrix.specs.View.{value};
 ghost use Rattle.decode.specs.Promise.{Decodes};
-
-// The matrix as one thing: its costs, one column after another; its column width; its column count.
-pub struct Matrix<'a> {
-    pub costs: &'a [u32],
-    pub width: usize,
-    pub count: usize,
-}
 
 // The work of Decode: the first check that holds, or what is read past them.
 fn decode_parts(
@@ -31,7 +26,7 @@ fn decode_parts(
     word: &mut [u8],
     work: &mut [u32],
 ) -> Decoded
-    ensures { λ r. ⌜ Decodes (now (form .entry)) (matrix (now (costs .entry)) width count) (record { path = now (path .entry); word = now (word .entry); work = now (work .entry) }) (record { path = now (path .exit); word = now (word .exit); work = now (work .exit) }) (reported r) ⌝ }
+    ensures { λ r. ⌜ Decodes (old form) (matrix (old costs) width count) (record { path = old path; word = old word; work = old work }) (record { path = new path; word = new word; work = new work }) (reported r) ⌝ }
 {
     if !valid(form) {
         return Decoded::Refused(Refusal::BadForm);
@@ -53,17 +48,6 @@ fn decode_parts(
     }
 }
 
-// The view of lent costs, with their column width and their number of columns.
-pub fn matrix_of(costs: &[u32], width: usize, count: usize) -> Matrix
-    ensures { λ r. ⌜ (r .costs ≡ costs .entry) × (value r ≡ matrix (now (costs .entry)) width count) ⌝ }
-{
-    Matrix {
-        costs,
-        width,
-        count,
-    }
-}
-
 // Document 01's Decode. What `Decodes` comes to for a caller is in specs/Demands.antt, as theorems.
 pub fn decode_matrix(
     form: &[u32],
@@ -72,7 +56,7 @@ pub fn decode_matrix(
     word: &mut [u8],
     work: &mut [u32],
 ) -> Decoded
-    ensures { λ r. ⌜ Decodes (now (form .entry)) (value (matrix .entry)) (record { path = now (path .entry); word = now (word .entry); work = now (work .entry) }) (record { path = now (path .exit); word = now (word .exit); work = now (work .exit) }) (reported r) ⌝ }
+    ensures { λ r. ⌜ Decodes (old form) (value (matrix .entry)) (record { path = old path; word = old word; work = old work }) (record { path = new path; word = new word; work = new work }) (reported r) ⌝ }
 {
     decode_parts(
         form,
@@ -95,7 +79,7 @@ pub fn decode(
     word: &mut [u8],
     work: &mut [u32],
 ) -> Decoded
-    ensures { λ r. ⌜ Decodes (now (form .entry)) (matrix (now (costs .entry)) width count) (record { path = now (path .entry); word = now (word .entry); work = now (work .entry) }) (record { path = now (path .exit); word = now (word .exit); work = now (work .exit) }) (reported r) ⌝ }
+    ensures { λ r. ⌜ Decodes (old form) (matrix (old costs) width count) (record { path = old path; word = old word; work = old work }) (record { path = new path; word = new word; work = new work }) (reported r) ⌝ }
 {
     decode_matrix(form, matrix_of(costs, width, count), path, word, work)
 }

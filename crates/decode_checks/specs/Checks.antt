@@ -10,7 +10,7 @@ use Rattle.lists.specs.Each.{all}
 use Rattle.refusal.specs.declared.Refusal.the-variants.{BadForm, Matrix as MatrixRow, Cost, OutputMemory, Work}
 use Rattle.refusal.specs.Verdict.{Check, check}
 use Rattle.automaton.specs.Form.{validForm, lettersOf, alphabetOf}
-use Rattle.outcome.specs.Matrix.{Matrix}
+use Rattle.matrix.specs.Matrix.{Matrix}
 
 -- how many elements each lent list has
 pub record Rooms : Type 0 where

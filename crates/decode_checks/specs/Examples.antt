@@ -10,7 +10,7 @@ use Rattle.refusal.specs.declared.Checked.{Checked}
 use Rattle.refusal.specs.declared.Checked.the-variants.{Passed, Refused}
 use Rattle.refusal.specs.Verdict.{first-refusal}
 use Rattle.automaton.specs.Form.{ordered, validForm}
-use Rattle.outcome.specs.Matrix.{matrix}
+use Rattle.matrix.specs.Matrix.{matrix}
 use Rattle.decode_checks.specs.Checks.{needed, decode-checks}
 
 abbrev form : List ℕ

@@ -14,7 +14,7 @@ use Rattle.lists.specs.Each.{all, all-each}
 use Rattle.refusal.specs.declared.Refusal.the-variants.{Matrix as MatrixRow, Cost, OutputMemory, Work}
 use Rattle.refusal.specs.declared.Checked.the-variants.{Passed, Refused}
 use Rattle.refusal.specs.Verdict.{Check, check, first-refusal, first-holds, first-fails, first-passed}
-use Rattle.outcome.specs.Matrix.{Matrix, CostsPass, Usable}
+use Rattle.matrix.specs.Matrix.{Matrix, CostsPass, Usable}
 use Rattle.decode_checks.specs.Checks.{Rooms, needed, matrix-fault, passes, matrix-checks}
 
 module _ (k : ℕ) (M : Matrix) where

@@ -4,14 +4,15 @@ use refusal::Checked;
 use refusal::Refusal;
 ghost use mathlib.Core.Path.{_≡_};
 ghost use Prim.Native.Nat.{_≤_};
+ghost use Rattle.lists.specs.Memory.{old};
 ghost use Rattle.lists.specs.Each.{all};
 ghost use Rattle.refusal.specs.Verdict.{first-refusal};
-ghost use Rattle.outcome.specs.Matrix.{matrix};
+ghost use Rattle.matrix.specs.Matrix.{matrix};
 ghost use Rattle.decode_checks.specs.Checks.{passes, matrix-fault, matrix-checks};
 
 // Is no cost over 1,000,000?
 fn all_pass(costs: &[u32]) -> bool
-    ensures { λ r. ⌜ r ≡ all passes (now (costs .entry)) ⌝ }
+    ensures { λ r. ⌜ r ≡ all passes (old costs) ⌝ }
 {
     let mut i: usize = 0;
     while i < costs.len() {
@@ -26,7 +27,7 @@ fn all_pass(costs: &[u32]) -> bool
 // Is the matrix turned away by its size, for an alphabet of k characters? (Row 12; no product overflows.)
 fn has_fault(k: usize, costs: &[u32], width: usize, count: usize) -> bool
     requires { ⌜ k ≤ 95 ⌝ }
-    ensures { λ r. ⌜ r ≡ matrix-fault k (matrix (now (costs .entry)) width count) ⌝ }
+    ensures { λ r. ⌜ r ≡ matrix-fault k (matrix (old costs) width count) ⌝ }
 {
     if 255 < count {
         return true;
@@ -49,7 +50,7 @@ pub fn check_matrix(
     work: usize,
 ) -> Checked
     requires { ⌜ (k ≤ 95) × (l ≤ 127) ⌝ }
-    ensures { λ r. ⌜ r ≡ first-refusal (matrix-checks k l (matrix (now (costs .entry)) width count) (record { path = path; word = word; work = work })) ⌝ }
+    ensures { λ r. ⌜ r ≡ first-refusal (matrix-checks k l (matrix (old costs) width count) (record { path = path; word = word; work = work })) ⌝ }
 {
     if has_fault(k, costs, width, count) {
         return Checked::Refused(Refusal::Matrix);

@@ -15,7 +15,7 @@ use Rattle.answers.specs.Decoded.{read}
 use Rattle.ctc.specs.Collapse.{collapse}
 use Rattle.automaton.specs.Automaton.{Accepts}
 use Rattle.automaton.specs.Form.{view, lettersOf}
-use Rattle.outcome.specs.Matrix.{Matrix, price}
+use Rattle.matrix.specs.Matrix.{Matrix, price}
 use Rattle.outcome.specs.Reading.{Outcome}
 use Rattle.decode_checks.specs.Checks.{Rooms, needed}
 

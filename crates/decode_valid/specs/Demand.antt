@@ -17,7 +17,7 @@ use Rattle.refusal.specs.Verdict.{first-refusal}
 use Rattle.refusal.specs.Report.{Report, turned-away}
 use Rattle.answers.specs.Decoded.{read}
 use Rattle.ctc.specs.Collapse.{collapse, collapse-shorter}
-use Rattle.outcome.specs.Matrix.{Matrix, price, PathFrom}
+use Rattle.matrix.specs.Matrix.{Matrix, price, PathFrom}
 use Rattle.outcome.specs.Order.{NotAfter}
 use Rattle.outcome.specs.Reading.{Rival, OutcomeOf, outcome-of-same, passing-rival}
 use Rattle.decode_checks.specs.Checks.{Rooms, matrix-checks}

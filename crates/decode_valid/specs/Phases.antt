@@ -13,7 +13,7 @@ use Rattle.answers.specs.Decoded.{read}
 use Rattle.ctc.specs.Collapse.{collapse}
 use Rattle.automaton.specs.Form.{view, lettersOf, alphabetOf}
 use Rattle.automaton.specs.Valid.{Valid, valid-proper}
-use Rattle.outcome.specs.Matrix.{Matrix, price}
+use Rattle.matrix.specs.Matrix.{Matrix, price}
 use Rattle.trellis.specs.Impossible.{TOP}
 use Rattle.trellis.specs.CostToGo.{CostToGo}
 use Rattle.trellis.specs.Extended.{extended}

@@ -2,10 +2,11 @@
 use answers::Decoded;
 use form_words::letters;
 use refusal::Refusal;
+ghost use Rattle.lists.specs.Memory.{old, new};
 ghost use Rattle.answers.specs.Decoded.{reported};
 ghost use Rattle.automaton.specs.Form.{alphabetOf, lettersOf};
 ghost use Rattle.automaton.specs.Valid.{Valid};
-ghost use Rattle.outcome.specs.Matrix.{matrix};
+ghost use Rattle.matrix.specs.Matrix.{matrix};
 ghost use Rattle.decode_checks.specs.Passing.{Fits};
 ghost use Rattle.decode_valid.specs.Answers.{rooms, DecodeAnswers};
 
@@ -20,7 +21,7 @@ pub fn decode_valid(
     work: &mut [u32],
 ) -> Decoded
     requires { ⌜ Valid (now form) × Fits (alphabetOf (now form)) (lettersOf (now form)) (matrix (now costs) width count) (rooms (record { path = now path; word = now word; work = now work })) ⌝ }
-    ensures { λ r. ⌜ DecodeAnswers (now (form .entry)) (matrix (now (costs .entry)) width count) (record { path = now (path .entry); word = now (word .entry); work = now (work .entry) }) (record { path = now (path .exit); word = now (word .exit); work = now (work .exit) }) (reported r) ⌝ }
+    ensures { λ r. ⌜ DecodeAnswers (old form) (matrix (old costs) width count) (record { path = old path; word = old word; work = old work }) (record { path = new path; word = new word; work = new work }) (reported r) ⌝ }
 {
     let stride = 2 * letters(form) + 1;
     let price = trellis_table::fill(form, costs, width, count, work);

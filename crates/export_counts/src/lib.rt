@@ -4,6 +4,7 @@ use refusal::Counted;
 use refusal::number;
 ghost use mathlib.Core.Path.{_≡_};
 ghost use Prim.Native.Nat.{_<_, _^_};
+ghost use Rattle.lists.specs.Memory.{new};
 ghost use Rattle.refusal.specs.Report.{reported};
 ghost use Rattle.answers.specs.Judgement.{reported as judgement};
 ghost use Rattle.export_counts.specs.Handed.{length-alone, Hands, HandsJudgement};
@@ -21,7 +22,7 @@ pub fn hand_number(answer: Counted) -> u32
 // The length of the list that a call fills.
 pub fn hand_length(answer: Counted, counts: &mut [u32; 1]) -> u32
     requires { ⌜ reported answer .filled < 2 ^ 32 ⌝ }
-    ensures { λ r. ⌜ Hands length-alone (reported answer) (now (counts .exit)) r ⌝ }
+    ensures { λ r. ⌜ Hands length-alone (reported answer) (new counts) r ⌝ }
 {
     *counts = [0];
     match answer {
@@ -35,7 +36,7 @@ pub fn hand_length(answer: Counted, counts: &mut [u32; 1]) -> u32
 
 // 1 for a word that Judge accepts.
 pub fn hand_judgement(answer: Judged, accepted: &mut [u32; 1]) -> u32
-    ensures { λ r. ⌜ HandsJudgement (judgement answer) (now (accepted .exit)) r ⌝ }
+    ensures { λ r. ⌜ HandsJudgement (judgement answer) (new accepted) r ⌝ }
 {
     *accepted = [0];
     match answer {

@@ -1,19 +1,11 @@
 // The check of a form (document 01, "Opening and the compiled form"): one pass over the list.
 use form_words::letters;
+use numbers::in_range;
 ghost use mathlib.Core.Path.{_≡_};
 ghost use mathlib.Core.Bool.{_&&_};
+ghost use Rattle.lists.specs.Memory.{old};
 ghost use Rattle.lists.specs.Each.{all};
-ghost use Rattle.lists.specs.Ranges.{in-range};
 ghost use Rattle.automaton.specs.Form.{isHead, isLetter, isArc, ordered, validForm};
-
-fn in_range(low: u32, high: u32, n: u32) -> bool
-    ensures { λ r. ⌜ r ≡ in-range low high n ⌝ }
-{
-    if n < low {
-        return false;
-    }
-    n <= high
-}
 
 fn is_head(w: u32) -> bool
     ensures { λ r. ⌜ r ≡ isHead w ⌝ }
@@ -23,10 +15,10 @@ fn is_head(w: u32) -> bool
     if w != 0x10000000 + k * 0x10000 + w / 0x100 % 2 * 0x100 + l {
         return false;
     }
-    if !in_range(1, 127, l) {
+    if !in_range(1, 127, l as usize) {
         return false;
     }
-    in_range(1, 95, k)
+    in_range(1, 95, k as usize)
 }
 
 // A letter over an alphabet of k?
@@ -37,7 +29,7 @@ fn is_letter(k: u32, w: u32) -> bool
     if w != 0x20000000 + w / 0x200 % 2 * 0x200 + w / 0x100 % 2 * 0x100 + x {
         return false;
     }
-    in_range(1, k, x)
+    in_range(1, k as usize, x as usize)
 }
 
 // An arc between two of l letters?
@@ -49,14 +41,14 @@ fn is_arc(l: u32, w: u32) -> bool
     if w != 0x30000000 + i * 0x100 + j {
         return false;
     }
-    if !in_range(1, l, i) {
+    if !in_range(1, l as usize, i as usize) {
         return false;
     }
-    in_range(1, l, j)
+    in_range(1, l as usize, j as usize)
 }
 
 fn are_letters(k: u32, words: &[u32]) -> bool
-    ensures { λ r. ⌜ r ≡ all (isLetter k) (now (words .entry)) ⌝ }
+    ensures { λ r. ⌜ r ≡ all (isLetter k) (old words) ⌝ }
 {
     let mut n = 0;
     while n < words.len() {
@@ -70,7 +62,7 @@ fn are_letters(k: u32, words: &[u32]) -> bool
 
 // Are the words arcs, in order?
 fn are_arcs(l: u32, words: &[u32]) -> bool
-    ensures { λ r. ⌜ r ≡ (all (isArc l) (now (words .entry)) && ordered (now (words .entry))) ⌝ }
+    ensures { λ r. ⌜ r ≡ (all (isArc l) (old words) && ordered (old words)) ⌝ }
 {
     let mut last: u32 = 0;
     let mut n = 0;
@@ -90,7 +82,7 @@ fn are_arcs(l: u32, words: &[u32]) -> bool
 
 // Is the list a valid form?
 pub fn valid(form: &[u32]) -> bool
-    ensures { λ r. ⌜ r ≡ validForm (now (form .entry)) ⌝ }
+    ensures { λ r. ⌜ r ≡ validForm (old form) ⌝ }
 {
     if form.len() == 0 {
         return false;

@@ -1,13 +1,14 @@
 // Writes an automaton that is given by arrays as a compiled form (document 01, "Opening and the compiled form").
 use form_encode_arcs::count_arcs;
-use form_encode_arcs::narrow;
-use form_encode_arcs::one_if;
 use form_encode_arcs::write_arcs;
+use numbers::narrow;
+use numbers::one_if;
 use refusal::Counted;
 use refusal::Refusal;
 ghost use mathlib.Core.Path.{_≡_};
 ghost use Prim.Native.Nat.{_+_, _≤_};
 ghost use lib.ListN.{length};
+ghost use Rattle.lists.specs.Memory.{old, new};
 ghost use Rattle.lists.specs.Written.{Wrote, Stored};
 ghost use Rattle.refusal.specs.Report.{reported, Fills};
 ghost use Rattle.automaton.specs.Form.{headWord, letterWord, encode};
@@ -39,7 +40,7 @@ fn write_letters(
 ) -> usize
     requires { ⌜ (letters ≤ length (now labels)) × (letters ≤ length (now first)) × (letters ≤ length (now last)) ⌝ }
     requires { ⌜ 1 + length (lettersBy letters (now labels) (now first) (now last)) ≤ length (now form) ⌝ }
-    ensures { λ r. ⌜ Stored (lettersBy letters (now (labels .entry)) (now (first .entry)) (now (last .entry))) 1 (now (form .entry)) (now (form .exit)) r ⌝ }
+    ensures { λ r. ⌜ Stored (lettersBy letters (old labels) (old first) (old last)) 1 (old form) (new form) r ⌝ }
 {
     let mut letter: usize = 1;
     while letter <= letters {
@@ -62,7 +63,7 @@ fn write_words(
 ) -> usize
     requires { ⌜ Sized k letters (now labels) (now first) (now last) (now follow) ⌝ }
     requires { ⌜ length (encode k (arrayed letters empty (now labels) (now first) (now last) (now follow))) ≤ length (now form) ⌝ }
-    ensures { λ r. ⌜ Wrote (encode k (arrayed letters empty (now (labels .entry)) (now (first .entry)) (now (last .entry)) (now (follow .entry)))) (now (form .entry)) (now (form .exit)) r ⌝ }
+    ensures { λ r. ⌜ Wrote (encode k (arrayed letters empty (old labels) (old first) (old last) (old follow))) (old form) (new form) r ⌝ }
 {
     form[0] = head_word(letters, empty, k);
     let n = write_letters(letters, labels, first, last, form);
@@ -81,7 +82,7 @@ pub fn write_form(
     form: &mut [u32],
 ) -> Counted
     requires { ⌜ Sized k letters (now labels) (now first) (now last) (now follow) ⌝ }
-    ensures { λ r. ⌜ Fills (form-call k (arrayed letters empty (now (labels .entry)) (now (first .entry)) (now (last .entry)) (now (follow .entry))) (length (now (form .entry)))) (reported r) (now (form .entry)) (now (form .exit)) ⌝ }
+    ensures { λ r. ⌜ Fills (form-call k (arrayed letters empty (old labels) (old first) (old last) (old follow)) (length (old form))) (reported r) (old form) (new form) ⌝ }
 {
     if form.len() < 1 + letters + count_arcs(letters, follow) {
         return Counted::Refused(Refusal::FormMemory);

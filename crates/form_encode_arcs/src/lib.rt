@@ -1,28 +1,17 @@
 // The arcs of a follow relation, which is given by rows, as the words of a compiled form (document 01, "Opening and the compiled form"):
 // counted and written row by row.
+use numbers::narrow;
+use numbers::one_if;
 ghost use mathlib.Core.Path.{_≡_};
-ghost use Prim.Native.Nat.{_+_, _<_, _≤_};
+ghost use Prim.Native.Nat.{_+_, _≤_};
 ghost use mathlib.Core.List.{[]};
 ghost use lib.ListN.{length};
+ghost use Rattle.lists.specs.Memory.{old, new};
 ghost use Rattle.lists.specs.Among.{keep, keeping};
 ghost use Rattle.lists.specs.Ascending.{numbers};
 ghost use Rattle.lists.specs.Written.{Stored};
-ghost use Rattle.automaton.specs.Form.{bit, arcWord};
+ghost use Rattle.automaton.specs.Form.{arcWord};
 ghost use Rattle.form_encode_arcs.specs.Rows.{has, rowBy, arcsBy};
-
-pub fn narrow(x: usize) -> u32
-    requires { ⌜ x < 4294967296 ⌝ }
-    ensures { λ r. ⌜ r ≡ x ⌝ }
-{
-    x as u32
-}
-
-// 1 if it holds, else 0.
-pub fn one_if(b: bool) -> usize
-    ensures { λ r. ⌜ (r ≡ bit b) × (r ≤ 1) ⌝ }
-{
-    if b { 1 } else { 0 }
-}
 
 // The word of an arc from letter to letter.
 fn arc_word(source: usize, target: usize) -> u32
@@ -35,7 +24,7 @@ fn arc_word(source: usize, target: usize) -> u32
 // How many of the letters are in the set.
 fn count_row(letters: usize, row: &[bool]) -> usize
     requires { ⌜ (letters ≤ 127) × (letters ≤ length (now row)) ⌝ }
-    ensures { λ r. ⌜ (r ≡ length (keep (has (now (row .entry))) (numbers 1 letters))) × (r ≤ 127) ⌝ }
+    ensures { λ r. ⌜ (r ≡ length (keep (has (old row)) (numbers 1 letters))) × (r ≤ 127) ⌝ }
 {
     let mut n: usize = 0;
     let mut j: usize = 1;
@@ -49,7 +38,7 @@ fn count_row(letters: usize, row: &[bool]) -> usize
 // How many arcs there are.
 pub fn count_arcs(letters: usize, follow: &[[bool; 127]]) -> usize
     requires { ⌜ (letters ≤ 127) × (letters ≤ length (now follow)) ⌝ }
-    ensures { λ r. ⌜ (r ≡ length (arcsBy letters (now (follow .entry)))) × (r ≤ 16129) ⌝ }
+    ensures { λ r. ⌜ (r ≡ length (arcsBy letters (old follow))) × (r ≤ 16129) ⌝ }
 {
     let mut n: usize = 0;
     let mut i: usize = 1;
@@ -63,7 +52,7 @@ pub fn count_arcs(letters: usize, follow: &[[bool; 127]]) -> usize
 // The arc from one letter to another goes to place n of the form, if there is one; the next place.
 fn put_arc(form: &mut [u32], n: usize, source: usize, target: usize, there: bool) -> usize
     requires { ⌜ (source ≤ 127) × (target ≤ 127) × (n + length (keeping there (arcWord source target) []) ≤ length (now form)) ⌝ }
-    ensures { λ r. ⌜ Stored (keeping there (arcWord source target) []) n (now (form .entry)) (now (form .exit)) r ⌝ }
+    ensures { λ r. ⌜ Stored (keeping there (arcWord source target) []) n (old form) (new form) r ⌝ }
 {
     if there {
         form[n] = arc_word(source, target);
@@ -75,7 +64,7 @@ fn put_arc(form: &mut [u32], n: usize, source: usize, target: usize, there: bool
 // Writes the arcs of one letter from place n on; the next place.
 fn write_row(letters: usize, row: &[bool], source: usize, form: &mut [u32], n: usize) -> usize
     requires { ⌜ (source ≤ 127) × (letters ≤ 127) × (letters ≤ length (now row)) × (n + length (rowBy letters (now row) source) ≤ length (now form)) ⌝ }
-    ensures { λ r. ⌜ Stored (rowBy letters (now (row .entry)) source) n (now (form .entry)) (now (form .exit)) r ⌝ }
+    ensures { λ r. ⌜ Stored (rowBy letters (old row) source) n (old form) (new form) r ⌝ }
 {
     let mut m = n;
     let mut target: usize = 1;
@@ -89,7 +78,7 @@ fn write_row(letters: usize, row: &[bool], source: usize, form: &mut [u32], n: u
 // Writes all arcs from place n on; the next place.
 pub fn write_arcs(letters: usize, follow: &[[bool; 127]], form: &mut [u32], n: usize) -> usize
     requires { ⌜ (letters ≤ 127) × (letters ≤ length (now follow)) × (n + length (arcsBy letters (now follow)) ≤ length (now form)) ⌝ }
-    ensures { λ r. ⌜ Stored (arcsBy letters (now (follow .entry))) n (now (form .entry)) (now (form .exit)) r ⌝ }
+    ensures { λ r. ⌜ Stored (arcsBy letters (old follow)) n (old form) (new form) r ⌝ }
 {
     let mut m = n;
     let mut source: usize = 1;

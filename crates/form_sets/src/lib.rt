@@ -9,6 +9,7 @@ ghost use mathlib.Core.Logic.{_↔_};
 ghost use mathlib.Core.Bool.{true};
 ghost use Prim.Native.Nat.{_+_, _<_, _≤_};
 ghost use lib.ListN.{length};
+ghost use Rattle.lists.specs.Memory.{old, new};
 ghost use Rattle.lists.specs.Marks.{Marks, Turns};
 ghost use Rattle.automaton.specs.Form.{lettersOf, view};
 ghost use Rattle.automaton.specs.Valid.{Valid};
@@ -18,7 +19,7 @@ ghost use Rattle.form_sets.specs.Sets.{Labelled, Begun, Reached, Enters,
 // Marks letter j if its label is x.
 fn mark(form: &[u32], x: usize, j: usize, set: &mut [bool; 128])
     requires { ⌜ (length (now set) ≡ 128) × (j < length (now form)) × (j < 128) ⌝ }
-    ensures { λ _. ⌜ Marks (Labelled (now (form .entry)) x j) (now (set .entry)) (now (set .exit)) ⌝ }
+    ensures { λ _. ⌜ Marks (Labelled (old form) x j) (old set) (new set) ⌝ }
 {
     if label(form, j) == x {
         set[j] = true;
@@ -28,7 +29,7 @@ fn mark(form: &[u32], x: usize, j: usize, set: &mut [bool; 128])
 // Marks letter j if its label is x and it may be first.
 fn mark_first(form: &[u32], x: usize, j: usize, set: &mut [bool; 128])
     requires { ⌜ Valid (now form) × (length (now set) ≡ 128) × (1 ≤ j) × (j ≤ lettersOf (now form)) ⌝ }
-    ensures { λ _. ⌜ Marks (Begun (now (form .entry)) x j) (now (set .entry)) (now (set .exit)) ⌝ }
+    ensures { λ _. ⌜ Marks (Begun (old form) x j) (old set) (new set) ⌝ }
 {
     if may_be_first(form, j) {
         mark(form, x, j, set);
@@ -38,7 +39,7 @@ fn mark_first(form: &[u32], x: usize, j: usize, set: &mut [bool; 128])
 // Marks the letters of label x that may be first.
 fn mark_firsts(form: &[u32], x: usize, set: &mut [bool; 128])
     requires { ⌜ Valid (now form) × (length (now set) ≡ 128) ⌝ }
-    ensures { λ _. ⌜ Marks (Enters (view (now (form .entry))) x 0) (now (set .entry)) (now (set .exit)) ⌝ }
+    ensures { λ _. ⌜ Marks (Enters (view (old form)) x 0) (old set) (new set) ⌝ }
 {
     let l = letters(form);
     let mut j = 1;
@@ -51,7 +52,7 @@ fn mark_firsts(form: &[u32], x: usize, set: &mut [bool; 128])
 // Marks the targets of label x of the arcs from b up to e.
 fn mark_targets(form: &[u32], x: usize, b: usize, e: usize, set: &mut [bool; 128])
     requires { ⌜ Valid (now form) × (length (now set) ≡ 128) × (lettersOf (now form) < b) × (b ≤ e) × (e ≤ length (now form)) ⌝ }
-    ensures { λ _. ⌜ Marks (Turns (Reached (now (form .entry)) x) b e) (now (set .entry)) (now (set .exit)) ⌝ }
+    ensures { λ _. ⌜ Marks (Turns (Reached (old form) x) b e) (old set) (new set) ⌝ }
 {
     let mut n = b;
     while n < e {
@@ -63,7 +64,7 @@ fn mark_targets(form: &[u32], x: usize, b: usize, e: usize, set: &mut [bool; 128
 // Marks the letters of label x that may stand behind i, whose arcs stand from b up to e.
 fn mark_behind(form: &[u32], x: usize, i: usize, b: usize, e: usize, set: &mut [bool; 128])
     requires { ⌜ Valid (now form) × (length (now set) ≡ 128) × Begins (now form) i b × Begins (now form) (i + 1) e ⌝ }
-    ensures { λ _. ⌜ Marks (Enters (view (now (form .entry))) x i) (now (set .entry)) (now (set .exit)) ⌝ }
+    ensures { λ _. ⌜ Marks (Enters (view (old form)) x i) (old set) (new set) ⌝ }
 {
     if i == 0 {
         mark_firsts(form, x, set);
@@ -75,7 +76,7 @@ fn mark_behind(form: &[u32], x: usize, i: usize, b: usize, e: usize, set: &mut [
 // The letters of label x that may stand behind one of the set.
 pub fn advance(form: &[u32], begins: &[usize], set: [bool; 128], x: usize) -> [bool; 128]
     requires { ⌜ Valid (now form) × ArcStarts (now form) (now begins) ⌝ }
-    ensures { λ r. ⌜ Advanced (view (now (form .entry))) x set r ⌝ }
+    ensures { λ r. ⌜ Advanced (view (old form)) x set r ⌝ }
 {
     let l = letters(form);
     let mut next = [false; 128];
@@ -92,7 +93,7 @@ pub fn advance(form: &[u32], begins: &[usize], set: [bool; 128], x: usize) -> [b
 // May a word end behind one of the set?
 pub fn some_may_end(form: &[u32], set: [bool; 128]) -> bool
     requires { ⌜ Valid (now form) ⌝ }
-    ensures { λ r. ⌜ (r ≡ true) ↔ EndsIn (view (now (form .entry))) set ⌝ }
+    ensures { λ r. ⌜ (r ≡ true) ↔ EndsIn (view (old form)) set ⌝ }
 {
     let l = letters(form);
     let mut i = 0;

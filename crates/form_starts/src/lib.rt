@@ -3,13 +3,14 @@ use form_words::letters;
 use form_words::source;
 ghost use Prim.Native.Nat.{_≤_};
 ghost use lib.ListN.{length};
+ghost use Rattle.lists.specs.Memory.{old};
 ghost use Rattle.automaton.specs.Valid.{Valid};
 ghost use Rattle.form_starts.specs.Starts.{Skipped, ArcStarts};
 
 // From n on, the first index whose word has no source below i; the form's length if there is none.
 fn skip_below(form: &[u32], n: usize, i: usize) -> usize
     requires { ⌜ n ≤ length (now form) ⌝ }
-    ensures { λ r. ⌜ Skipped (now (form .entry)) n i r ⌝ }
+    ensures { λ r. ⌜ Skipped (old form) n i r ⌝ }
 {
     let mut m = n;
     while m < form.len() {
@@ -24,7 +25,7 @@ fn skip_below(form: &[u32], n: usize, i: usize) -> usize
 // Where each letter's arcs begin.
 pub fn starts(form: &[u32]) -> [usize; 129]
     requires { ⌜ Valid (now form) ⌝ }
-    ensures { λ r. ⌜ ArcStarts (now (form .entry)) r ⌝ }
+    ensures { λ r. ⌜ ArcStarts (old form) r ⌝ }
 {
     let mut s = [0; 129];
     let mut n = letters(form) + 1;

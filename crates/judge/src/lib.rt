@@ -1,15 +1,16 @@
 // The call Judge: does a form accept a word (document 01, "Opening and the compiled form")?
 use answers::Judged;
-use ctc_labels::wide;
 use form_check::valid;
 use form_sets::advance;
 use form_sets::no_letter;
 use form_sets::some_may_end;
 use form_starts::starts;
 use form_words::alphabet;
+use numbers::wide;
 use refusal::Refusal;
 ghost use mathlib.Core.Path.{_≡_};
 ghost use mathlib.Core.Bool.{true};
+ghost use Rattle.lists.specs.Memory.{old};
 ghost use Rattle.answers.specs.Judgement.{report, reported};
 ghost use Rattle.automaton.specs.Form.{validForm, view};
 ghost use Rattle.automaton.specs.Accepted.{accepts as acceptsOf};
@@ -18,7 +19,7 @@ ghost use Rattle.judge.specs.Judge.{judged};
 // Does the form accept the word?
 fn accepts(form: &[u32], word: &[u8]) -> bool
     requires { ⌜ validForm (now form) ≡ true ⌝ }
-    ensures { λ r. ⌜ r ≡ acceptsOf (view (now (form .entry))) (now (word .entry)) ⌝ }
+    ensures { λ r. ⌜ r ≡ acceptsOf (view (old form)) (old word) ⌝ }
 {
     let begins = starts(form);
     let mut set = no_letter();
@@ -33,7 +34,7 @@ fn accepts(form: &[u32], word: &[u8]) -> bool
 
 // Document 01's judging of a word: whether the form accepts it.
 pub fn judge(form: &[u32], word: &[u8]) -> Judged
-    ensures { λ r. ⌜ reported r ≡ report (judged (now (form .entry)) (now (word .entry))) ⌝ }
+    ensures { λ r. ⌜ reported r ≡ report (judged (old form) (old word)) ⌝ }
 {
     if !valid(form) {
         return Judged::Refused(Refusal::BadForm);

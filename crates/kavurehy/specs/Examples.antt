@@ -18,11 +18,11 @@ use Rattle.automaton.specs.Automaton.{Accepts}
 use Rattle.automaton.specs.Form.{ordered, validForm, view, followOf, endsOf}
 use Rattle.automaton.specs.Valid.{view-proper}
 use Rattle.automaton.specs.Accepted.{spells, accepts, accepts-decides}
-use Rattle.outcome.specs.Matrix.{Matrix, matrix}
+use Rattle.matrix.specs.Matrix.{Matrix, matrix}
 use Rattle.outcome.specs.Reading.{Outcome, outcome-same, outcome-unique}
 use Rattle.outcome.specs.Choice.{not-after, preferred, better}
 use Rattle.outcome.specs.Exhaustive.{over, exhaustive, usable, decided, decided-outcome}
-use Rattle.regex.specs.Bytes.{bytes}
+use Rattle.text.specs.Bytes.{bytes}
 use Rattle.regex.specs.Grammar.{WordsOf}
 use Rattle.compile.specs.Call.{compile-call}
 use Rattle.compile.specs.Meaning.{compiled-means}

@@ -10,7 +10,7 @@ use Rattle.refusal.specs.Report.{Report, report, filling, Fills}
 use Rattle.answers.specs.Judgement.{report as judgement}
 use Rattle.export_counts.specs.Handed.{length-alone, price-and-length, price-and-lengths, Hands, HandsJudgement}
 use Rattle.judge.specs.Judge.{judged}
-use Rattle.outcome.specs.Matrix.{Matrix}
+use Rattle.matrix.specs.Matrix.{Matrix}
 use Rattle.decode_valid.specs.Answers.{Lent}
 use Rattle.decode.specs.Promise.{Decodes}
 use Rattle.read_text.specs.Promise.{Reads}

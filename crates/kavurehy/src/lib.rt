@@ -6,10 +6,11 @@ use export_counts::hand_number;
 use export_paths::hand_decoded;
 use export_paths::hand_reading;
 ghost use lib.ListN.{length};
+ghost use Rattle.lists.specs.Memory.{old, new};
 ghost use Rattle.ctc_collapse.specs.Calls.{collapse-call};
 ghost use Rattle.ctc_spread.specs.Calls.{spread-call};
 ghost use Rattle.confidence.specs.Cost.{costs-call};
-ghost use Rattle.outcome.specs.Matrix.{matrix};
+ghost use Rattle.matrix.specs.Matrix.{matrix};
 ghost use Rattle.compile.specs.Call.{compile-call};
 ghost use Rattle.kavurehy.specs.Handed.{FillsCounted, FillsPlain, Judges, DecodesCounted, ReadsCounted};
 
@@ -21,7 +22,7 @@ pub extern "C" fn kavurehy_compile(
     form: &mut [u32],
     counts: &mut [u32; 1],
 ) -> u32
-    ensures { λ r. ⌜ FillsCounted (compile-call (now (alphabet .entry)) (now (text .entry)) (length (now (form .entry)))) (now (form .entry)) (now (form .exit)) (now (counts .exit)) r ⌝ }
+    ensures { λ r. ⌜ FillsCounted (compile-call (old alphabet) (old text) (length (old form))) (old form) (new form) (new counts) r ⌝ }
 {
     hand_length(compile::compile(alphabet, text, form), counts)
 }
@@ -29,7 +30,7 @@ pub extern "C" fn kavurehy_compile(
 // Does the form accept the word? 1 or 0 in `accepted`.
 #[no_mangle]
 pub extern "C" fn kavurehy_judge(form: &[u32], word: &[u8], accepted: &mut [u32; 1]) -> u32
-    ensures { λ r. ⌜ Judges (now (form .entry)) (now (word .entry)) (now (accepted .exit)) r ⌝ }
+    ensures { λ r. ⌜ Judges (old form) (old word) (new accepted) r ⌝ }
 {
     hand_judgement(judge::judge(form, word), accepted)
 }
@@ -42,7 +43,7 @@ pub extern "C" fn kavurehy_collapse(
     word: &mut [u8],
     counts: &mut [u32; 1],
 ) -> u32
-    ensures { λ r. ⌜ FillsCounted (collapse-call k (now (path .entry)) (length (now (word .entry)))) (now (word .entry)) (now (word .exit)) (now (counts .exit)) r ⌝ }
+    ensures { λ r. ⌜ FillsCounted (collapse-call k (old path) (length (old word))) (old word) (new word) (new counts) r ⌝ }
 {
     hand_length(ctc_collapse::collapse(k, path, word), counts)
 }
@@ -55,7 +56,7 @@ pub extern "C" fn kavurehy_spread(
     path: &mut [u8],
     counts: &mut [u32; 1],
 ) -> u32
-    ensures { λ r. ⌜ FillsCounted (spread-call k (now (word .entry)) (length (now (path .entry)))) (now (path .entry)) (now (path .exit)) (now (counts .exit)) r ⌝ }
+    ensures { λ r. ⌜ FillsCounted (spread-call k (old word) (length (old path))) (old path) (new path) (new counts) r ⌝ }
 {
     hand_length(ctc_spread::spread(k, word, path), counts)
 }
@@ -72,7 +73,7 @@ pub extern "C" fn kavurehy_decode(
     work: &mut [u32],
     counts: &mut [u32; 2],
 ) -> u32
-    ensures { λ r. ⌜ DecodesCounted (now (form .entry)) (matrix (now (costs .entry)) width columns) (record { path = now (path .entry); word = now (word .entry); work = now (work .entry) }) (record { path = now (path .exit); word = now (word .exit); work = now (work .exit) }) (now (counts .exit)) r ⌝ }
+    ensures { λ r. ⌜ DecodesCounted (old form) (matrix (old costs) width columns) (record { path = old path; word = old word; work = old work }) (record { path = new path; word = new word; work = new work }) (new counts) r ⌝ }
 {
     hand_decoded(
         decode::decode(form, costs, width, columns, path, word, work),
@@ -95,7 +96,7 @@ pub extern "C" fn kavurehy_read(
     work: &mut [u32],
     counts: &mut [u32; 3],
 ) -> u32
-    ensures { λ r. ⌜ ReadsCounted (now (alphabet .entry)) (now (text .entry)) (matrix (now (costs .entry)) width columns) (now (form .entry)) (now (form .exit)) (record { path = now (path .entry); word = now (word .entry); work = now (work .entry) }) (record { path = now (path .exit); word = now (word .exit); work = now (work .exit) }) (now (counts .exit)) r ⌝ }
+    ensures { λ r. ⌜ ReadsCounted (old alphabet) (old text) (matrix (old costs) width columns) (old form) (new form) (record { path = old path; word = old word; work = old work }) (record { path = new path; word = new word; work = new work }) (new counts) r ⌝ }
 {
     hand_reading(
         read::read(
@@ -116,7 +117,7 @@ pub extern "C" fn kavurehy_read(
 // One cost for each confidence.
 #[no_mangle]
 pub extern "C" fn kavurehy_costs(confidences: &[u8], costs: &mut [u32]) -> u32
-    ensures { λ r. ⌜ FillsPlain (costs-call (now (confidences .entry)) (length (now (costs .entry)))) (now (costs .entry)) (now (costs .exit)) r ⌝ }
+    ensures { λ r. ⌜ FillsPlain (costs-call (old confidences) (length (old costs))) (old costs) (new costs) r ⌝ }
 {
     hand_number(confidence::costs(confidences, costs))
 }

@@ -10,3 +10,6 @@ pub mod Outside
 pub mod Marks
 pub mod Upto
 pub mod Examples
+pub mod Memory
+pub mod Cases
+pub mod CasesLaws

@@ -10,7 +10,7 @@ use native.Mathlib.Omega.{arith}
 use lib.Dec.{ltb, eqb}
 use borrow.Author.Tests.{ltb-true, ltb-false, eqb-true, eqb-false}
 use Rattle.outcome.specs.Best.{BestOf}
-use Rattle.outcome.specs.Matrix.{Matrix, price}
+use Rattle.matrix.specs.Matrix.{Matrix, price}
 use Rattle.outcome.specs.Order.{NotAfter, order-trans}
 use Rattle.outcome.specs.Reading.{Rival, OutcomeOf, Outcome, outcome-of-same}
 

@@ -8,7 +8,7 @@ use mathlib.Core.Logic.{_⊎_, inl, inr}
 use native.Mathlib.Omega.{arith}
 use lib.ListN.{length}
 use Rattle.lists.specs.Order.{eq-or-ne}
-use Rattle.outcome.specs.Matrix.{Matrix, cost, priceFrom, price, Usable, PathFrom}
+use Rattle.matrix.specs.Matrix.{Matrix, cost, priceFrom, price, Usable, PathFrom}
 use Rattle.outcome.specs.Reading.{Rival, Outcome}
 
 -- N is M with the usable costs of one column raised, and no cost becomes usable or ceases to be so

@@ -4,7 +4,7 @@ use mathlib.Core.Path.{_≡_, refl}
 use mathlib.Core.List.{[], _∷_}
 use mathlib.Core.Logic.{inl, inr}
 use native.Mathlib.Omega.{arith}
-use Rattle.outcome.specs.Matrix.{Matrix, matrix, cost, price, Usable, PathOf}
+use Rattle.matrix.specs.Matrix.{Matrix, matrix, cost, price, Usable, PathOf}
 use Rattle.outcome.specs.Order.{NotAfter}
 
 -- two columns, each with the costs of blank, a and b

@@ -14,7 +14,7 @@ use borrow.Author.Tests.{leb-true, le-leb}
 use Rattle.lists.specs.Order.{eq-or-ne, and-left, and-right, and-both}
 use Rattle.lists.specs.Each.{Each}
 use Rattle.ctc.specs.Collapse.{merge, without-blanks, collapse}
-use Rattle.outcome.specs.Matrix.{Matrix, cost, price, PathFrom}
+use Rattle.matrix.specs.Matrix.{Matrix, cost, price, PathFrom}
 use Rattle.outcome.specs.Reading.{OutcomeOf, Outcome, outcome-of-same}
 use Rattle.outcome.specs.Choice.{not-after, preferred, better, outcome-either}
 

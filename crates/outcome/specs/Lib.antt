@@ -1,5 +1,4 @@
 pub mod Best
-pub mod Matrix
 pub mod Order
 pub mod Reading
 pub mod Choice

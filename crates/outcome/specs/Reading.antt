@@ -9,7 +9,7 @@ use lib.ListN.{length}
 use Rattle.ctc.specs.Collapse.{collapse}
 use Rattle.outcome.specs.Best.{BestOf, best-same, best-unique}
 use Rattle.lists.specs.Each.{Each}
-use Rattle.outcome.specs.Matrix.{Matrix, price, PathFrom, PathOf, CostsPass, cost-passes}
+use Rattle.matrix.specs.Matrix.{Matrix, price, PathFrom, PathOf, CostsPass, cost-passes}
 use Rattle.outcome.specs.Order.{NotAfter, order-antisymmetric}
 
 -- a path whose collapse is a word

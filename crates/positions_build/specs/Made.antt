@@ -11,7 +11,8 @@ use lib.ListN.{length, getD, drop, length-drop}
 use lib.Dec.{eqb}
 use borrow.Author.Tests.{eq-eqb, ne-eqb}
 use Rattle.regex.specs.Tree.{only, Tree, set, join, either}
-use Rattle.regex.specs.Text.{Reads, found, fault, then, next, rest}
+use Rattle.regex.specs.Text.{Reads, found, fault, then}
+use Rattle.text.specs.Text.{next, rest}
 use Rattle.regex.specs.Read.{Mode, m-alternation, m-branch, m-piece, ends, step, read}
 use Rattle.regex.specs.Says.{of-found}
 use Rattle.regex.specs.Sense.{Sensible, sensible}

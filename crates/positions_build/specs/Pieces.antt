@@ -12,7 +12,8 @@ use lib.Dec.{eqb}
 use borrow.Author.Tests.{eqb-true, eq-eqb, ne-eqb}
 use Rattle.refusal.specs.declared.Refusal.the-variants as row
 use Rattle.regex.specs.Tree.{Set, Count, between, Tree, set, group, times}
-use Rattle.regex.specs.Text.{Reads, found, fault, then, next, rest}
+use Rattle.regex.specs.Text.{Reads, found, fault, then}
+use Rattle.text.specs.Text.{next, rest}
 use Rattle.regex.specs.Letters.{labelsOf}
 use Rattle.regex.specs.Sets.{a-set, labelled-set}
 use Rattle.regex.specs.Repetition.{repeats, repetition}

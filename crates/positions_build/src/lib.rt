@@ -12,6 +12,7 @@ use positions_parts::perhaps;
 use regex_count::is_end;
 use text::peek;
 ghost use Prim.Native.Nat.{_<_};
+ghost use Rattle.lists.specs.Memory.{old, new};
 ghost use Rattle.regex.specs.Letters.{copiesOf};
 ghost use Rattle.regex.specs.Read.{m-alternation, m-branch, m-piece, m-group};
 ghost use Rattle.positions_letters.specs.Shows.{Builds};
@@ -31,7 +32,7 @@ fn alternation(
 ) -> Built
     requires { ⌜ PartAt (now alphabet) (now text) m-alternation room at ⌝ }
     requires { ⌜ Room (now alphabet) (openedAt (now alphabet) (now text) m-alternation room at) letters (now labels) (now follow) ⌝ }
-    ensures { λ r. ⌜ Builds letters (openedAt (now (alphabet .entry)) (now (text .entry)) m-alternation room at) (endAt (now (alphabet .entry)) (now (text .entry)) m-alternation room at) (now (follow .entry)) (now (follow .exit)) (now (labels .entry)) (now (labels .exit)) r ⌝ }
+    ensures { λ r. ⌜ Builds letters (openedAt (old alphabet) (old text) m-alternation room at) (endAt (old alphabet) (old text) m-alternation room at) (old follow) (new follow) (old labels) (new labels) r ⌝ }
 {
     let a = branch(alphabet, text, at, room, letters, labels, follow);
     let e = a.end;
@@ -54,7 +55,7 @@ fn branch(
 ) -> Built
     requires { ⌜ PartAt (now alphabet) (now text) m-branch room at ⌝ }
     requires { ⌜ Room (now alphabet) (openedAt (now alphabet) (now text) m-branch room at) letters (now labels) (now follow) ⌝ }
-    ensures { λ r. ⌜ Builds letters (openedAt (now (alphabet .entry)) (now (text .entry)) m-branch room at) (endAt (now (alphabet .entry)) (now (text .entry)) m-branch room at) (now (follow .entry)) (now (follow .exit)) (now (labels .entry)) (now (labels .exit)) r ⌝ }
+    ensures { λ r. ⌜ Builds letters (openedAt (old alphabet) (old text) m-branch room at) (endAt (old alphabet) (old text) m-branch room at) (old follow) (new follow) (old labels) (new labels) r ⌝ }
 {
     let a = piece(alphabet, text, at, room, 0, letters, labels, follow);
     let e = a.end;
@@ -79,7 +80,7 @@ fn piece(
     requires { ⌜ PartAt (now alphabet) (now text) m-piece room at ⌝ }
     requires { ⌜ copies < copiesOf (countAt (now alphabet) (now text) room at) ⌝ }
     requires { ⌜ Room (now alphabet) (leftAt (now alphabet) (now text) room at copies) letters (now labels) (now follow) ⌝ }
-    ensures { λ r. ⌜ Builds letters (leftAt (now (alphabet .entry)) (now (text .entry)) room at copies) (endAt (now (alphabet .entry)) (now (text .entry)) m-piece room at) (now (follow .entry)) (now (follow .exit)) (now (labels .entry)) (now (labels .exit)) r ⌝ }
+    ensures { λ r. ⌜ Builds letters (leftAt (old alphabet) (old text) room at copies) (endAt (old alphabet) (old text) m-piece room at) (old follow) (new follow) (old labels) (new labels) r ⌝ }
 {
     let a = group(alphabet, text, at, room, letters, labels, follow);
     let c = copies_at(text, a.end);
@@ -114,7 +115,7 @@ fn group(
 ) -> Built
     requires { ⌜ PartAt (now alphabet) (now text) m-group room at ⌝ }
     requires { ⌜ Room (now alphabet) (openedAt (now alphabet) (now text) m-group room at) letters (now labels) (now follow) ⌝ }
-    ensures { λ r. ⌜ Builds letters (openedAt (now (alphabet .entry)) (now (text .entry)) m-group room at) (endAt (now (alphabet .entry)) (now (text .entry)) m-group room at) (now (follow .entry)) (now (follow .exit)) (now (labels .entry)) (now (labels .exit)) r ⌝ }
+    ensures { λ r. ⌜ Builds letters (openedAt (old alphabet) (old text) m-group room at) (endAt (old alphabet) (old text) m-group room at) (old follow) (new follow) (old labels) (new labels) r ⌝ }
 {
     if peek(text, at) != b'(' {
         return set(alphabet, text, at, letters, labels);
@@ -127,7 +128,7 @@ fn group(
 // The whole text, with at most 16 groups open together.
 pub fn build(alphabet: &[u8], text: &[u8], labels: &mut [u8], follow: &mut [[bool; 127]]) -> Built
     requires { ⌜ Buildable (now alphabet) (now text) (now labels) (now follow) ⌝ }
-    ensures { λ r. ⌜ BuildsWhole (now (alphabet .entry)) (now (text .entry)) (now (labels .entry)) (now (labels .exit)) (now (follow .entry)) (now (follow .exit)) r ⌝ }
+    ensures { λ r. ⌜ BuildsWhole (old alphabet) (old text) (old labels) (new labels) (old follow) (new follow) r ⌝ }
 {
     alternation(alphabet, text, 0, 16, 0, labels, follow)
 }

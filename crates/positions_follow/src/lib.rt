@@ -4,6 +4,7 @@ ghost use mathlib.Core.Path.{_≡_};
 ghost use mathlib.Core.Bool.{_||_};
 ghost use Prim.Native.Nat.{_≤_};
 ghost use lib.ListN.{length};
+ghost use Rattle.lists.specs.Memory.{old, new};
 ghost use Rattle.positions_follow.specs.Sets.{Union, Linked};
 
 pub fn either(a: bool, b: bool) -> bool
@@ -15,7 +16,7 @@ pub fn either(a: bool, b: bool) -> bool
 // The set a becomes its union with the set b.
 pub fn unite(a: &mut [bool], b: &[bool])
     requires { ⌜ length (now b) ≤ length (now a) ⌝ }
-    ensures { λ _. ⌜ Union (now (a .entry)) (now (b .entry)) (now (a .exit)) ⌝ }
+    ensures { λ _. ⌜ Union (old a) (old b) (new a) ⌝ }
 {
     let mut i: usize = 0;
     while i < b.len() {
@@ -27,7 +28,7 @@ pub fn unite(a: &mut [bool], b: &[bool])
 // Adds an arc from each letter of one set to each letter of the other.
 pub fn link(follow: &mut [[bool; 127]], from: &[bool], to: &[bool])
     requires { ⌜ (length (now from) ≤ length (now follow)) × (length (now to) ≤ 127) ⌝ }
-    ensures { λ _. ⌜ Linked (now (from .entry)) (now (to .entry)) (now (follow .entry)) (now (follow .exit)) ⌝ }
+    ensures { λ _. ⌜ Linked (old from) (old to) (old follow) (new follow) ⌝ }
 {
     let mut i: usize = 0;
     while i < from.len() {

@@ -1,5 +1,6 @@
 // A set or a repetition at a place of the text, for the builder: a set as letters, one for each of its labels, a repetition as copies. The
 // letter of number i stands at index i - 1.
+use numbers::narrow_byte;
 use positions_parts::Built;
 use regex_bracket::End;
 use regex_count::copies;
@@ -13,6 +14,7 @@ ghost use mathlib.Core.Bool.{true};
 ghost use mathlib.Core.List.{[]};
 ghost use Prim.Native.Nat.{_+_, _<_, _≤_};
 ghost use lib.ListN.{length, drop};
+ghost use Rattle.lists.specs.Memory.{old, new};
 ghost use Rattle.lists.specs.Among.{keeping};
 ghost use Rattle.lists.specs.Written.{Stored};
 ghost use Rattle.regex.specs.Sets.{a-set};
@@ -32,17 +34,10 @@ pub struct Copies {
     pub end: usize,
 }
 
-fn narrow(x: usize) -> u8
-    requires { ⌜ x < 256 ⌝ }
-    ensures { λ r. ⌜ r ≡ x ⌝ }
-{
-    x as u8
-}
-
 // The copies of what ends here: those of the repetition, or one where none stands.
 pub fn copies_at(text: &[u8], at: usize) -> Copies
     requires { ⌜ (at ≤ length (now text)) × (is-found (counted (drop at (now text))) ≡ true) ⌝ }
-    ensures { λ r. ⌜ r ≡ copiesBy (now (text .entry)) (counted (drop at (now (text .entry)))) ⌝ }
+    ensures { λ r. ⌜ r ≡ copiesBy (old text) (counted (drop at (old text))) ⌝ }
 {
     let one = Copies {
         least: 1,
@@ -75,7 +70,7 @@ pub fn copies_at(text: &[u8], at: usize) -> Copies
 // The place behind the set that begins here.
 fn behind_set(text: &[u8], at: usize) -> usize
     requires { ⌜ SetAt (now text) at ⌝ }
-    ensures { λ r. ⌜ r ≡ place (now (text .entry)) (restOf (a-set (drop at (now (text .entry))))) ⌝ }
+    ensures { λ r. ⌜ r ≡ place (old text) (restOf (a-set (drop at (old text)))) ⌝ }
 {
     match set_end(text, at) {
         End::At(e) => e,
@@ -101,7 +96,7 @@ fn range(from: usize, to: usize) -> [bool; 127]
 // The label goes to place n, if it is one of the set; the next place.
 fn put_label(labels: &mut [u8], n: usize, label: u8, there: bool) -> usize
     requires { ⌜ n + length (keeping there label []) ≤ length (now labels) ⌝ }
-    ensures { λ r. ⌜ Stored (keeping there label []) n (now (labels .entry)) (now (labels .exit)) r ⌝ }
+    ensures { λ r. ⌜ Stored (keeping there label []) n (old labels) (new labels) r ⌝ }
 {
     if there {
         labels[n] = label;
@@ -114,7 +109,7 @@ fn put_label(labels: &mut [u8], n: usize, label: u8, there: bool) -> usize
 fn write_labels(alphabet: &[u8], text: &[u8], at: usize, labels: &mut [u8], n: usize) -> usize
     requires { ⌜ SetAt (now text) at ⌝ }
     requires { ⌜ (length (now alphabet) ≤ 255) × (n + length (labelsIn (now alphabet) (setAt (now text) at)) ≤ length (now labels)) ⌝ }
-    ensures { λ r. ⌜ Stored (labelsIn (now (alphabet .entry)) (setAt (now (text .entry)) at)) n (now (labels .entry)) (now (labels .exit)) r ⌝ }
+    ensures { λ r. ⌜ Stored (labelsIn (old alphabet) (setAt (old text) at)) n (old labels) (new labels) r ⌝ }
 {
     let mut m = n;
     let mut label: usize = 1;
@@ -122,7 +117,7 @@ fn write_labels(alphabet: &[u8], text: &[u8], at: usize, labels: &mut [u8], n: u
         m = put_label(
             labels,
             m,
-            narrow(label),
+            narrow_byte(label),
             member(text, at, alphabet[label - 1]),
         );
         label += 1;
@@ -134,7 +129,7 @@ fn write_labels(alphabet: &[u8], text: &[u8], at: usize, labels: &mut [u8], n: u
 pub fn set(alphabet: &[u8], text: &[u8], at: usize, letters: usize, labels: &mut [u8]) -> Built
     requires { ⌜ SetAt (now text) at ⌝ }
     requires { ⌜ SetRoom (now alphabet) (setAt (now text) at) letters (now labels) ⌝ }
-    ensures { λ r. ⌜ SetBuilds (now (alphabet .entry)) (now (text .entry)) at letters (now (labels .entry)) (now (labels .exit)) r ⌝ }
+    ensures { λ r. ⌜ SetBuilds (old alphabet) (old text) at letters (old labels) (new labels) r ⌝ }
 {
     let n = write_labels(alphabet, text, at, labels, letters);
     let first = range(letters, n);

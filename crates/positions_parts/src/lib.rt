@@ -7,6 +7,7 @@ ghost use mathlib.Core.Path.{_≡_};
 ghost use mathlib.Core.Bool.{_&&_};
 ghost use Prim.Native.Nat.{_≤_};
 ghost use lib.ListN.{length};
+ghost use Rattle.lists.specs.Memory.{old, new};
 ghost use Rattle.positions_parts.specs.Together.{United, Chosen, Joined, Looped, Spared, Ended};
 
 // A part that was built: where it ends in the text; how many letters there are up to its end; whether it has the empty word; and which
@@ -59,7 +60,7 @@ pub fn choice(a: Built, b: Built) -> Built
 // One part and then the other: an arc from each last letter of a to each first of b.
 pub fn joint(a: Built, b: Built, follow: &mut [[bool; 127]]) -> Built
     requires { ⌜ 127 ≤ length (now follow) ⌝ }
-    ensures { λ r. ⌜ Joined a b r (now (follow .entry)) (now (follow .exit)) ⌝ }
+    ensures { λ r. ⌜ Joined a b r (old follow) (new follow) ⌝ }
 {
     let a_last = a.last;
     let b_first = b.first;
@@ -80,7 +81,7 @@ pub fn joint(a: Built, b: Built, follow: &mut [[bool; 127]]) -> Built
 // An arc from each last letter of the part to each first, if it may be repeated onward.
 pub fn again(a: Built, onward: bool, follow: &mut [[bool; 127]])
     requires { ⌜ 127 ≤ length (now follow) ⌝ }
-    ensures { λ _. ⌜ Looped onward (a .last) (a .first) (now (follow .entry)) (now (follow .exit)) ⌝ }
+    ensures { λ _. ⌜ Looped onward (a .last) (a .first) (old follow) (new follow) ⌝ }
 {
     if onward {
         let last = a.last;

@@ -25,13 +25,15 @@ use Rattle.automaton.specs.Automaton.{Accepts}
 use Rattle.automaton.specs.Form.{encode, view, lettersOf, alphabetOf, followOf, endsOf}
 use Rattle.automaton.specs.Valid.{valid-at, valid-proper}
 use Rattle.automaton.specs.Accepted.{spells, accepts, accepts-decides}
-use Rattle.outcome.specs.Matrix.{Matrix, matrix}
+use Rattle.matrix.specs.Matrix.{Matrix, matrix}
 use Rattle.outcome.specs.Reading.{Outcome, outcome-same}
 use Rattle.outcome.specs.Choice.{not-after, preferred, better}
 use Rattle.outcome.specs.Exhaustive.{over, exhaustive, usable, decided, decided-outcome}
-use Rattle.regex.specs.Bytes.{bytes}
+use Rattle.text.specs.Bytes.{bytes}
 use Rattle.regex.specs.Letters.{labelsOf, letterCount}
-use Rattle.regex.specs.Text.{then, first-of, split, enclosed, provided}
+use Rattle.regex.specs.Text.{then, enclosed}
+use Rattle.text.specs.Text.{split}
+use Rattle.lists.specs.Cases.{first-of, provided}
 use Rattle.regex.specs.Sets.{closed, reserved, items, members, inside, bracket, escaped, a-set, labelled-set}
 use Rattle.regex.specs.Repetition.{number, from-on, from-to, comma, counts, sign, repetition}
 use Rattle.regex.specs.Read.{grouped, step, go, read, whole, expressionOf}

@@ -15,7 +15,7 @@ use Rattle.refusal.specs.Verdict.{passed, refused, first-refusal}
 use Rattle.refusal.specs.Report.{Report, turned-away, filling}
 use Rattle.ctc.specs.Spread.{spread, Shortest, spread-is-shortest}
 use Rattle.automaton.specs.Form.{lettersOf}
-use Rattle.outcome.specs.Matrix.{Matrix}
+use Rattle.matrix.specs.Matrix.{Matrix}
 use Rattle.regex.specs.Grammar.{WordsOf}
 use Rattle.compile.specs.Call.{compile-call}
 use Rattle.compile.specs.Meaning.{Means, compiled-means}

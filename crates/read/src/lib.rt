@@ -1,12 +1,13 @@
 // Read: from an alphabet, the text of an expression and a matrix of costs to the cheapest path whose collapse is a word of the expression,
 // with the word as characters (demand 3).
 use answers::Reading;
-use decode::Matrix;
-use decode::matrix_of;
+use matrix::Matrix;
+use matrix::matrix_of;
 use read_text::read_parts;
+ghost use Rattle.lists.specs.Memory.{old, new};
 ghost use Rattle.answers.specs.Reading.{reported};
-ghost use Rattle.decode.specs.View.{value};
-ghost use Rattle.outcome.specs.Matrix.{matrix};
+ghost use Rattle.matrix.specs.View.{value};
+ghost use Rattle.matrix.specs.Matrix.{matrix};
 ghost use Rattle.read_text.specs.Promise.{Reads};
 
 // Document 01's Read. Its promise is `Reads` (read_text, specs/Promise.antt); demand 3, clause by clause:
@@ -27,7 +28,7 @@ pub fn read_matrix(
     word: &mut [u8],
     work: &mut [u32],
 ) -> Reading
-    ensures { λ r. ⌜ Reads (now (alphabet .entry)) (now (text .entry)) (value (matrix .entry)) (now (form .entry)) (now (form .exit)) (record { path = now (path .entry); word = now (word .entry); work = now (work .entry) }) (record { path = now (path .exit); word = now (word .exit); work = now (work .exit) }) (reported r) ⌝ }
+    ensures { λ r. ⌜ Reads (old alphabet) (old text) (value (matrix .entry)) (old form) (new form) (record { path = old path; word = old word; work = old work }) (record { path = new path; word = new word; work = new work }) (reported r) ⌝ }
 {
     read_parts(
         alphabet,
@@ -54,7 +55,7 @@ pub fn read(
     word: &mut [u8],
     work: &mut [u32],
 ) -> Reading
-    ensures { λ r. ⌜ Reads (now (alphabet .entry)) (now (text .entry)) (matrix (now (costs .entry)) width count) (now (form .entry)) (now (form .exit)) (record { path = now (path .entry); word = now (word .entry); work = now (work .entry) }) (record { path = now (path .exit); word = now (word .exit); work = now (work .exit) }) (reported r) ⌝ }
+    ensures { λ r. ⌜ Reads (old alphabet) (old text) (matrix (old costs) width count) (old form) (new form) (record { path = old path; word = old word; work = old work }) (record { path = new path; word = new word; work = new work }) (reported r) ⌝ }
 {
     read_matrix(
         alphabet,

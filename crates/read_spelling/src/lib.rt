@@ -1,11 +1,12 @@
 // A word's labels as characters of the alphabet, written in place of the labels (demand 3).
-use ctc_labels::wide;
+use numbers::wide;
+ghost use Rattle.lists.specs.Memory.{old, new};
 ghost use Rattle.read_spelling.specs.Spelling.{Labels, Spelt};
 
 // Puts the character of each of the first n labels in its place.
 pub fn write_characters(alphabet: &[u8], word: &mut [u8], n: usize)
     requires { ⌜ Labels (now alphabet) (now word) n ⌝ }
-    ensures { λ _. ⌜ Spelt (now (alphabet .entry)) n (now (word .entry)) (now (word .exit)) ⌝ }
+    ensures { λ _. ⌜ Spelt (old alphabet) n (old word) (new word) ⌝ }
 {
     let mut i: usize = 0;
     while i < n {

@@ -8,7 +8,7 @@ use Rattle.lists.specs.Written.{written}
 use Rattle.refusal.specs.Verdict.{Verdict, passed, refused, first-refusal}
 use Rattle.refusal.specs.Report.{Report, turned-away, filling}
 use Rattle.automaton.specs.Form.{lettersOf}
-use Rattle.outcome.specs.Matrix.{Matrix}
+use Rattle.matrix.specs.Matrix.{Matrix}
 use Rattle.regex.specs.Grammar.{WordsOf}
 use Rattle.decode_checks.specs.Checks.{needed, matrix-checks}
 use Rattle.decode_valid.specs.Answers.{Lent, rooms, Answers, Checks}

@@ -8,10 +8,11 @@ use refusal::Checked;
 use refusal::Counted;
 ghost use mathlib.Core.Path.{_≡_};
 ghost use lib.ListN.{length};
+ghost use Rattle.lists.specs.Memory.{old, new};
 ghost use Rattle.answers.specs.Reading.{reported};
 ghost use Rattle.automaton.specs.Form.{alphabetOf};
 ghost use Rattle.automaton.specs.Valid.{Valid};
-ghost use Rattle.outcome.specs.Matrix.{matrix};
+ghost use Rattle.matrix.specs.Matrix.{matrix};
 ghost use Rattle.read_text.specs.Promise.{Reads};
 ghost use Rattle.read_text.specs.Steps.{ChecksForm};
 
@@ -27,7 +28,7 @@ fn read_form(
     work: &mut [u32],
 ) -> Reading
     requires { ⌜ Valid (now form) × (alphabetOf (now form) ≡ length (now alphabet)) ⌝ }
-    ensures { λ r. ⌜ ChecksForm (now (alphabet .entry)) (now (form .entry)) (matrix (now (costs .entry)) width count) (record { path = now (path .entry); word = now (word .entry); work = now (work .entry) }) (record { path = now (path .exit); word = now (word .exit); work = now (work .exit) }) (reported r) ⌝ }
+    ensures { λ r. ⌜ ChecksForm (old alphabet) (old form) (matrix (old costs) width count) (record { path = old path; word = old word; work = old work }) (record { path = new path; word = new word; work = new work }) (reported r) ⌝ }
 {
     let k = alphabet.len();
     let l = letters(form);
@@ -58,7 +59,7 @@ pub fn read_parts(
     word: &mut [u8],
     work: &mut [u32],
 ) -> Reading
-    ensures { λ r. ⌜ Reads (now (alphabet .entry)) (now (text .entry)) (matrix (now (costs .entry)) width count) (now (form .entry)) (now (form .exit)) (record { path = now (path .entry); word = now (word .entry); work = now (work .entry) }) (record { path = now (path .exit); word = now (word .exit); work = now (work .exit) }) (reported r) ⌝ }
+    ensures { λ r. ⌜ Reads (old alphabet) (old text) (matrix (old costs) width count) (old form) (new form) (record { path = old path; word = old word; work = old work }) (record { path = new path; word = new word; work = new work }) (reported r) ⌝ }
 {
     match compile::compile(alphabet, text, form) {
         Counted::Refused(r) => Reading::Refused(r),

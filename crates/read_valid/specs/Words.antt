@@ -15,7 +15,7 @@ use Rattle.answers.specs.Decoded.{read}
 use Rattle.ctc.specs.Collapse.{collapse, collapse-each, collapse-letters, collapse-shorter}
 use Rattle.automaton.specs.Automaton.{Accepts}
 use Rattle.automaton.specs.Form.{view, lettersOf}
-use Rattle.outcome.specs.Matrix.{Matrix, price, PathFrom}
+use Rattle.matrix.specs.Matrix.{Matrix, price, PathFrom}
 use Rattle.outcome.specs.Reading.{Best, Outcome}
 use Rattle.decode_checks.specs.Checks.{needed}
 use Rattle.decode_valid.specs.Answers.{Lent, outcome-report, path-of, word-of, labels, Answers, DecodeAnswers}

@@ -5,10 +5,11 @@ use decode_valid::decode_valid;
 use read_spelling::write_characters;
 ghost use mathlib.Core.Path.{_≡_};
 ghost use lib.ListN.{length};
+ghost use Rattle.lists.specs.Memory.{old, new};
 ghost use Rattle.answers.specs.Reading.{reported};
 ghost use Rattle.automaton.specs.Form.{alphabetOf, lettersOf};
 ghost use Rattle.automaton.specs.Valid.{Valid};
-ghost use Rattle.outcome.specs.Matrix.{matrix};
+ghost use Rattle.matrix.specs.Matrix.{matrix};
 ghost use Rattle.decode_checks.specs.Passing.{Fits};
 ghost use Rattle.decode_valid.specs.Answers.{rooms};
 ghost use Rattle.read_valid.specs.Words.{ReadsAccepted};
@@ -25,7 +26,7 @@ pub fn read_valid(
     work: &mut [u32],
 ) -> Reading
     requires { ⌜ Valid (now form) × Fits (alphabetOf (now form)) (lettersOf (now form)) (matrix (now costs) width count) (rooms (record { path = now path; word = now word; work = now work })) × (alphabetOf (now form) ≡ length (now alphabet)) ⌝ }
-    ensures { λ r. ⌜ ReadsAccepted (now (alphabet .entry)) (now (form .entry)) (matrix (now (costs .entry)) width count) (record { path = now (path .entry); word = now (word .entry); work = now (work .entry) }) (record { path = now (path .exit); word = now (word .exit); work = now (work .exit) }) (reported r) ⌝ }
+    ensures { λ r. ⌜ ReadsAccepted (old alphabet) (old form) (matrix (old costs) width count) (record { path = old path; word = old word; work = old work }) (record { path = new path; word = new word; work = new work }) (reported r) ⌝ }
 {
     match decode_valid(form, costs, width, count, path, word, work) {
         Decoded::Refused(r) => Reading::Refused(r),

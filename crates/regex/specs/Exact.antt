@@ -11,9 +11,11 @@ use native.Mathlib.Omega.{arith}
 use lib.Dec.{eqb}
 use Rattle.lists.specs.Order.{or-neither}
 use Rattle.refusal.specs.declared.Refusal.the-variants as row
-use Rattle.regex.specs.Bytes.{bytes}
+use Rattle.text.specs.Bytes.{bytes}
 use Rattle.regex.specs.Tree.{Count, Set, Tree, set, group, times, join, either, Words}
-use Rattle.regex.specs.Text.{Reads, found, fault, then, first-of, one-of, next}
+use Rattle.regex.specs.Text.{Reads, found, fault, then}
+use Rattle.text.specs.Text.{one-of, next}
+use Rattle.lists.specs.Cases.{first-of}
 use Rattle.regex.specs.Sets.{labelled-set}
 use Rattle.regex.specs.Repetition.{repeats, sign, repetition}
 use Rattle.regex.specs.Read.{Mode, m-alternation, m-branch, m-piece, m-group, ends, grouped, step, rank, read, whole, expressionOf}

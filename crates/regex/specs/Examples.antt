@@ -14,10 +14,12 @@ use Rattle.refusal.specs.declared.Refusal.{Refusal}
 use Rattle.refusal.specs.declared.Refusal.the-variants.{MisplacedSign, Depth, Bracket, Foreign}
 use Rattle.refusal.specs.declared.Refusal.the-variants as row
 use Rattle.refusal.specs.Number.{numberOf}
-use Rattle.regex.specs.Bytes.{bytes}
+use Rattle.text.specs.Bytes.{bytes}
 use Rattle.regex.specs.Tree.{range, Count, between, onward, except, Tree, set, group, times, join, either}
 use Rattle.regex.specs.Letters.{labelsOf, letterCount}
-use Rattle.regex.specs.Text.{Reads, found, fault, then, first-of, split, enclosed, provided}
+use Rattle.regex.specs.Text.{Reads, found, fault, then, enclosed}
+use Rattle.text.specs.Text.{split}
+use Rattle.lists.specs.Cases.{first-of, provided}
 use Rattle.regex.specs.Sets.{closed, reserved, items, members, inside, bracket, alone, escaped, a-set, labelled-set}
 use Rattle.regex.specs.Repetition.{number, from-on, from-to, comma, counts, sign, repetition}
 use Rattle.regex.specs.Read.{grouped, step, go, read, whole, expressionOf}

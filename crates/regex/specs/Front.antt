@@ -13,10 +13,12 @@ use borrow.Author.Tests.{eqb-true, ne-eqb}
 use Rattle.lists.specs.Each.{Each}
 use Rattle.refusal.specs.declared.Refusal.{Refusal}
 use Rattle.refusal.specs.declared.Refusal.the-variants as row
-use Rattle.regex.specs.Bytes.{bytes}
+use Rattle.text.specs.Bytes.{bytes}
 use Rattle.regex.specs.Tree.{Count, Set, except, Tree, set, group, times, join, either}
 use Rattle.regex.specs.Letters.{labelsOf}
-use Rattle.regex.specs.Text.{found, fault, then, first-of, one-of, next, rest}
+use Rattle.regex.specs.Text.{found, fault, then}
+use Rattle.text.specs.Text.{one-of, next, rest}
+use Rattle.lists.specs.Cases.{first-of}
 use Rattle.regex.specs.Sets.{a-set, labelled-set}
 use Rattle.regex.specs.Repetition.{repeats, repetition}
 use Rattle.regex.specs.Read.{Mode, m-alternation, m-branch, m-piece, m-group, ends, rank}

@@ -1,4 +1,3 @@
-pub mod Bytes
 pub mod Tree
 pub mod Letters
 pub mod Text

@@ -13,7 +13,8 @@ use borrow.Author.Tests.{eqb-true}
 use Rattle.lists.specs.Order.{or-either}
 use Rattle.lists.specs.Each.{Each}
 use Rattle.refusal.specs.declared.Refusal.{Refusal}
-use Rattle.regex.specs.Text.{Reads, found, one-of, next, rest, in-front, split, enclosed}
+use Rattle.regex.specs.Text.{Reads, found, enclosed}
+use Rattle.text.specs.Text.{one-of, next, rest, in-front, split}
 use Rattle.regex.specs.Says.{Says, enclosed-says}
 
 -- a text that begins with a sign is that sign and the rest

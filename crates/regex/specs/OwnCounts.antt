@@ -14,8 +14,11 @@ use borrow.Author.Tests.{leb-true}
 use Rattle.lists.specs.Order.{and-left, and-right}
 use Rattle.refusal.specs.declared.Refusal.the-variants as row
 use Rattle.regex.specs.Tree.{Count, between, onward}
-use Rattle.regex.specs.Text.{Reads, found, then, first-of, next, rest, split, enclosed, provided}
-use Rattle.regex.specs.Repetition.{digits, value, number, from-on, from-to, comma, counts, sign, repetition}
+use Rattle.regex.specs.Text.{Reads, found, then, enclosed}
+use Rattle.text.specs.Text.{next, rest, split}
+use Rattle.lists.specs.Cases.{first-of, provided}
+use Rattle.regex.specs.Repetition.{number, from-on, from-to, comma, counts, sign, repetition}
+use Rattle.text.specs.Digits.{digits, value}
 use Rattle.regex.specs.Says.{Says, of-found, branch-says, first-says, then-says, says-map}
 use Rattle.regex.specs.Own.{next-is, Here, own-one, own-more, split-ends, enclosed-own, OwnAs}
 

@@ -12,11 +12,12 @@ use borrow.Author.Tests.{eqb-true, eqb-false}
 use Rattle.refusal.specs.declared.Refusal.the-variants as row
 use Rattle.regex.specs.Tree.{Range, Set, only, except}
 use Rattle.regex.specs.Letters.{labelsOf}
-use Rattle.regex.specs.Text.{found, fault, then, first-of, in-front, split, enclosed}
+use Rattle.regex.specs.Text.{found, fault, then, enclosed}
+use Rattle.text.specs.Text.{in-front, split}
+use Rattle.lists.specs.Cases.{first-of}
 use Rattle.regex.specs.Sets.{closed, members, inside, bracket, special, escaped, a-set, labelled-set}
 use Rattle.regex.specs.Says.{Says, branch-says, first-says, then-says, says-map}
-use Rattle.regex.specs.Own.{Here, own-one, own-more, own-map, own-same, Ends, ends-more, split-ends}
-use Rattle.regex.specs.Own.{enclosed-own, OwnAs, Alone}
+use Rattle.regex.specs.Own.{Here, own-one, own-more, own-map, own-same, Ends, ends-more, split-ends, enclosed-own, OwnAs, Alone}
 
 closed-ends : (s : List ℕ) → Ends closed s (closed s)
 unfolding closed split

@@ -11,10 +11,12 @@ use borrow.Author.Tests.{eqb-true}
 use Rattle.lists.specs.Each.{all, all-each}
 use Rattle.refusal.specs.declared.Refusal.{Refusal}
 use Rattle.refusal.specs.declared.Refusal.the-variants as row
-use Rattle.regex.specs.Bytes.{bytes}
+use Rattle.text.specs.Bytes.{bytes}
 use Rattle.regex.specs.Tree.{Range, Count, Set, only, except, Tree}
 use Rattle.regex.specs.Letters.{labelsOf}
-use Rattle.regex.specs.Text.{Reads, found, fault, then, first-of, one-of, next, rest, split, enclosed, provided}
+use Rattle.regex.specs.Text.{Reads, found, fault, then, enclosed}
+use Rattle.text.specs.Text.{one-of, next, rest, split}
+use Rattle.lists.specs.Cases.{first-of, provided}
 use Rattle.regex.specs.Sets.{closed, reserved, items, members, inside, bracket, special, escaped, a-set, labelled-set}
 use Rattle.regex.specs.Repetition.{repeats, number, from-to, counts, sign, repetition}
 use Rattle.regex.specs.Read.{Mode, m-alternation, m-branch, m-piece, m-group, ends, grouped, step, measure, read, whole, expressionOf}

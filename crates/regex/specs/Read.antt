@@ -6,9 +6,10 @@ use mathlib.Core.Bool.{Bool, true, false}
 use Prim.Native.Nat.{ℕ, zero, suc, _+_, _*_}
 use lib.ListN.{length}
 use Rattle.refusal.specs.declared.Refusal.the-variants as row
-use Rattle.regex.specs.Bytes.{bytes}
+use Rattle.text.specs.Bytes.{bytes}
 use Rattle.regex.specs.Tree.{Tree, set, group, times, join, either}
-use Rattle.regex.specs.Text.{Reads, found, fault, then, next, one-of, rest}
+use Rattle.regex.specs.Text.{Reads, found, fault, then}
+use Rattle.text.specs.Text.{next, one-of, rest}
 use Rattle.regex.specs.Sets.{labelled-set}
 use Rattle.regex.specs.Repetition.{repeats, repetition}
 

@@ -4,23 +4,17 @@
 use mathlib.Core.Option.{Option, some, none}
 use mathlib.Core.List.{List, [], _∷_}
 use mathlib.Core.Bool.{Bool, true, false, _&&_}
-use Prim.Native.Nat.{ℕ, _+_, _*_, _-_}
+use Prim.Native.Nat.{ℕ}
 use Prim.Native.Char.{code}
 use lib.ListN.{length}
 use lib.Dec.{eqb, leb}
 use Rattle.refusal.specs.declared.Refusal.the-variants as row
-use Rattle.regex.specs.Bytes.{bytes}
+use Rattle.text.specs.Bytes.{bytes}
 use Rattle.regex.specs.Tree.{Count, between, onward}
-use Rattle.regex.specs.Text.{Reads, found, fault, then, when, first-of, next, next-of, rest, split, enclosed, provided}
-
-abbrev pub digits : List ℕ → Bool
-digits [] = true
-digits (b ∷ s) = (leb (code "0") b && leb b (code "9")) && digits s
-
--- in decimal, behind the digits that make n
-abbrev pub value : ℕ → List ℕ → ℕ
-value n [] = n
-value n (b ∷ s) = value (10 * n + (b - code "0")) s
+use Rattle.regex.specs.Text.{Reads, found, fault, then, enclosed}
+use Rattle.text.specs.Text.{next, next-of, rest, split}
+use Rattle.lists.specs.Cases.{when, first-of, provided}
+use Rattle.text.specs.Digits.{digits, value}
 
 -- 1 to 3 digits, at most 255
 unfoldable pub number : List ℕ → Option ℕ

@@ -7,7 +7,8 @@ use mathlib.Core.Bool.{Bool, true, false}
 use Prim.Native.Nat.{ℕ}
 use native.Mathlib.Omega.{arith}
 use Rattle.refusal.specs.declared.Refusal.{Refusal}
-use Rattle.regex.specs.Text.{Reads, found, fault, then, Case, when, first-of, enclosed}
+use Rattle.regex.specs.Text.{Reads, found, fault, then, enclosed}
+use Rattle.lists.specs.Cases.{Case, when, first-of}
 
 abbrev pub Says : {X : Type 0} → (X → List ℕ → Type 0) → (Refusal → List ℕ → Type 0) → Reads X → Type 0
 Says P Q (found a s) = P a s

@@ -7,10 +7,12 @@ use Prim.Native.Nat.{ℕ}
 use Prim.Native.Char.{code}
 use lib.Dec.{eqb, leb}
 use Rattle.refusal.specs.declared.Refusal.the-variants as row
-use Rattle.regex.specs.Bytes.{bytes}
+use Rattle.text.specs.Bytes.{bytes}
 use Rattle.regex.specs.Tree.{Range, range, Set, only, except}
 use Rattle.regex.specs.Letters.{labelsOf}
-use Rattle.regex.specs.Text.{Reads, found, fault, then, when, first-of, one-of, next, next-of, rest, in-front, split, enclosed, provided}
+use Rattle.regex.specs.Text.{Reads, found, fault, then, enclosed}
+use Rattle.text.specs.Text.{one-of, next, next-of, rest, in-front, split}
+use Rattle.lists.specs.Cases.{when, first-of, provided}
 
 -- "Brackets: after `[`, an optional `^` complements within the alphabet. Then items up to a closing `]`; a `]` as first item is
 -- ordinary." The inside, and the text behind the closing `]`:

@@ -9,10 +9,12 @@ use Prim.Native.Char.{code}
 use Rattle.lists.specs.Among.{keep}
 use Rattle.lists.specs.Ascending.{numbers}
 use Rattle.refusal.specs.declared.Refusal.the-variants.{MisplacedSign, Bracket}
-use Rattle.regex.specs.Bytes.{bytes}
+use Rattle.text.specs.Bytes.{bytes}
 use Rattle.regex.specs.Tree.{range, only, except, Tree, set}
 use Rattle.regex.specs.Letters.{labelsOf}
-use Rattle.regex.specs.Text.{Reads, found, fault, then, first-of, one-of, split, enclosed}
+use Rattle.regex.specs.Text.{Reads, found, fault, then, enclosed}
+use Rattle.text.specs.Text.{one-of, split}
+use Rattle.lists.specs.Cases.{first-of}
 use Rattle.regex.specs.Sets.{closed, inside, bracket, escaped, a-set, labelled-set}
 use Rattle.regex.specs.Read.{grouped, step, go, read, whole, expressionOf}
 use Rattle.regex.specs.Places.{misplaced}

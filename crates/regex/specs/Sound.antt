@@ -6,15 +6,15 @@ use mathlib.Core.Bool.{true}
 use Prim.Native.Nat.{ℕ, zero, suc}
 use native.Mathlib.Omega.{arith}
 use Rattle.regex.specs.Tree.{Tree}
-use Rattle.regex.specs.Text.{Reads, next, rest}
+use Rattle.regex.specs.Text.{Reads}
+use Rattle.text.specs.Text.{next, rest}
 use Rattle.regex.specs.Sets.{labelled-set}
 use Rattle.regex.specs.Repetition.{repeats, repetition}
 use Rattle.regex.specs.Read.{Mode, m-alternation, m-branch, m-piece, m-group, ends, grouped, step, go, measure, read}
 use Rattle.regex.specs.Says.{Says, branch-says, then-says}
 use Rattle.regex.specs.OwnSets.{labelled-set-says}
 use Rattle.regex.specs.OwnCounts.{repetition-says}
-use Rattle.regex.specs.Front.{Front, Stop, looser, stop-looser, stop-here, stop-behind, either-front, either-stop, join-front, join-stop}
-use Rattle.regex.specs.Front.{times-front, set-front, group-front, group-stop}
+use Rattle.regex.specs.Front.{Front, Stop, looser, stop-looser, stop-here, stop-behind, either-front, either-stop, join-front, join-stop, times-front, set-front, group-front, group-stop}
 
 -- What a step says, where the steps that it asks say so.
 module _ (A : List ℕ) where

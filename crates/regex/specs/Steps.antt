@@ -8,7 +8,8 @@ use Prim.Native.Char.{Char, code}
 use native.Mathlib.Omega.{arith}
 use lib.ListN.{length, length-append}
 use Rattle.regex.specs.Tree.{Tree}
-use Rattle.regex.specs.Text.{Reads, found, next, rest}
+use Rattle.regex.specs.Text.{Reads, found}
+use Rattle.text.specs.Text.{next, rest}
 use Rattle.regex.specs.Read.{Mode, m-alternation, m-branch, m-piece, m-group, ends, grouped, step, go, measure, read}
 use Rattle.regex.specs.Says.{of-found, then-same, branch-same}
 use Rattle.regex.specs.Own.{next-is}

@@ -15,7 +15,8 @@ use Rattle.lists.specs.Each.{drop-here}
 use Rattle.lists.specs.Order.{lt-or-le, not-both}
 use Rattle.refusal.specs.declared.Refusal.the-variants as row
 use Rattle.regex.specs.Tree.{Range, Set, only, except, member, among}
-use Rattle.regex.specs.Text.{Reads, found, fault, then, rest, in-front, split, enclosed}
+use Rattle.regex.specs.Text.{Reads, found, fault, then, enclosed}
+use Rattle.text.specs.Text.{rest, in-front, split}
 use Rattle.regex.specs.Sets.{closed, members, inside, bracket}
 use Rattle.text.specs.Place.{until, split-found, split-missing, byte-within, next-at, rest-at, place-drop}
 use Rattle.regex_items.specs.Items.{is-some, listed}

@@ -8,6 +8,7 @@ ghost use mathlib.Core.Path.{_≡_};
 ghost use mathlib.Core.Bool.{true};
 ghost use Prim.Native.Nat.{_<_, _≤_};
 ghost use lib.ListN.{length};
+ghost use Rattle.lists.specs.Memory.{old};
 ghost use Rattle.regex.specs.Tree.{member as memberOf};
 ghost use Rattle.regex_bracket.specs.Answers.{is-found, endOf, setOf};
 ghost use Rattle.regex_bracket.specs.Brackets.{opened, closing as closingOf, bracketAt};
@@ -21,7 +22,7 @@ pub enum End {
 // Where the first item of a bracket stands: `[` or `[^` is in front of it.
 fn opening(text: &[u8], at: usize) -> usize
     requires { ⌜ at < length (now text) ⌝ }
-    ensures { λ r. ⌜ r ≡ opened (now (text .entry)) at ⌝ }
+    ensures { λ r. ⌜ r ≡ opened (old text) at ⌝ }
 {
     if peek(text, at + 1) == b'^' {
         return at + 2;
@@ -32,7 +33,7 @@ fn opening(text: &[u8], at: usize) -> usize
 // Where the bracket is closed; past the end if it is not.
 fn closing(text: &[u8], first: usize) -> usize
     requires { ⌜ first ≤ length (now text) ⌝ }
-    ensures { λ r. ⌜ r ≡ closingOf (now (text .entry)) first ⌝ }
+    ensures { λ r. ⌜ r ≡ closingOf (old text) first ⌝ }
 {
     if peek(text, first) == b']' {
         return find(text, first + 1, b']');
@@ -43,7 +44,7 @@ fn closing(text: &[u8], first: usize) -> usize
 // Where the bracket ends that begins here.
 pub fn bracket_end(text: &[u8], at: usize) -> End
     requires { ⌜ at < length (now text) ⌝ }
-    ensures { λ r. ⌜ r ≡ endOf (now (text .entry)) (bracketAt (now (text .entry)) at) ⌝ }
+    ensures { λ r. ⌜ r ≡ endOf (old text) (bracketAt (old text) at) ⌝ }
 {
     let first = opening(text, at);
     let e = closing(text, first);
@@ -59,7 +60,7 @@ pub fn bracket_end(text: &[u8], at: usize) -> End
 // Is the byte a member of the bracket that begins here?
 pub fn bracket_has(text: &[u8], at: usize, b: u8) -> bool
     requires { ⌜ (at < length (now text)) × (is-found (bracketAt (now text) at) ≡ true) ⌝ }
-    ensures { λ r. ⌜ r ≡ memberOf (setOf (bracketAt (now (text .entry)) at)) b ⌝ }
+    ensures { λ r. ⌜ r ≡ memberOf (setOf (bracketAt (old text) at)) b ⌝ }
 {
     let first = opening(text, at);
     let e = closing(text, first);

@@ -10,9 +10,9 @@ use lib.Dec.{eqb}
 use borrow.Author.Tests.{eq-eqb, ne-eqb}
 use Rattle.lists.specs.Each.{drop-here, drop-all}
 use Rattle.refusal.specs.declared.Refusal.the-variants as row
-use Rattle.regex.specs.Bytes.{bytes}
+use Rattle.text.specs.Bytes.{bytes}
 use Rattle.regex.specs.Tree.{onward}
-use Rattle.regex.specs.Text.{one-of}
+use Rattle.text.specs.Text.{one-of}
 use Rattle.regex.specs.Letters.{copiesOf}
 use Rattle.regex.specs.Sense.{few}
 use Rattle.regex.specs.Read.{ends}

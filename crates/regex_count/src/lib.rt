@@ -3,12 +3,13 @@
 use refusal::Refusal;
 use regex_repetition::Repeats;
 use regex_set::Part;
-use text::capped_at_128;
+use regex_set::capped_at_128;
 use text::one_of;
 use text::peek;
 ghost use mathlib.Core.Path.{_≡_};
 ghost use Prim.Native.Nat.{_+_, _*_};
 ghost use lib.ListN.{drop};
+ghost use Rattle.lists.specs.Memory.{old};
 ghost use Rattle.regex.specs.Tree.{onward};
 ghost use Rattle.regex.specs.Letters.{copiesOf};
 ghost use Rattle.regex.specs.Sense.{few};
@@ -78,7 +79,7 @@ pub fn repeated(n: usize, r: Repeats) -> Part
 
 // A group: its content, and the `)` behind it.
 pub fn closed(text: &[u8], content: Part) -> Part
-    ensures { λ r. ⌜ r ≡ closedOf (now (text .entry)) content ⌝ }
+    ensures { λ r. ⌜ r ≡ closedOf (old text) content ⌝ }
 {
     match content {
         Part::Refused(x) => Part::Refused(x),
@@ -93,7 +94,7 @@ pub fn closed(text: &[u8], content: Part) -> Part
 
 // Does a branch end here?
 pub fn is_end(text: &[u8], at: usize) -> bool
-    ensures { λ r. ⌜ r ≡ ends (drop at (now (text .entry))) ⌝ }
+    ensures { λ r. ⌜ r ≡ ends (drop at (old text)) ⌝ }
 {
     if text.len() <= at {
         return true;
@@ -103,7 +104,7 @@ pub fn is_end(text: &[u8], at: usize) -> bool
 
 // Does a repetition stand here?
 pub fn is_repeated(text: &[u8], at: usize) -> bool
-    ensures { λ r. ⌜ r ≡ repeatsHere (drop at (now (text .entry))) ⌝ }
+    ensures { λ r. ⌜ r ≡ repeatsHere (drop at (old text)) ⌝ }
 {
     one_of(b"*+?{", peek(text, at))
 }

@@ -14,9 +14,10 @@ use lib.Seq.{drop-drop, getD-drop}
 use lib.Dec.{eqb, leb}
 use borrow.Author.Tests.{le-leb, lt-leb, eq-eqb, ne-eqb}
 use Rattle.lists.specs.Each.{drop-here, drop-all}
-use Rattle.regex.specs.Bytes.{bytes}
+use Rattle.text.specs.Bytes.{bytes}
 use Rattle.regex.specs.Tree.{Range, range, within, among}
-use Rattle.regex.specs.Text.{one-of, next-of, provided}
+use Rattle.text.specs.Text.{one-of, next-of}
+use Rattle.lists.specs.Cases.{provided}
 use Rattle.regex.specs.Sets.{with, begins, items, reserved, members}
 use Rattle.text.specs.Place.{next-of-at}
 

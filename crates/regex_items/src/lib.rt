@@ -7,6 +7,7 @@ ghost use mathlib.Core.Bool.{true};
 ghost use Prim.Native.Nat.{_<_};
 ghost use lib.ListN.{length, getD, drop};
 ghost use lib.Dec.{eqb};
+ghost use Rattle.lists.specs.Memory.{old};
 ghost use Rattle.regex.specs.Tree.{among as amongOf, range, within};
 ghost use Rattle.regex.specs.Sets.{begins, reserved, members};
 ghost use Rattle.regex_items.specs.Items.{opens, fits, ranges, upto as uptoOf, width as widthOf, left, is-some, listed};
@@ -14,7 +15,7 @@ ghost use Rattle.regex_items.specs.Items.{opens, fits, ranges, upto as u
 // Does `[.`, `[=` or `[:` stand here?
 fn opens_class(inside: &[u8], i: usize) -> bool
     requires { ⌜ i < length (now inside) ⌝ }
-    ensures { λ r. ⌜ r ≡ opens (drop i (now (inside .entry))) ⌝ }
+    ensures { λ r. ⌜ r ≡ opens (drop i (old inside)) ⌝ }
 {
     if inside[i] != b'[' {
         return false;
@@ -23,7 +24,7 @@ fn opens_class(inside: &[u8], i: usize) -> bool
 }
 
 fn is_reserved(inside: &[u8]) -> bool
-    ensures { λ r. ⌜ r ≡ reserved (now (inside .entry)) ⌝ }
+    ensures { λ r. ⌜ r ≡ reserved (old inside) ⌝ }
 {
     let mut i = 0;
     while i < inside.len() {
@@ -38,7 +39,7 @@ fn is_reserved(inside: &[u8]) -> bool
 // Is the item here a range?
 fn is_range(inside: &[u8], i: usize) -> bool
     requires { ⌜ i < length (now inside) ⌝ }
-    ensures { λ r. ⌜ r ≡ ranges (drop i (now (inside .entry))) ⌝ }
+    ensures { λ r. ⌜ r ≡ ranges (drop i (old inside)) ⌝ }
 {
     if inside.len() - i < 3 {
         return false;
@@ -49,7 +50,7 @@ fn is_range(inside: &[u8], i: usize) -> bool
 // The last byte of the item here.
 fn upto(inside: &[u8], i: usize) -> u8
     requires { ⌜ i < length (now inside) ⌝ }
-    ensures { λ r. ⌜ r ≡ uptoOf (drop i (now (inside .entry))) ⌝ }
+    ensures { λ r. ⌜ r ≡ uptoOf (drop i (old inside)) ⌝ }
 {
     if is_range(inside, i) {
         return peek(inside, i + 2);
@@ -60,7 +61,7 @@ fn upto(inside: &[u8], i: usize) -> u8
 // How many bytes the item here takes.
 fn width(inside: &[u8], i: usize) -> usize
     requires { ⌜ i < length (now inside) ⌝ }
-    ensures { λ r. ⌜ r ≡ widthOf (drop i (now (inside .entry))) ⌝ }
+    ensures { λ r. ⌜ r ≡ widthOf (drop i (old inside)) ⌝ }
 {
     if is_range(inside, i) {
         return 3;
@@ -81,7 +82,7 @@ fn may_begin(first: bool, c: u8) -> bool
 // May the item stand here?
 fn item_fits(inside: &[u8], i: usize) -> bool
     requires { ⌜ i < length (now inside) ⌝ }
-    ensures { λ r. ⌜ r ≡ fits (eqb i 0) (drop i (now (inside .entry))) ⌝ }
+    ensures { λ r. ⌜ r ≡ fits (eqb i 0) (drop i (old inside)) ⌝ }
 {
     if inside.len() - i <= 1 {
         return true;
@@ -95,7 +96,7 @@ fn item_fits(inside: &[u8], i: usize) -> bool
 
 // Are all items well formed?
 fn are_items(inside: &[u8]) -> bool
-    ensures { λ r. ⌜ r ≡ is-some (left (now (inside .entry)) 0) ⌝ }
+    ensures { λ r. ⌜ r ≡ is-some (left (old inside) 0) ⌝ }
 {
     let mut i = 0;
     while i < inside.len() {
@@ -109,7 +110,7 @@ fn are_items(inside: &[u8]) -> bool
 
 // Is the inside of a bracket well formed?
 pub fn are_members(inside: &[u8]) -> bool
-    ensures { λ r. ⌜ r ≡ is-some (members (now (inside .entry))) ⌝ }
+    ensures { λ r. ⌜ r ≡ is-some (members (old inside)) ⌝ }
 {
     if is_reserved(inside) {
         return false;
@@ -120,7 +121,7 @@ pub fn are_members(inside: &[u8]) -> bool
 // Is the byte in the range of the item here?
 fn item_has(inside: &[u8], i: usize, b: u8) -> bool
     requires { ⌜ i < length (now inside) ⌝ }
-    ensures { λ r. ⌜ r ≡ within (range (getD (now (inside .entry)) i 0) (uptoOf (drop i (now (inside .entry))))) b ⌝ }
+    ensures { λ r. ⌜ r ≡ within (range (getD (old inside) i 0) (uptoOf (drop i (old inside)))) b ⌝ }
 {
     if b < inside[i] {
         return false;
@@ -131,7 +132,7 @@ fn item_has(inside: &[u8], i: usize, b: u8) -> bool
 // Is the byte in the range of some item?
 pub fn has(inside: &[u8], b: u8) -> bool
     requires { ⌜ is-some (members (now inside)) ≡ true ⌝ }
-    ensures { λ r. ⌜ r ≡ amongOf (listed (members (now (inside .entry)))) b ⌝ }
+    ensures { λ r. ⌜ r ≡ amongOf (listed (members (old inside))) b ⌝ }
 {
     let mut i = 0;
     while i < inside.len() {

@@ -12,7 +12,8 @@ use borrow.Author.Tests.{eqb-true, eq-eqb, ne-eqb}
 use Rattle.refusal.specs.declared.Refusal.{Refusal}
 use Rattle.refusal.specs.declared.Refusal.the-variants as row
 use Rattle.regex.specs.Tree.{Count, between, onward, Tree, group, times, join, either}
-use Rattle.regex.specs.Text.{Reads, found, fault, then, next, rest}
+use Rattle.regex.specs.Text.{Reads, found, fault, then}
+use Rattle.text.specs.Text.{next, rest}
 use Rattle.regex.specs.Letters.{copiesOf, letterCount}
 use Rattle.regex.specs.Sense.{few, few-add}
 use Rattle.regex.specs.Repetition.{repeats, repetition}

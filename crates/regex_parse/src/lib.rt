@@ -13,6 +13,7 @@ use regex_set::set;
 use text::peek;
 ghost use mathlib.Core.Path.{_≡_};
 ghost use lib.ListN.{drop};
+ghost use Rattle.lists.specs.Memory.{old};
 ghost use Rattle.regex.specs.Read.{read, m-alternation, m-branch, m-piece, m-group};
 ghost use Rattle.regex_set.specs.Answers.{partOf};
 ghost use Rattle.regex_parse.specs.Parsed.{parsed};
@@ -25,7 +26,7 @@ pub enum Parsed {
 
 // Branches with `|` between them.
 pub fn alternation(alphabet: &[u8], text: &[u8], at: usize, room: usize) -> Part
-    ensures { λ r. ⌜ r ≡ partOf (now (alphabet .entry)) (now (text .entry)) (read (now (alphabet .entry)) m-alternation room (drop at (now (text .entry)))) ⌝ }
+    ensures { λ r. ⌜ r ≡ partOf (old alphabet) (old text) (read (old alphabet) m-alternation room (drop at (old text))) ⌝ }
 {
     match branch(alphabet, text, at, room) {
         Part::Refused(x) => Part::Refused(x),
@@ -40,7 +41,7 @@ pub fn alternation(alphabet: &[u8], text: &[u8], at: usize, room: usize) -> Part
 
 // Pieces joined.
 pub fn branch(alphabet: &[u8], text: &[u8], at: usize, room: usize) -> Part
-    ensures { λ r. ⌜ r ≡ partOf (now (alphabet .entry)) (now (text .entry)) (read (now (alphabet .entry)) m-branch room (drop at (now (text .entry)))) ⌝ }
+    ensures { λ r. ⌜ r ≡ partOf (old alphabet) (old text) (read (old alphabet) m-branch room (drop at (old text))) ⌝ }
 {
     match piece(alphabet, text, at, room) {
         Part::Refused(x) => Part::Refused(x),
@@ -55,7 +56,7 @@ pub fn branch(alphabet: &[u8], text: &[u8], at: usize, room: usize) -> Part
 
 // A group or a set, repeated or not.
 pub fn piece(alphabet: &[u8], text: &[u8], at: usize, room: usize) -> Part
-    ensures { λ r. ⌜ r ≡ partOf (now (alphabet .entry)) (now (text .entry)) (read (now (alphabet .entry)) m-piece room (drop at (now (text .entry)))) ⌝ }
+    ensures { λ r. ⌜ r ≡ partOf (old alphabet) (old text) (read (old alphabet) m-piece room (drop at (old text))) ⌝ }
 {
     match group(alphabet, text, at, room) {
         Part::Refused(x) => Part::Refused(x),
@@ -70,7 +71,7 @@ pub fn piece(alphabet: &[u8], text: &[u8], at: usize, room: usize) -> Part
 
 // A set, or an alternation in parentheses, where `room` more groups may be opened.
 pub fn group(alphabet: &[u8], text: &[u8], at: usize, room: usize) -> Part
-    ensures { λ r. ⌜ r ≡ partOf (now (alphabet .entry)) (now (text .entry)) (read (now (alphabet .entry)) m-group room (drop at (now (text .entry)))) ⌝ }
+    ensures { λ r. ⌜ r ≡ partOf (old alphabet) (old text) (read (old alphabet) m-group room (drop at (old text))) ⌝ }
 {
     if peek(text, at) != b'(' {
         return set(alphabet, text, at);
@@ -83,7 +84,7 @@ pub fn group(alphabet: &[u8], text: &[u8], at: usize, room: usize) -> Part
 
 // The whole text, with at most 16 groups open together.
 pub fn expression(alphabet: &[u8], text: &[u8]) -> Parsed
-    ensures { λ r. ⌜ r ≡ parsed (now (alphabet .entry)) (now (text .entry)) ⌝ }
+    ensures { λ r. ⌜ r ≡ parsed (old alphabet) (old text) ⌝ }
 {
     match alternation(alphabet, text, 0, 16) {
         Part::Refused(x) => Parsed::Refused(x),

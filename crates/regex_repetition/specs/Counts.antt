@@ -14,8 +14,10 @@ use Rattle.lists.specs.Each.{drop-here, drop-all}
 use Rattle.lists.specs.Order.{and-right, and-both}
 use Rattle.refusal.specs.declared.Refusal.the-variants as row
 use Rattle.regex.specs.Tree.{Count, between}
-use Rattle.regex.specs.Text.{split, provided}
-use Rattle.regex.specs.Repetition.{digits, value, number, from-on, from-to, comma, counts}
+use Rattle.text.specs.Text.{split}
+use Rattle.lists.specs.Cases.{provided}
+use Rattle.regex.specs.Repetition.{number, from-on, from-to, comma, counts}
+use Rattle.text.specs.Digits.{digits, value}
 use Rattle.text.specs.Place.{until, split-found, split-missing}
 use Rattle.regex_repetition.specs.declared.Repeats.{Repeats}
 use Rattle.regex_repetition.specs.declared.Repeats.the-variants as repeats

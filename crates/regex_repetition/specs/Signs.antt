@@ -16,14 +16,17 @@ use Rattle.lists.specs.Order.{lt-or-le}
 use Rattle.refusal.specs.declared.Refusal.{Refusal}
 use Rattle.refusal.specs.declared.Refusal.the-variants as row
 use Rattle.regex.specs.Tree.{Count, between, onward}
-use Rattle.regex.specs.Text.{Reads, found, fault, then, next, rest, split, first-of, enclosed}
+use Rattle.regex.specs.Text.{Reads, found, fault, then, enclosed}
+use Rattle.text.specs.Text.{next, rest, split}
+use Rattle.lists.specs.Cases.{first-of}
 use Rattle.regex.specs.Repetition.{counts, sign, repetition}
 use Rattle.regex.specs.Says.{Says, first-says, enclosed-says}
-use Rattle.text.specs.Place.{until, split-found, split-missing, byte-within, next-at, rest-at, place, place-drop, fourth}
+use Rattle.text.specs.Place.{until, split-found, split-missing, byte-within, next-at, rest-at, place, place-drop}
 use Rattle.regex_repetition.specs.declared.Repeats.{Repeats}
 use Rattle.regex_repetition.specs.declared.Repeats.the-variants as repeats
 use Rattle.regex_repetition.specs.Answers.{times, repeatsOf}
 use Rattle.regex_repetition.specs.Counts.{counted}
+use Rattle.lists.specs.CasesLaws.{fourth}
 
 -- The braces at a place, closed at e.
 unfoldable pub braced : List ℕ → ℕ → Repeats

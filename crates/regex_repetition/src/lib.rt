@@ -5,6 +5,7 @@ use text::peek;
 ghost use mathlib.Core.Path.{_≡_};
 ghost use Prim.Native.Nat.{_+_, _<_};
 ghost use lib.ListN.{length, drop};
+ghost use Rattle.lists.specs.Memory.{old};
 ghost use Rattle.regex.specs.Repetition.{number as numberOf, counts as countsOf, sign as signOf, repetition as repetitionOf};
 ghost use Rattle.regex_repetition.specs.Answers.{repeatsOf};
 ghost use Rattle.regex_repetition.specs.Counts.{number-or, ranged, counted};
@@ -19,7 +20,7 @@ pub enum Repeats {
 
 // The number that these digits make, or 256 for none.
 fn number(digits: &[u8]) -> usize
-    ensures { λ r. ⌜ r ≡ number-or (numberOf (now (digits .entry))) ⌝ }
+    ensures { λ r. ⌜ r ≡ number-or (numberOf (old digits)) ⌝ }
 {
     if digits.len() < 1 {
         return 256;
@@ -64,7 +65,7 @@ fn range(n: usize, m: usize, end: usize) -> Repeats
 
 // What stands inside the braces, of which `end` is the place behind.
 fn counts(inside: &[u8], end: usize) -> Repeats
-    ensures { λ r. ⌜ r ≡ counted (countsOf (now (inside .entry))) end ⌝ }
+    ensures { λ r. ⌜ r ≡ counted (countsOf (old inside)) end ⌝ }
 {
     let comma = find(inside, 0, b',');
     if inside.len() <= comma {
@@ -86,7 +87,7 @@ fn counts(inside: &[u8], end: usize) -> Repeats
 // The repetition in braces that begins here.
 fn braces(text: &[u8], at: usize) -> Repeats
     requires { ⌜ at < length (now text) ⌝ }
-    ensures { λ r. ⌜ r ≡ braced (now (text .entry)) at ⌝ }
+    ensures { λ r. ⌜ r ≡ braced (old text) at ⌝ }
 {
     let first = at + 1;
     let e = find(text, first, b'}');
@@ -98,7 +99,7 @@ fn braces(text: &[u8], at: usize) -> Repeats
 
 // The repetition that begins here, without the modifier.
 fn sign(text: &[u8], at: usize) -> Repeats
-    ensures { λ r. ⌜ r ≡ repeatsOf (now (text .entry)) (signOf (drop at (now (text .entry)))) ⌝ }
+    ensures { λ r. ⌜ r ≡ repeatsOf (old text) (signOf (drop at (old text))) ⌝ }
 {
     let b = peek(text, at);
     if b == b'*' {
@@ -118,7 +119,7 @@ fn sign(text: &[u8], at: usize) -> Repeats
 
 // The place behind one `?`, if one stands here.
 fn behind_modifier(text: &[u8], at: usize) -> usize
-    ensures { λ r. ⌜ r ≡ modified (now (text .entry)) at ⌝ }
+    ensures { λ r. ⌜ r ≡ modified (old text) at ⌝ }
 {
     if peek(text, at) == b'?' {
         return at + 1;
@@ -128,7 +129,7 @@ fn behind_modifier(text: &[u8], at: usize) -> usize
 
 // The repetition that begins here: one `?` may follow it.
 pub fn repetition(text: &[u8], at: usize) -> Repeats
-    ensures { λ r. ⌜ r ≡ repeatsOf (now (text .entry)) (repetitionOf (drop at (now (text .entry)))) ⌝ }
+    ensures { λ r. ⌜ r ≡ repeatsOf (old text) (repetitionOf (drop at (old text))) ⌝ }
 {
     match sign(text, at) {
         Repeats::Refused(x) => Repeats::Refused(x),

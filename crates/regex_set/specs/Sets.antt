@@ -15,11 +15,13 @@ use Rattle.lists.specs.Order.{lt-or-le, not-both, same-truth, and-left, and-rig
 use Rattle.refusal.specs.declared.Refusal.{Refusal}
 use Rattle.refusal.specs.declared.Refusal.the-variants as row
 use Rattle.regex.specs.Tree.{Set, except, Tree, set, member}
-use Rattle.regex.specs.Text.{Reads, found, fault, then, first-of}
+use Rattle.regex.specs.Text.{Reads, found, fault, then}
+use Rattle.lists.specs.Cases.{first-of}
 use Rattle.regex.specs.Letters.{labelsOf, letterCount}
 use Rattle.regex.specs.Sense.{few}
 use Rattle.regex.specs.Sets.{special, alone, escaped, bracket, a-set, labelled-set}
-use Rattle.text.specs.Place.{place, place-drop, byte-within, fourth}
+use Rattle.text.specs.Place.{place, place-drop, byte-within}
+use Rattle.lists.specs.CasesLaws.{fourth}
 use Rattle.regex_bracket.specs.declared.End.the-variants as end
 use Rattle.regex_bracket.specs.Answers.{endOf, is-found, setOf}
 use Rattle.regex_bracket.specs.Brackets.{bracketAt}
@@ -168,10 +170,6 @@ module _ (text : List ℕ) (at : ℕ) (h : SetAt text at) (x : ℕ) where
 -- Its labels: one more of the alphabet.
 pub labels-none : (A : List ℕ) (c : Set) → 0 + labelsOf A c ≡ labelsOf A c
 labels-none A c = omega arith
-
-pub at-most-one : (n : ℕ) (t : Bool) → n ≡ cond t 1 0 → n ≤ 1
-at-most-one n true e = omega arith
-at-most-one n false e = omega arith
 
 module _ (A : List ℕ) (c : Set) (i n : ℕ) where
   pub labels-more :

@@ -1,18 +1,19 @@
 // What stands at a place of an expression's text (document 01, "Expression text"), where it is a set: an ordinary character, `.` or a
 // bracket. Each answer is that of crate `expression`'s definition on the text from that place on. The text may have any bytes.
+use numbers::one_if;
 use refusal::Refusal;
 use regex_bracket::End;
 use regex_bracket::bracket_end;
 use regex_bracket::bracket_has;
-use text::capped_at_128;
-use text::one_if;
 use text::one_of;
 use text::peek;
 ghost use mathlib.Core.Path.{_≡_};
 ghost use Prim.Native.Nat.{_+_, _<_};
 ghost use lib.ListN.{length, drop};
+ghost use Rattle.lists.specs.Memory.{old};
 ghost use Rattle.regex.specs.Tree.{member as memberOf};
 ghost use Rattle.regex.specs.Letters.{labelsOf};
+ghost use Rattle.regex.specs.Sense.{few};
 ghost use Rattle.regex.specs.Sets.{special, escaped, a-set};
 ghost use Rattle.regex_bracket.specs.Answers.{endOf};
 ghost use Rattle.regex_set.specs.Answers.{partOf, set-tree, SetAt, setAt};
@@ -33,7 +34,7 @@ fn is_special(b: u8) -> bool
 // Where the escaped character ends whose `\` stands here.
 fn escape_end(text: &[u8], at: usize) -> End
     requires { ⌜ at < length (now text) ⌝ }
-    ensures { λ r. ⌜ r ≡ endOf (now (text .entry)) (escaped (drop at (now (text .entry))) (drop (at + 1) (now (text .entry)))) ⌝ }
+    ensures { λ r. ⌜ r ≡ endOf (old text) (escaped (drop at (old text)) (drop (at + 1) (old text))) ⌝ }
 {
     if is_special(peek(text, at + 1)) {
         return End::At(at + 2);
@@ -43,7 +44,7 @@ fn escape_end(text: &[u8], at: usize) -> End
 
 // Where the set ends that begins here, or why there is none.
 pub fn set_end(text: &[u8], at: usize) -> End
-    ensures { λ r. ⌜ r ≡ endOf (now (text .entry)) (a-set (drop at (now (text .entry)))) ⌝ }
+    ensures { λ r. ⌜ r ≡ endOf (old text) (a-set (drop at (old text))) ⌝ }
 {
     if text.len() <= at {
         return End::Refused(Refusal::MisplacedSign);
@@ -67,7 +68,7 @@ pub fn set_end(text: &[u8], at: usize) -> End
 // Is the byte a member of the set that begins here?
 pub fn member(text: &[u8], at: usize, b: u8) -> bool
     requires { ⌜ SetAt (now text) at ⌝ }
-    ensures { λ r. ⌜ r ≡ memberOf (setAt (now (text .entry)) at) b ⌝ }
+    ensures { λ r. ⌜ r ≡ memberOf (setAt (old text) at) b ⌝ }
 {
     let c = peek(text, at);
     if c == b'\\' {
@@ -85,7 +86,7 @@ pub fn member(text: &[u8], at: usize, b: u8) -> bool
 // How many labels of the alphabet the set has that begins here.
 fn count_labels(alphabet: &[u8], text: &[u8], at: usize) -> usize
     requires { ⌜ SetAt (now text) at ⌝ }
-    ensures { λ r. ⌜ r ≡ labelsOf (now (alphabet .entry)) (setAt (now (text .entry)) at) ⌝ }
+    ensures { λ r. ⌜ r ≡ labelsOf (old alphabet) (setAt (old text) at) ⌝ }
 {
     let mut n = 0;
     let mut i = 0;
@@ -96,9 +97,16 @@ fn count_labels(alphabet: &[u8], text: &[u8], at: usize) -> usize
     n
 }
 
+// n, or 128 where it is more.
+pub fn capped_at_128(n: usize) -> usize
+    ensures { λ r. ⌜ r ≡ few n ⌝ }
+{
+    if n < 128 { n } else { 128 }
+}
+
 // The set that begins here, as a part of the text; 8 if no label of the alphabet is in it.
 pub fn set(alphabet: &[u8], text: &[u8], at: usize) -> Part
-    ensures { λ r. ⌜ r ≡ partOf (now (alphabet .entry)) (now (text .entry)) (set-tree (now (alphabet .entry)) (drop at (now (text .entry)))) ⌝ }
+    ensures { λ r. ⌜ r ≡ partOf (old alphabet) (old text) (set-tree (old alphabet) (drop at (old text))) ⌝ }
 {
     match set_end(text, at) {
         End::Refused(x) => Part::Refused(x),

@@ -6,7 +6,7 @@ use mathlib.Core.List.{List, []}
 use Prim.Native.Nat.{ℕ}
 use lib.ListN.{take}
 use Rattle.io.specs.Counts.{Counts}
-use Rattle.regex.specs.Bytes.{bytes}
+use Rattle.text.specs.Bytes.{bytes}
 use Rattle.sheet_answer.specs.Answer.{Prints, prints-unique}
 use Rattle.sheet_answer.specs.Document.{document-prints}
 use Rattle.sheet.specs.declared.Input.{Input}

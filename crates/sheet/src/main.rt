@@ -6,6 +6,7 @@ use libc::STDIN_FILENO;
 use libc::STDOUT_FILENO;
 ghost use Prim.Native.Nat.{_<_, _≤_};
 ghost use lib.ListN.{length};
+ghost use Rattle.lists.specs.Memory.{old, new};
 ghost use Rattle.sheet_format.specs.Sheet.{most-bytes};
 ghost use Rattle.sheet_read.specs.Answer.{longest};
 ghost use Rattle.sheet_read.specs.Promise.{Answers};
@@ -20,7 +21,7 @@ enum Input {
 // Reads to the end of the input. There is room for a byte more than a sheet may have, so that the byte too many is seen.
 fn read_input(fd: i32, buffer: &mut [u8]) -> Input
     requires { ⌜ most-bytes < length (now buffer) ⌝ }
-    ensures { λ r. ⌜ Arrived r (now (buffer .exit)) ⌝ }
+    ensures { λ r. ⌜ Arrived r (new buffer) ⌝ }
 {
     let mut done = 0;
     while done < buffer.len() {
@@ -40,7 +41,7 @@ fn read_input(fd: i32, buffer: &mut [u8]) -> Input
 fn answer_input(input: Input, buffer: &[u8], out: &mut [u8]) -> usize
     requires { ⌜ Arrived input (now buffer) ⌝ }
     requires { ⌜ longest ≤ length (now out) ⌝ }
-    ensures { λ r. ⌜ Answers (PrintsInput input (now (buffer .entry))) (now (out .entry)) (now (out .exit)) r ⌝ }
+    ensures { λ r. ⌜ Answers (PrintsInput input (old buffer)) (old out) (new out) r ⌝ }
 {
     match input {
         Input::Whole(n) => sheet_answer::answer(&buffer[..n], out),

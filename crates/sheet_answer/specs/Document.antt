@@ -11,9 +11,11 @@ use Rattle.lists.specs.Ascending.{numbers}
 use Rattle.refusal.specs.Verdict.{unless, if-passed, first-refusal}
 use Rattle.ctc.specs.Collapse.{merge, without-blanks, collapse}
 use Rattle.automaton.specs.Form.{encode}
-use Rattle.regex.specs.Bytes.{bytes}
+use Rattle.text.specs.Bytes.{bytes}
 use Rattle.regex.specs.Letters.{labelsOf, letterCount}
-use Rattle.regex.specs.Text.{then, first-of, split, enclosed, provided}
+use Rattle.regex.specs.Text.{then, enclosed}
+use Rattle.text.specs.Text.{split}
+use Rattle.lists.specs.Cases.{first-of, provided}
 use Rattle.regex.specs.Sets.{closed as closes, reserved, items, members, inside, bracket, escaped, a-set, labelled-set}
 use Rattle.regex.specs.Repetition.{number, from-on, from-to, comma, counts, sign, repetition}
 use Rattle.regex.specs.Read.{grouped, step, go, read, whole, expressionOf}

@@ -9,7 +9,7 @@ use lib.ListN.{length, take, drop}
 use Rattle.lists.specs.Written.{take-written, written-fits}
 use Rattle.refusal.specs.declared.Refusal.the-variants as row
 use Rattle.refusal.specs.Number.{numberOf}
-use Rattle.outcome.specs.Matrix.{matrix}
+use Rattle.matrix.specs.Matrix.{matrix}
 use Rattle.sheet_format.specs.Sheet.{Sheet, sheetOf, matrixOf}
 use Rattle.sheet_format.specs.Parts.{sheet-within, sheet-alphabet, sheet-text, sheet-costs, sheet-area}
 use Rattle.sheet_scan.specs.Answers.{answerOf, Scans, answered}

@@ -4,6 +4,7 @@ use sheet_read::answer_reading;
 use sheet_scan::Scanned;
 ghost use Prim.Native.Nat.{_≤_};
 ghost use lib.ListN.{length};
+ghost use Rattle.lists.specs.Memory.{old, new};
 ghost use Rattle.sheet_read.specs.Answer.{longest};
 ghost use Rattle.sheet_read.specs.Promise.{Answers};
 ghost use Rattle.sheet_answer.specs.Answer.{Prints};
@@ -11,7 +12,7 @@ ghost use Rattle.sheet_answer.specs.Answer.{Prints};
 // Reads a sheet and prints its reading or refusal; the number of bytes. The memory for its costs is local.
 pub fn answer(input: &[u8], out: &mut [u8]) -> usize
     requires { ⌜ longest ≤ length (now out) ⌝ }
-    ensures { λ r. ⌜ Answers (Prints (now (input .entry))) (now (out .entry)) (now (out .exit)) r ⌝ }
+    ensures { λ r. ⌜ Answers (Prints (old input)) (old out) (new out) r ⌝ }
 {
     let mut costs = [0u32; 16384];
     let Scanned::Sheet {

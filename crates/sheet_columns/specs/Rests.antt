@@ -14,7 +14,7 @@ use lib.Dec.{eqb}
 use borrow.Author.Tests.{eqb-true, eq-eqb}
 use Rattle.lists.specs.Each.{drop-here}
 use Rattle.lists.specs.Order.{and-left, and-right, or-either, or-left, or-right}
-use Rattle.regex.specs.Repetition.{digits}
+use Rattle.text.specs.Digits.{digits}
 use Rattle.sheet_format.specs.Rows.{Free, rows, FirstCost, rows-back, put, rows-put}
 use Rattle.sheet_number.specs.Places.{part, part-rest}
 use Rattle.sheet_number.specs.Digits.{digit, separator, digit-range, cost-back, CostAt, ReadCost, cost-begins}

@@ -3,6 +3,7 @@ use sheet_number::Cost;
 use sheet_number::read_cost;
 ghost use Prim.Native.Nat.{_≤_};
 ghost use lib.ListN.{length};
+ghost use Rattle.lists.specs.Memory.{old, new};
 ghost use Rattle.sheet_columns.specs.Storing.{StoredColumn, StoredColumns};
 ghost use Rattle.sheet_columns.specs.Matrices.{StoredMatrix};
 
@@ -27,7 +28,7 @@ pub enum Body {
 // Stores the costs of the column line that begins here, from place m on.
 fn store_column(input: &[u8], at: usize, costs: &mut [u32], m: usize) -> Column
     requires { ⌜ (at ≤ length (now input)) × (m ≤ 16384) × (16384 ≤ length (now costs)) ⌝ }
-    ensures { λ r. ⌜ StoredColumn (now (input .entry)) at m (now (costs .entry)) (now (costs .exit)) r ⌝ }
+    ensures { λ r. ⌜ StoredColumn (old input) at m (old costs) (new costs) r ⌝ }
 {
     let mut i = at;
     let mut n = m;
@@ -50,7 +51,7 @@ fn store_column(input: &[u8], at: usize, costs: &mut [u32], m: usize) -> Column
 // Stores the column lines behind the first, which is stored already, with as many costs.
 fn store_columns(input: &[u8], at: usize, costs: &mut [u32], width: usize) -> Columns
     requires { ⌜ (at ≤ length (now input)) × (width ≤ 16384) × (16384 ≤ length (now costs)) ⌝ }
-    ensures { λ r. ⌜ StoredColumns width (now (input .entry)) at width 1 (now (costs .entry)) (now (costs .exit)) r ⌝ }
+    ensures { λ r. ⌜ StoredColumns width (old input) at width 1 (old costs) (new costs) r ⌝ }
 {
     let mut i = at;
     let mut m = width;
@@ -73,7 +74,7 @@ fn store_columns(input: &[u8], at: usize, costs: &mut [u32], width: usize) -> Co
 // hold anything.
 pub fn store_matrix(input: &[u8], at: usize, costs: &mut [u32], width_if_none: usize) -> Body
     requires { ⌜ (at ≤ length (now input)) × (16384 ≤ length (now costs)) ⌝ }
-    ensures { λ r. ⌜ StoredMatrix «width_if_none» (now (input .entry)) at (now (costs .entry)) (now (costs .exit)) r ⌝ }
+    ensures { λ r. ⌜ StoredMatrix «width_if_none» (old input) at (old costs) (new costs) r ⌝ }
 {
     if at == input.len() {
         return Body::Matrix(width_if_none, 0);

@@ -11,7 +11,7 @@ use lib.Dec.{leb}
 use borrow.Author.Tests.{lt-ltb, le-ltb, le-leb}
 use lib.ListN.{length, getD, length-append, List·getD-append}
 use Rattle.lists.specs.Order.{lt-or-le, and-left, and-right, and-both}
-use Rattle.regex.specs.Repetition.{value, digits as all-digits}
+use Rattle.text.specs.Digits.{value, digits as all-digits}
 use Rattle.sheet_decimal.specs.Numerals.{digit, digits, decimal}
 
 digits-one : (k n : ℕ) → n < 10 → digits (suc k) n ≡ digit n ∷ []

@@ -3,6 +3,7 @@ ghost use mathlib.Core.Path.{_≡_};
 ghost use mathlib.Core.List.{[], _∷_};
 ghost use Prim.Native.Nat.{_+_, _<_, _≤_};
 ghost use lib.ListN.{length};
+ghost use Rattle.lists.specs.Memory.{old, new};
 ghost use Rattle.lists.specs.Written.{Stored};
 ghost use Rattle.sheet_decimal.specs.Numerals.{digit, decimal};
 
@@ -17,7 +18,7 @@ fn digit_of(n: u32) -> u8
 // Writes one byte at place n; the next place.
 pub fn put(b: u8, out: &mut [u8], n: usize) -> usize
     requires { ⌜ n < length (now out) ⌝ }
-    ensures { λ r. ⌜ Stored (b ∷ []) n (now (out .entry)) (now (out .exit)) r ⌝ }
+    ensures { λ r. ⌜ Stored (b ∷ []) n (old out) (new out) r ⌝ }
 {
     out[n] = b;
     n + 1
@@ -26,7 +27,7 @@ pub fn put(b: u8, out: &mut [u8], n: usize) -> usize
 // Writes bytes as they are from place n on; the next place.
 pub fn put_bytes(bytes: &[u8], out: &mut [u8], n: usize) -> usize
     requires { ⌜ n + length (now bytes) ≤ length (now out) ⌝ }
-    ensures { λ r. ⌜ Stored (now (bytes .entry)) n (now (out .entry)) (now (out .exit)) r ⌝ }
+    ensures { λ r. ⌜ Stored (old bytes) n (old out) (new out) r ⌝ }
 {
     let mut m = n;
     let mut i: usize = 0;
@@ -40,7 +41,7 @@ pub fn put_bytes(bytes: &[u8], out: &mut [u8], n: usize) -> usize
 // Writes a number in decimal from place n on; the next place.
 pub fn put_decimal(x: u32, out: &mut [u8], n: usize) -> usize
     requires { ⌜ n + length (decimal x) ≤ length (now out) ⌝ }
-    ensures { λ r. ⌜ Stored (decimal x) n (now (out .entry)) (now (out .exit)) r ⌝ }
+    ensures { λ r. ⌜ Stored (decimal x) n (old out) (new out) r ⌝ }
 {
     if x < 10 {
         return put(digit_of(x), out, n);

@@ -6,9 +6,9 @@ use mathlib.Core.List.{List, [], _∷_, map, flatten}
 use mathlib.Core.Bool.{Bool, true, false}
 use Prim.Native.Nat.{ℕ}
 use Rattle.lists.specs.Each.{all}
-use Rattle.regex.specs.Bytes.{bytes}
-use Rattle.regex.specs.Text.{provided}
-use Rattle.outcome.specs.Matrix.{matrix}
+use Rattle.text.specs.Bytes.{bytes}
+use Rattle.lists.specs.Cases.{provided}
+use Rattle.matrix.specs.Matrix.{matrix}
 use Rattle.sheet_format.specs.Sheet.{
   onto,
   pieces,

@@ -12,7 +12,7 @@ use lib.Dec.{eqb, leb, ltb}
 use borrow.Author.Tests.{lt-leb, le-leb, lt-ltb, le-ltb}
 use Rattle.lists.specs.Each.{all}
 use Rattle.lists.specs.Order.{lt-or-le}
-use Rattle.regex.specs.Text.{provided}
+use Rattle.lists.specs.Cases.{provided}
 use Rattle.sheet_format.specs.Sheet.{onto, pieces, both, every, linesOf, costOf, columnOf, Sheet, equal-columns, fitting, laid, sheetFrom, sheetOf}
 use Rattle.sheet_format.specs.Rows.{Free, lines-end, lines-none, columnsOf, rows, rows-end, rows-line}
 

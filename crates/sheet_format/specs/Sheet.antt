@@ -9,9 +9,9 @@ use Prim.Native.Char.{code}
 use lib.ListN.{length}
 use lib.Dec.{eqb, leb}
 use Rattle.lists.specs.Each.{all}
-use Rattle.regex.specs.Text.{provided}
-use Rattle.regex.specs.Repetition.{digits, value}
-use Rattle.outcome.specs.Matrix.{Matrix, matrix}
+use Rattle.lists.specs.Cases.{provided}
+use Rattle.text.specs.Digits.{digits, value}
+use Rattle.matrix.specs.Matrix.{Matrix, matrix}
 
 -- a byte in front of the first piece
 unfoldable pub onto : ℕ → List (List ℕ) → List (List ℕ)

@@ -6,6 +6,7 @@ use sheet_decimal::put_decimal;
 use sheet_path::put_labels;
 ghost use Prim.Native.Nat.{_+_, _≤_};
 ghost use lib.ListN.{length};
+ghost use Rattle.lists.specs.Memory.{old, new};
 ghost use Rattle.lists.specs.Written.{Wrote, Stored};
 ghost use Rattle.refusal.specs.Number.{numberOf};
 ghost use Rattle.sheet_decimal.specs.Numerals.{decimal};
@@ -15,7 +16,7 @@ ghost use Rattle.sheet_lines.specs.Lines.{line, reading-lines, refusal-l
 // Writes the line of a number.
 fn put_number_line(x: u32, out: &mut [u8], n: usize) -> usize
     requires { ⌜ n + length (line (decimal x)) ≤ length (now out) ⌝ }
-    ensures { λ r. ⌜ Stored (line (decimal x)) n (now (out .entry)) (now (out .exit)) r ⌝ }
+    ensures { λ r. ⌜ Stored (line (decimal x)) n (old out) (new out) r ⌝ }
 {
     let m = put_decimal(x, out, n);
     put(b'\n', out, m)
@@ -24,7 +25,7 @@ fn put_number_line(x: u32, out: &mut [u8], n: usize) -> usize
 // Writes the line of a word.
 fn put_word_line(word: &[u8], out: &mut [u8], n: usize) -> usize
     requires { ⌜ n + length (line (now word)) ≤ length (now out) ⌝ }
-    ensures { λ r. ⌜ Stored (line (now (word .entry))) n (now (out .entry)) (now (out .exit)) r ⌝ }
+    ensures { λ r. ⌜ Stored (line (old word)) n (old out) (new out) r ⌝ }
 {
     let m = put_bytes(word, out, n);
     put(b'\n', out, m)
@@ -33,7 +34,7 @@ fn put_word_line(word: &[u8], out: &mut [u8], n: usize) -> usize
 // Writes the line of a path.
 fn put_path_line(path: &[u8], out: &mut [u8], n: usize) -> usize
     requires { ⌜ n + length (line (spaced (now path))) ≤ length (now out) ⌝ }
-    ensures { λ r. ⌜ Stored (line (spaced (now (path .entry)))) n (now (out .entry)) (now (out .exit)) r ⌝ }
+    ensures { λ r. ⌜ Stored (line (spaced (old path))) n (old out) (new out) r ⌝ }
 {
     let m = put_labels(path, out, n);
     put(b'\n', out, m)
@@ -42,7 +43,7 @@ fn put_path_line(path: &[u8], out: &mut [u8], n: usize) -> usize
 // Prints a reading: its price, word and path, a line each; the number of bytes.
 pub fn print_reading(price: u32, word: &[u8], path: &[u8], out: &mut [u8]) -> usize
     requires { ⌜ length (reading-lines price (now word) (now path)) ≤ length (now out) ⌝ }
-    ensures { λ r. ⌜ Wrote (reading-lines price (now (word .entry)) (now (path .entry))) (now (out .entry)) (now (out .exit)) r ⌝ }
+    ensures { λ r. ⌜ Wrote (reading-lines price (old word) (old path)) (old out) (new out) r ⌝ }
 {
     let n = put_number_line(price, out, 0);
     let m = put_word_line(word, out, n);
@@ -52,7 +53,7 @@ pub fn print_reading(price: u32, word: &[u8], path: &[u8], out: &mut [u8]) -> us
 // Prints a refusal's line; the number of bytes.
 pub fn print_refusal(r: Refusal, out: &mut [u8]) -> usize
     requires { ⌜ length (refusal-line (numberOf r)) ≤ length (now out) ⌝ }
-    ensures { λ n. ⌜ Wrote (refusal-line (numberOf r)) (now (out .entry)) (now (out .exit)) n ⌝ }
+    ensures { λ n. ⌜ Wrote (refusal-line (numberOf r)) (old out) (new out) n ⌝ }
 {
     let n = put_bytes(b"refused ", out, 0);
     put_number_line(refusal::number(r), out, n)

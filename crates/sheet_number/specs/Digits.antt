@@ -13,8 +13,8 @@ use lib.ListN.{length, getD, take, drop}
 use lib.Dec.{eqb, leb, lit<}
 use borrow.Author.Tests.{leb-true, le-leb, eqb-true, not-true}
 use Rattle.lists.specs.Order.{and-left, and-right, and-both, and-three, or-either, not-both, lt-or-le}
-use Rattle.regex.specs.Text.{provided}
-use Rattle.regex.specs.Repetition.{digits, value}
+use Rattle.lists.specs.Cases.{provided}
+use Rattle.text.specs.Digits.{digits, value}
 use Rattle.sheet_format.specs.Sheet.{extra-zero, costOf}
 use Rattle.sheet_format.specs.Parts.{provided-back}
 use Rattle.sheet_number.specs.Places.{part, part-none, part-more, part-at, part-length}

@@ -3,6 +3,7 @@
 ghost use mathlib.Core.Path.{_≡_};
 ghost use Prim.Native.Nat.{_≤_};
 ghost use lib.ListN.{length};
+ghost use Rattle.lists.specs.Memory.{old};
 ghost use Rattle.sheet_number.specs.Places.{LineEnd};
 ghost use Rattle.sheet_number.specs.Digits.{digit, separator, padded, Digits as DigitsOf, ReadCost};
 
@@ -50,7 +51,7 @@ fn is_padded(count: usize, b: u8) -> bool
 // Where the line that begins here ends: its newline, or the input's end.
 pub fn line_end(input: &[u8], at: usize) -> usize
     requires { ⌜ at ≤ length (now input) ⌝ }
-    ensures { λ r. ⌜ LineEnd (now (input .entry)) at r ⌝ }
+    ensures { λ r. ⌜ LineEnd (old input) at r ⌝ }
 {
     text::find(input, at, b'\n')
 }
@@ -58,7 +59,7 @@ pub fn line_end(input: &[u8], at: usize) -> usize
 // The digits from here on, at most seven.
 fn read_digits(input: &[u8], at: usize) -> Digits
     requires { ⌜ at ≤ length (now input) ⌝ }
-    ensures { λ r. ⌜ DigitsOf (now (input .entry)) at (r .end) (r .value) ⌝ }
+    ensures { λ r. ⌜ DigitsOf (old input) at (r .end) (r .value) ⌝ }
 {
     let mut v: u32 = 0;
     let mut i = at;
@@ -79,7 +80,7 @@ fn read_digits(input: &[u8], at: usize) -> Digits
 // The cost that is written here.
 pub fn read_cost(input: &[u8], at: usize) -> Cost
     requires { ⌜ at ≤ length (now input) ⌝ }
-    ensures { λ r. ⌜ ReadCost (now (input .entry)) at r ⌝ }
+    ensures { λ r. ⌜ ReadCost (old input) at r ⌝ }
 {
     let d = read_digits(input, at);
     let end = d.end;

@@ -4,6 +4,7 @@ use sheet_decimal::put_decimal;
 ghost use mathlib.Core.List.{_∷_};
 ghost use Prim.Native.Nat.{_+_, _≤_};
 ghost use lib.ListN.{length, drop};
+ghost use Rattle.lists.specs.Memory.{old, new};
 ghost use Rattle.lists.specs.Written.{Stored};
 ghost use Rattle.sheet_decimal.specs.Numerals.{decimal};
 ghost use Rattle.sheet_path.specs.Labels.{following, spaced};
@@ -11,7 +12,7 @@ ghost use Rattle.sheet_path.specs.Labels.{following, spaced};
 // Writes a label behind a space.
 fn put_next(x: u8, out: &mut [u8], n: usize) -> usize
     requires { ⌜ n + length (32 ∷ decimal x) ≤ length (now out) ⌝ }
-    ensures { λ r. ⌜ Stored (32 ∷ decimal x) n (now (out .entry)) (now (out .exit)) r ⌝ }
+    ensures { λ r. ⌜ Stored (32 ∷ decimal x) n (old out) (new out) r ⌝ }
 {
     let m = put(b' ', out, n);
     put_decimal(x as u32, out, m)
@@ -20,7 +21,7 @@ fn put_next(x: u8, out: &mut [u8], n: usize) -> usize
 // Writes the labels behind the first, each behind a space.
 fn put_following(path: &[u8], out: &mut [u8], n: usize) -> usize
     requires { ⌜ n + length (following (drop 1 (now path))) ≤ length (now out) ⌝ }
-    ensures { λ r. ⌜ Stored (following (drop 1 (now (path .entry)))) n (now (out .entry)) (now (out .exit)) r ⌝ }
+    ensures { λ r. ⌜ Stored (following (drop 1 (old path))) n (old out) (new out) r ⌝ }
 {
     let mut m = n;
     let mut i: usize = 1;
@@ -34,7 +35,7 @@ fn put_following(path: &[u8], out: &mut [u8], n: usize) -> usize
 // Writes labels with one space between.
 pub fn put_labels(path: &[u8], out: &mut [u8], n: usize) -> usize
     requires { ⌜ n + length (spaced (now path)) ≤ length (now out) ⌝ }
-    ensures { λ r. ⌜ Stored (spaced (now (path .entry))) n (now (out .entry)) (now (out .exit)) r ⌝ }
+    ensures { λ r. ⌜ Stored (spaced (old path)) n (old out) (new out) r ⌝ }
 {
     if path.len() == 0 {
         return n;

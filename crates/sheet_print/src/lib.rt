@@ -3,6 +3,7 @@
 use answers::Reading;
 ghost use Prim.Native.Nat.{_≤_};
 ghost use lib.ListN.{length};
+ghost use Rattle.lists.specs.Memory.{old, new};
 ghost use Rattle.lists.specs.Written.{Wrote};
 ghost use Rattle.sheet_print.specs.Printed.{Shown, answer-lines};
 
@@ -15,7 +16,7 @@ pub fn print_answer(
     out: &mut [u8],
 ) -> usize
     requires { ⌜ Shown answer count (now path) (now word) × (length (answer-lines answer count (now path) (now word)) ≤ length (now out)) ⌝ }
-    ensures { λ r. ⌜ Wrote (answer-lines answer count (now (path .entry)) (now (word .entry))) (now (out .entry)) (now (out .exit)) r ⌝ }
+    ensures { λ r. ⌜ Wrote (answer-lines answer count (old path) (old word)) (old out) (new out) r ⌝ }
 {
     match answer {
         Reading::Refused(r) => sheet_lines::print_refusal(r, out),

@@ -13,7 +13,7 @@ use Rattle.refusal.specs.Number.{numberOf}
 use Rattle.refusal.specs.Verdict.{Verdict, passed, refused, first-refusal}
 use Rattle.ctc.specs.Collapse.{collapse}
 use Rattle.automaton.specs.Form.{lettersOf}
-use Rattle.outcome.specs.Matrix.{Matrix, price}
+use Rattle.matrix.specs.Matrix.{Matrix, price}
 use Rattle.outcome.specs.Reading.{Outcome, outcome-unique}
 use Rattle.regex.specs.Grammar.{WordsOf}
 use Rattle.compile.specs.Call.{compile-call}

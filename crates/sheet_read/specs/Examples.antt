@@ -12,7 +12,7 @@ use Rattle.refusal.specs.declared.Refusal.the-variants.{Work}
 use Rattle.refusal.specs.declared.Checked.{Checked}
 use Rattle.refusal.specs.declared.Checked.the-variants.{Passed, Refused}
 use Rattle.refusal.specs.Verdict.{first-refusal}
-use Rattle.outcome.specs.Matrix.{matrix}
+use Rattle.matrix.specs.Matrix.{matrix}
 use Rattle.decode_checks.specs.Checks.{needed, matrix-checks}
 use Rattle.sheet_read.specs.Answer.{form-room, lent-rooms}
 

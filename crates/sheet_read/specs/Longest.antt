@@ -17,7 +17,7 @@ use Rattle.refusal.specs.Verdict.{Verdict, passed, refused, first-refusal}
 use Rattle.ctc.specs.Collapse.{collapse, collapse-shorter}
 use Rattle.automaton.specs.Form.{lettersOf}
 use Rattle.automaton.specs.Valid.{valid-parts}
-use Rattle.outcome.specs.Matrix.{Matrix, priceFrom, price, PathFrom, PathOf}
+use Rattle.matrix.specs.Matrix.{Matrix, priceFrom, price, PathFrom, PathOf}
 use Rattle.outcome.specs.Reading.{Outcome}
 use Rattle.regex.specs.Grammar.{WordsOf}
 use Rattle.compile.specs.Call.{compile-call}

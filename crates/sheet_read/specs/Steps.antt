@@ -20,7 +20,7 @@ use Rattle.answers.specs.declared.Reading.{Reading}
 use Rattle.answers.specs.declared.Reading.the-variants as answer
 use Rattle.ctc.specs.Collapse.{collapse}
 use Rattle.automaton.specs.Form.{lettersOf}
-use Rattle.outcome.specs.Matrix.{Matrix, price}
+use Rattle.matrix.specs.Matrix.{Matrix, price}
 use Rattle.outcome.specs.Reading.{Outcome}
 use Rattle.regex.specs.Grammar.{WordsOf}
 use Rattle.compile.specs.Call.{compile-call}

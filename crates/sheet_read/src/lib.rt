@@ -3,7 +3,8 @@
 use sheet_print::print_answer;
 ghost use Prim.Native.Nat.{_≤_};
 ghost use lib.ListN.{length};
-ghost use Rattle.outcome.specs.Matrix.{matrix};
+ghost use Rattle.lists.specs.Memory.{old, new};
+ghost use Rattle.matrix.specs.Matrix.{matrix};
 ghost use Rattle.sheet_read.specs.Answer.{longest, PrintsReading};
 ghost use Rattle.sheet_read.specs.Promise.{Answers};
 
@@ -18,7 +19,7 @@ pub fn answer_reading(
     out: &mut [u8],
 ) -> usize
     requires { ⌜ longest ≤ length (now out) ⌝ }
-    ensures { λ r. ⌜ Answers (PrintsReading (now (alphabet .entry)) (now (text .entry)) (matrix (now (costs .entry)) width count)) (now (out .entry)) (now (out .exit)) r ⌝ }
+    ensures { λ r. ⌜ Answers (PrintsReading (old alphabet) (old text) (matrix (old costs) width count)) (old out) (new out) r ⌝ }
 {
     let mut form = [0u32; 16384];
     let mut path = [0u8; 255];

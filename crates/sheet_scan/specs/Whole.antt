@@ -13,7 +13,7 @@ use borrow.Author.Tests.{le-leb, lt-leb}
 use Rattle.lists.specs.Each.{drop-here, drop-all}
 use Rattle.lists.specs.Order.{eq-or-ne, true-or-false}
 use Rattle.lists.specs.Written.{written}
-use Rattle.regex.specs.Text.{provided}
+use Rattle.lists.specs.Cases.{provided}
 use Rattle.sheet_format.specs.Sheet.{both, linesOf, Sheet, fitting, laid, sheetFrom, most-bytes, sheetOf, widthOr, matrixOf}
 use Rattle.sheet_format.specs.Rows.{lines-end, lines-open, lines-none, columnsOf, rows}
 use Rattle.sheet_number.specs.Places.{part, part-length, part-rest, LineEnd}

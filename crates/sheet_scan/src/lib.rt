@@ -4,6 +4,7 @@ use sheet_columns::store_matrix;
 use sheet_number::line_end;
 ghost use mathlib.Core.Path.{_≡_};
 ghost use lib.ListN.{length};
+ghost use Rattle.lists.specs.Memory.{old, new};
 ghost use Rattle.sheet_scan.specs.Answers.{Scans};
 
 // The lengths of a sheet's first two lines, and its matrix's width and count.
@@ -20,7 +21,7 @@ pub enum Scanned {
 // Reads a sheet, and stores its costs in the lent memory; for what is no sheet (row 18) all of that memory holds anything afterwards.
 pub fn scan(input: &[u8], costs: &mut [u32]) -> Scanned
     requires { ⌜ length (now costs) ≡ 16384 ⌝ }
-    ensures { λ r. ⌜ Scans (now (input .entry)) (now (costs .entry)) (now (costs .exit)) r ⌝ }
+    ensures { λ r. ⌜ Scans (old input) (old costs) (new costs) r ⌝ }
 {
     if 65535 < input.len() {
         return Scanned::Bad;

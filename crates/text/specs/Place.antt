@@ -14,7 +14,7 @@ use lib.Dec.{eqb}
 use borrow.Author.Tests.{eq-eqb, ne-eqb}
 use lib.Seq.{drop-drop, drop-append-seam, take-all}
 use Rattle.lists.specs.Each.{drop-here, drop-all}
-use Rattle.regex.specs.Text.{when, first-of, next, next-of, one-of, rest, in-front, split}
+use Rattle.text.specs.Text.{next, next-of, one-of, rest, in-front, split}
 
 -- how many bytes stand in front of the first such byte
 unfoldable pub until : ℕ → List ℕ → ℕ
@@ -137,14 +137,6 @@ behind text at u r l e =
       ahead = p;
       ends = omega arith;
     }
-
--- behind three cases that do not hold the fourth decides
-pub fourth :
-    {R : Type 0} (t₁ t₂ t₃ t₄ : Bool) (a₁ a₂ a₃ a₄ d : R) → t₁ ≡ false → t₂ ≡ false → t₃ ≡ false →
-    first-of (when t₁ a₁ ∷ (when t₂ a₂ ∷ (when t₃ a₃ ∷ (when t₄ a₄ ∷ [])))) d ≡ cond t₄ a₄ d
-unfolding first-of
-fourth t₁ t₂ t₃ true a₁ a₂ a₃ a₄ d e₁ e₂ e₃ = rw (e₁, e₂, e₃)
-fourth t₁ t₂ t₃ false a₁ a₂ a₃ a₄ d e₁ e₂ e₃ = rw (e₁, e₂, e₃)
 
 -- a part of the text up to its end is the text from the part's start on
 pub part-rest : (text : List ℕ) (i : ℕ) → take (length text - i) (drop i text) ≡ drop i text

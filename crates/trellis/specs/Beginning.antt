@@ -8,7 +8,7 @@ use native.Mathlib.Omega.{arith}
 use lib.ListN.{length, getD, take, length-append}
 use lib.Seq.{length-take-le, take-suc, take-length}
 use Rattle.lists.specs.Least.{Least, least-same, least-through}
-use Rattle.outcome.specs.Matrix.{Matrix, cost, price, price-append}
+use Rattle.matrix.specs.Matrix.{Matrix, cost, price, price-append}
 use Rattle.trellis.specs.Graph.{Graph, Leads, leads-append, leads-split}
 use Rattle.trellis.specs.Impossible.{TOP, plus}
 use Rattle.trellis.specs.CostToGo.{CostToGo}

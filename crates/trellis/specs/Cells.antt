@@ -9,7 +9,7 @@ use native.Mathlib.Omega.{arith}
 use Rattle.lists.specs.Order.{not-both}
 use Rattle.lists.specs.Least.{Least, least-one, least-either, least-same}
 use Rattle.automaton.specs.Automaton.{Automaton, Proper}
-use Rattle.outcome.specs.Matrix.{Matrix, cost}
+use Rattle.matrix.specs.Matrix.{Matrix, cost}
 use Rattle.trellis.specs.Impossible.{TOP, plus}
 use Rattle.trellis.specs.CostToGo.{CostToGo, togo-ends, togo-never, Onward, togo-step}
 use Rattle.trellis.specs.Extended.{OnLetter, AtLetter, Step, stay, pass, arc, rest, leave, may-end, extended, step-within}

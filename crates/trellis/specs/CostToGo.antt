@@ -7,7 +7,7 @@ use mathlib.Core.List.{List, [], _∷_}
 use native.Mathlib.Omega.{arith}
 use lib.ListN.{length}
 use Rattle.lists.specs.Least.{Least, least-same, least-through}
-use Rattle.outcome.specs.Matrix.{Matrix, cost, priceFrom}
+use Rattle.matrix.specs.Matrix.{Matrix, cost, priceFrom}
 use Rattle.trellis.specs.Graph.{Graph, Way, way-step, way-split, way-here, way-none}
 use Rattle.trellis.specs.Impossible.{TOP, plus}
 

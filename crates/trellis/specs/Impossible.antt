@@ -7,7 +7,7 @@ use mathlib.Core.List.{List, [], _∷_}
 use native.Mathlib.Omega.{arith}
 use lib.ListN.{length}
 use Rattle.lists.specs.Each.{Each, each-anywhere}
-use Rattle.outcome.specs.Matrix.{Matrix, cost, priceFrom, Usable, PathFrom, CostsPass}
+use Rattle.matrix.specs.Matrix.{Matrix, cost, priceFrom, Usable, PathFrom, CostsPass}
 
 abbrev pub TOP : ℕ
 TOP = 1000000000

@@ -11,7 +11,7 @@ use lib.ListN.{length}
 use Rattle.lists.specs.Order.{lt-or-le}
 use Rattle.lists.specs.Each.{Each}
 use Rattle.automaton.specs.Automaton.{Automaton, Accepts, Proper}
-use Rattle.outcome.specs.Matrix.{Matrix, price, CostsPass}
+use Rattle.matrix.specs.Matrix.{Matrix, price, CostsPass}
 use Rattle.outcome.specs.Reading.{Rival, Best, Outcome}
 use Rattle.trellis.specs.Graph.{Way}
 use Rattle.trellis.specs.Impossible.{TOP, path-below, below-path}

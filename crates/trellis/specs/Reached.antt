@@ -8,7 +8,7 @@ use native.Mathlib.Omega.{arith}
 use lib.Dec.{eqb}
 use borrow.Author.Tests.{eq-eqb, ne-eqb}
 use Rattle.automaton.specs.Automaton.{Automaton, Proper}
-use Rattle.outcome.specs.Matrix.{Matrix, cost}
+use Rattle.matrix.specs.Matrix.{Matrix, cost}
 use Rattle.trellis.specs.Impossible.{plus}
 use Rattle.trellis.specs.CostToGo.{CostToGo}
 use Rattle.trellis.specs.Trace.{Shared, Tight, Chosen, some-tight}

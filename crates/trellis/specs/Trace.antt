@@ -9,7 +9,7 @@ use native.Mathlib.Omega.{arith}
 use lib.ListN.{length}
 use Rattle.lists.specs.Order.{lt-or-le}
 use Rattle.outcome.specs.Best.{BestOf, best-same}
-use Rattle.outcome.specs.Matrix.{Matrix, cost, priceFrom}
+use Rattle.matrix.specs.Matrix.{Matrix, cost, priceFrom}
 use Rattle.outcome.specs.Order.{NotAfter}
 use Rattle.trellis.specs.Graph.{Graph, Way, way-step, way-split}
 use Rattle.trellis.specs.Impossible.{TOP, plus}

@@ -7,6 +7,7 @@ ghost use mathlib.Core.Path.{_≡_};
 ghost use mathlib.Core.Bool.{false};
 ghost use Prim.Native.Nat.{_*_, _<_, _≤_, min};
 ghost use lib.ListN.{length, replicate};
+ghost use Rattle.lists.specs.Memory.{old, new};
 ghost use Rattle.lists.specs.Least.{Least};
 ghost use Rattle.lists.specs.Marks.{Marks};
 ghost use Rattle.automaton.specs.Form.{lettersOf, view};
@@ -33,7 +34,7 @@ fn lower(a: usize, b: usize) -> usize
 // The label of state u if it is in the set and keeps to the price v; else NONE.
 fn offered(form: &[u32], column: &[u32], row: &[u32], v: u32, near: &[bool; 255], u: usize) -> usize
     requires { ⌜ Sized (now form) (now column) (now row) v × (u ≤ 2 * lettersOf (now form)) ⌝ }
-    ensures { λ r. ⌜ Least none (Offers (view (now (form .entry))) (now (column .entry)) (now (row .entry)) v (now (near .entry)) u) r ⌝ }
+    ensures { λ r. ⌜ Least none (Offers (view (old form)) (old column) (old row) v (old near) u) r ⌝ }
 {
     if !near[u] {
         return NONE;
@@ -52,7 +53,7 @@ fn offered(form: &[u32], column: &[u32], row: &[u32], v: u32, near: &[bool; 255]
 // The lowest label of a state of the set that keeps to the price v.
 fn lowest(form: &[u32], column: &[u32], row: &[u32], v: u32, near: &[bool; 255]) -> usize
     requires { ⌜ Sized (now form) (now column) (now row) v × Within (now form) (now near) ⌝ }
-    ensures { λ r. ⌜ Least none (Offered (view (now (form .entry))) (now (column .entry)) (now (row .entry)) v (now (near .entry))) r ⌝ }
+    ensures { λ r. ⌜ Least none (Offered (view (old form)) (old column) (old row) v (old near)) r ⌝ }
 {
     let last = 2 * letters(form);
     let mut x = NONE;
@@ -76,7 +77,7 @@ fn pick(
     set: &mut [bool; 255],
 )
     requires { ⌜ Sized (now form) (now column) (now row) v × (u ≤ 2 * lettersOf (now form)) × (x < none) × (length (now set) ≡ 255) ⌝ }
-    ensures { λ _. ⌜ Marks (Picks (view (now (form .entry))) (now (column .entry)) (now (row .entry)) v (now (near .entry)) x u) (now (set .entry)) (now (set .exit)) ⌝ }
+    ensures { λ _. ⌜ Marks (Picks (view (old form)) (old column) (old row) v (old near) x u) (old set) (new set) ⌝ }
 {
     if offered(form, column, row, v, near, u) == x {
         set[u] = true;
@@ -93,7 +94,7 @@ fn picked(
     x: usize,
 ) -> [bool; 255]
     requires { ⌜ Sized (now form) (now column) (now row) v × Within (now form) (now near) × (x < none) ⌝ }
-    ensures { λ r. ⌜ Marks (OfLabel (view (now (form .entry))) (now (column .entry)) (now (row .entry)) v (now (near .entry)) x) (replicate 255 false) r ⌝ }
+    ensures { λ r. ⌜ Marks (OfLabel (view (old form)) (old column) (old row) v (old near) x) (replicate 255 false) r ⌝ }
 {
     let last = 2 * letters(form);
     let mut set = [false; 255];
@@ -108,7 +109,7 @@ fn picked(
 // The front behind one column more: the lowest label of the reached states that keep to the price, and the states of that label.
 pub fn advance(form: &[u32], begins: &[usize], column: &[u32], row: &[u32], front: Front) -> Front
     requires { ⌜ Sized (now form) (now column) (now row) (front .left) × ArcStarts (now form) (now begins) × Within (now form) (front .set) × SomeKept (view (now form)) (now column) (now row) (front .left) (front .set) ⌝ }
-    ensures { λ r. ⌜ Taken (view (now (form .entry))) (now (column .entry)) (now (row .entry)) front r ⌝ }
+    ensures { λ r. ⌜ Taken (view (old form)) (old column) (old row) front r ⌝ }
 {
     let v = front.left;
     let set = front.set;

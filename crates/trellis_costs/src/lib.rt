@@ -3,9 +3,11 @@
 use form_words::label;
 use form_words::may_be_first;
 use form_words::may_end;
+use numbers::least;
 ghost use mathlib.Core.Path.{_≡_};
-ghost use Prim.Native.Nat.{_+_, _*_, _/_, _<_, _≤_, min};
+ghost use Prim.Native.Nat.{_+_, _*_, _/_, _<_, _≤_};
 ghost use lib.ListN.{length};
+ghost use Rattle.lists.specs.Memory.{old};
 ghost use Rattle.automaton.specs.Form.{lettersOf, labelOf, followOf, endsOf};
 ghost use Rattle.automaton.specs.Valid.{Valid};
 ghost use Rattle.trellis.specs.Impossible.{TOP as top, plus as plusOf};
@@ -14,15 +16,6 @@ ghost use Rattle.trellis_costs.specs.Allowed.{unless-equal, if-first};
 
 // The mark for the impossible: no path of usable costs reaches this price.
 pub const TOP: u32 = 1000000000;
-
-pub fn least(a: u32, b: u32) -> u32
-    ensures { λ r. ⌜ r ≡ min a b ⌝ }
-{
-    if b < a {
-        return b;
-    }
-    a
-}
 
 // A cost, and a price behind it; a sum that stops at TOP.
 pub fn plus(c: u32, v: u32) -> u32
@@ -35,7 +28,7 @@ pub fn plus(c: u32, v: u32) -> u32
 // v, or TOP if the label of letter j is `own`, the label that the path is on.
 pub fn unless_equal(form: &[u32], j: usize, own: usize, v: u32) -> u32
     requires { ⌜ j < length (now form) ⌝ }
-    ensures { λ r. ⌜ r ≡ unless-equal (labelOf (now (form .entry)) j) own v ⌝ }
+    ensures { λ r. ⌜ r ≡ unless-equal (labelOf (old form) j) own v ⌝ }
 {
     if label(form, j) == own {
         return TOP;
@@ -46,7 +39,7 @@ pub fn unless_equal(form: &[u32], j: usize, own: usize, v: u32) -> u32
 // v, or TOP if letter j may not be first.
 pub fn if_first(form: &[u32], j: usize, v: u32) -> u32
     requires { ⌜ Valid (now form) × (1 ≤ j) × (j ≤ lettersOf (now form)) ⌝ }
-    ensures { λ r. ⌜ r ≡ if-first (followOf (now (form .entry)) 0 j) v ⌝ }
+    ensures { λ r. ⌜ r ≡ if-first (followOf (old form) 0 j) v ⌝ }
 {
     if may_be_first(form, j) {
         return v;
@@ -57,7 +50,7 @@ pub fn if_first(form: &[u32], j: usize, v: u32) -> u32
 // What there is to pay in state s where no column is left.
 pub fn last_cost(form: &[u32], s: usize) -> u32
     requires { ⌜ Valid (now form) × (s ≤ 2 * lettersOf (now form)) ⌝ }
-    ensures { λ r. ⌜ r ≡ ending (endsOf (now (form .entry)) ((s + 1) / 2)) ⌝ }
+    ensures { λ r. ⌜ r ≡ ending (endsOf (old form) ((s + 1) / 2)) ⌝ }
 {
     if may_end(form, (s + 1) / 2) {
         return 0;

@@ -2,13 +2,14 @@
 use form_words::label;
 use form_words::letters;
 use form_words::target;
+use numbers::least;
 use trellis_costs::TOP;
 use trellis_costs::if_first;
-use trellis_costs::least;
 use trellis_costs::plus;
 use trellis_costs::unless_equal;
 ghost use mathlib.Core.Path.{_≡_};
 ghost use Prim.Native.Nat.{_≤_};
+ghost use Rattle.lists.specs.Memory.{old};
 ghost use Rattle.lists.specs.Least.{Least};
 ghost use Rattle.automaton.specs.Form.{lettersOf, view};
 ghost use Rattle.automaton.specs.Valid.{Valid};
@@ -26,7 +27,7 @@ pub struct Offers {
 // What the arcs of letter i offer, which stand from b up to e.
 pub fn along_arcs(form: &[u32], candidates: &[u32], i: usize, b: usize, e: usize) -> Offers
     requires { ⌜ Arcs (now form) (now candidates) i b e ⌝ }
-    ensures { λ r. ⌜ OffersOf (now (form .entry)) (now (candidates .entry)) i (r .all) (r .other) ⌝ }
+    ensures { λ r. ⌜ OffersOf (old form) (old candidates) i (r .all) (r .other) ⌝ }
 {
     let own = label(form, i);
     let mut all = TOP;
@@ -45,7 +46,7 @@ pub fn along_arcs(form: &[u32], candidates: &[u32], i: usize, b: usize, e: usize
 // The candidate of letter j: the cost of its label in the column at `at`, and what there is to pay behind it by the row at `next`.
 fn candidate(form: &[u32], costs: &[u32], at: usize, work: &[u32], next: usize, j: usize) -> u32
     requires { ⌜ Ahead (now form) (now costs) at (now work) next × (1 ≤ j) × (j ≤ lettersOf (now form)) ⌝ }
-    ensures { λ r. ⌜ r ≡ onward (now (form .entry)) (now (costs .entry)) at (now (work .entry)) next j ⌝ }
+    ensures { λ r. ⌜ r ≡ onward (old form) (old costs) at (old work) next j ⌝ }
 {
     plus(costs[at + label(form, j)], work[next + (2 * j - 1)])
 }
@@ -53,7 +54,7 @@ fn candidate(form: &[u32], costs: &[u32], at: usize, work: &[u32], next: usize, 
 // The candidates of all letters, 1 to L; the other entries are 0.
 pub fn candidates(form: &[u32], costs: &[u32], at: usize, work: &[u32], next: usize) -> [u32; 128]
     requires { ⌜ Ahead (now form) (now costs) at (now work) next ⌝ }
-    ensures { λ r. ⌜ CandidatesOf (now (form .entry)) (now (costs .entry)) at (now (work .entry)) next r ⌝ }
+    ensures { λ r. ⌜ CandidatesOf (old form) (old costs) at (old work) next r ⌝ }
 {
     let l = letters(form);
     let mut c = [0; 128];
@@ -68,7 +69,7 @@ pub fn candidates(form: &[u32], costs: &[u32], at: usize, work: &[u32], next: us
 // What the letters that may be first offer to state 0.
 pub fn to_first(form: &[u32], candidates: &[u32]) -> u32
     requires { ⌜ Valid (now form) × Candidates (now candidates) ⌝ }
-    ensures { λ r. ⌜ Least top (ByArc (view (now (form .entry))) (candidateOf (now (candidates .entry))) 0 0) r ⌝ }
+    ensures { λ r. ⌜ Least top (ByArc (view (old form)) (candidateOf (old candidates)) 0 0) r ⌝ }
 {
     let l = letters(form);
     let mut v = TOP;

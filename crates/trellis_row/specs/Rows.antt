@@ -11,7 +11,7 @@ use lib.Seq.{getD-set-same, getD-set-other}
 use Rattle.lists.specs.Order.{eq-or-ne}
 use Rattle.lists.specs.Least.{Least, least-same}
 use Rattle.lists.specs.Outside.{Outside, outside-set, outside-then, outside-wider}
-use Rattle.outcome.specs.Matrix.{Matrix, cost}
+use Rattle.matrix.specs.Matrix.{Matrix, cost}
 use Rattle.automaton.specs.Form.{lettersOf, labelOf, followOf, view}
 use Rattle.automaton.specs.Valid.{Valid, follow-target, valid-proper}
 use Rattle.form_starts.specs.Starts.{ArcStarts}

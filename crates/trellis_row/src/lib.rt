@@ -1,11 +1,12 @@
 // One row of the table of costs to go, by the row of the next column: the two states of each letter, and state 0.
 use form_words::letters;
-use trellis_costs::least;
+use numbers::least;
 use trellis_costs::plus;
 use trellis_offers::along_arcs;
 use trellis_offers::candidates;
 use trellis_offers::to_first;
 ghost use Prim.Native.Nat.{_+_, _≤_};
+ghost use Rattle.lists.specs.Memory.{old, new};
 ghost use Rattle.automaton.specs.Form.{lettersOf};
 ghost use Rattle.trellis_row.specs.Letters.{Ready, LetterFilled, LettersFilled};
 ghost use Rattle.trellis_row.specs.Rows.{RowReady, RowFilled};
@@ -22,7 +23,7 @@ fn fill_letter(
     i: usize,
 )
     requires { ⌜ Ready (now form) (now begins) (now candidates) (now work) here next × (1 ≤ i) × (i ≤ lettersOf (now form)) ⌝ }
-    ensures { λ _. ⌜ LetterFilled (now (form .entry)) (now (candidates .entry)) blank (now (work .entry)) (now (work .exit)) here next i ⌝ }
+    ensures { λ _. ⌜ LetterFilled (old form) (old candidates) blank (old work) (new work) here next i ⌝ }
 {
     let rest = plus(blank, work[next + 2 * i]);
     let offers = along_arcs(form, candidates, i, begins[i], begins[i + 1]);
@@ -41,7 +42,7 @@ fn fill_letters(
     next: usize,
 )
     requires { ⌜ Ready (now form) (now begins) (now candidates) (now work) here next ⌝ }
-    ensures { λ _. ⌜ LettersFilled (now (form .entry)) (now (candidates .entry)) blank (now (work .entry)) (now (work .exit)) here next (lettersOf (now (form .entry)) + 1) ⌝ }
+    ensures { λ _. ⌜ LettersFilled (old form) (old candidates) blank (old work) (new work) here next (lettersOf (old form) + 1) ⌝ }
 {
     let l = letters(form);
     let mut i = 1;
@@ -62,7 +63,7 @@ pub fn fill_row(
     next: usize,
 )
     requires { ⌜ RowReady (now form) (now begins) (now costs) at (now work) here next ⌝ }
-    ensures { λ _. ⌜ RowFilled (now (form .entry)) (now (costs .entry)) at (now (work .entry)) (now (work .exit)) here next ⌝ }
+    ensures { λ _. ⌜ RowFilled (old form) (old costs) at (old work) (new work) here next ⌝ }
 {
     let blank = costs[at];
     let c = candidates(form, costs, at, work, next);

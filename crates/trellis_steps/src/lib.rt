@@ -8,6 +8,7 @@ ghost use mathlib.Core.Path.{_≡_};
 ghost use mathlib.Core.Bool.{false};
 ghost use Prim.Native.Nat.{_+_, _*_, _<_, _≤_};
 ghost use lib.ListN.{length, replicate};
+ghost use Rattle.lists.specs.Memory.{old, new};
 ghost use Rattle.lists.specs.Marks.{Has, Marks, Turns};
 ghost use Rattle.automaton.specs.Form.{lettersOf, view};
 ghost use Rattle.automaton.specs.Valid.{Valid};
@@ -18,7 +19,7 @@ ghost use Rattle.trellis_steps.specs.Steps.{Onto, OtherLetter, Led, Behi
 // The label of each step into state u: the blank, or that of its letter.
 pub fn entering(form: &[u32], u: usize) -> usize
     requires { ⌜ (lettersOf (now form) < length (now form)) × (u ≤ 2 * lettersOf (now form)) ⌝ }
-    ensures { λ r. ⌜ r ≡ enteringOf (view (now (form .entry))) u ⌝ }
+    ensures { λ r. ⌜ r ≡ enteringOf (view (old form)) u ⌝ }
 {
     if u % 2 == 0 {
         return 0;
@@ -29,7 +30,7 @@ pub fn entering(form: &[u32], u: usize) -> usize
 // Marks the state on letter j, unless its label is `own`, the label that the path is on.
 fn mark_letter(form: &[u32], own: usize, j: usize, set: &mut [bool; 255])
     requires { ⌜ Valid (now form) × (1 ≤ j) × (j ≤ lettersOf (now form)) × (length (now set) ≡ 255) ⌝ }
-    ensures { λ _. ⌜ Marks (OtherLetter (view (now (form .entry))) own j) (now (set .entry)) (now (set .exit)) ⌝ }
+    ensures { λ _. ⌜ Marks (OtherLetter (view (old form)) own j) (old set) (new set) ⌝ }
 {
     if label(form, j) != own {
         set[2 * j - 1] = true;
@@ -39,7 +40,7 @@ fn mark_letter(form: &[u32], own: usize, j: usize, set: &mut [bool; 255])
 // Marks the state on letter j if it may be first, unless its label is `own`.
 fn mark_first(form: &[u32], own: usize, j: usize, set: &mut [bool; 255])
     requires { ⌜ Valid (now form) × (1 ≤ j) × (j ≤ lettersOf (now form)) × (length (now set) ≡ 255) ⌝ }
-    ensures { λ _. ⌜ Marks (Led (view (now (form .entry))) own 0 j) (now (set .entry)) (now (set .exit)) ⌝ }
+    ensures { λ _. ⌜ Marks (Led (view (old form)) own 0 j) (old set) (new set) ⌝ }
 {
     if may_be_first(form, j) {
         mark_letter(form, own, j, set);
@@ -49,7 +50,7 @@ fn mark_first(form: &[u32], own: usize, j: usize, set: &mut [bool; 255])
 // Marks the states on letters that may be first.
 fn mark_firsts(form: &[u32], own: usize, set: &mut [bool; 255])
     requires { ⌜ Valid (now form) × (length (now set) ≡ 255) ⌝ }
-    ensures { λ _. ⌜ Marks (Behind (view (now (form .entry))) own 0) (now (set .entry)) (now (set .exit)) ⌝ }
+    ensures { λ _. ⌜ Marks (Behind (view (old form)) own 0) (old set) (new set) ⌝ }
 {
     let l = letters(form);
     let mut j = 1;
@@ -62,7 +63,7 @@ fn mark_firsts(form: &[u32], own: usize, set: &mut [bool; 255])
 // Marks the states on the targets of the arcs from b up to e.
 fn mark_targets(form: &[u32], own: usize, b: usize, e: usize, set: &mut [bool; 255])
     requires { ⌜ Valid (now form) × (lettersOf (now form) < b) × (b ≤ e) × (e ≤ length (now form)) × (length (now set) ≡ 255) ⌝ }
-    ensures { λ _. ⌜ Marks (Turns (TargetOf (now (form .entry)) own) b e) (now (set .entry)) (now (set .exit)) ⌝ }
+    ensures { λ _. ⌜ Marks (Turns (TargetOf (old form) own) b e) (old set) (new set) ⌝ }
 {
     let mut n = b;
     while n < e {
@@ -74,7 +75,7 @@ fn mark_targets(form: &[u32], own: usize, b: usize, e: usize, set: &mut [bool; 2
 // Marks the states on letters that may stand behind letter i, whose arcs stand from b up to e.
 fn mark_behind(form: &[u32], own: usize, i: usize, b: usize, e: usize, set: &mut [bool; 255])
     requires { ⌜ Valid (now form) × Begins (now form) i b × Begins (now form) (i + 1) e × (length (now set) ≡ 255) ⌝ }
-    ensures { λ _. ⌜ Marks (Behind (view (now (form .entry))) own i) (now (set .entry)) (now (set .exit)) ⌝ }
+    ensures { λ _. ⌜ Marks (Behind (view (old form)) own i) (old set) (new set) ⌝ }
 {
     if i == 0 {
         mark_firsts(form, own, set);
@@ -87,7 +88,7 @@ fn mark_behind(form: &[u32], own: usize, i: usize, b: usize, e: usize, set: &mut
 // From a letter no arc leads to an equal label; in blanks `own` is the blank, which no letter has.
 fn mark_steps(form: &[u32], begins: &[usize], s: usize, set: &mut [bool; 255])
     requires { ⌜ Valid (now form) × ArcStarts (now form) (now begins) × (s ≤ 2 * lettersOf (now form)) × (length (now set) ≡ 255) ⌝ }
-    ensures { λ _. ⌜ Marks (Onto (view (now (form .entry))) s) (now (set .entry)) (now (set .exit)) ⌝ }
+    ensures { λ _. ⌜ Marks (Onto (view (old form)) s) (old set) (new set) ⌝ }
 {
     let i = (s + 1) / 2;
     let own = entering(form, s);
@@ -99,7 +100,7 @@ fn mark_steps(form: &[u32], begins: &[usize], s: usize, set: &mut [bool; 255])
 // Marks the states that a step from state s leads to, if it is in the set.
 fn mark_from(form: &[u32], begins: &[usize], from: &[bool; 255], s: usize, set: &mut [bool; 255])
     requires { ⌜ Valid (now form) × ArcStarts (now form) (now begins) × (s ≤ 2 * lettersOf (now form)) × (length (now set) ≡ 255) ⌝ }
-    ensures { λ _. ⌜ Marks (From (view (now (form .entry))) (now (from .entry)) s) (now (set .entry)) (now (set .exit)) ⌝ }
+    ensures { λ _. ⌜ Marks (From (view (old form)) (old from) s) (old set) (new set) ⌝ }
 {
     if from[s] {
         mark_steps(form, begins, s, set);
@@ -109,7 +110,7 @@ fn mark_from(form: &[u32], begins: &[usize], from: &[bool; 255], s: usize, set: 
 // The states that a step from the set leads to.
 pub fn reached(form: &[u32], begins: &[usize], from: &[bool; 255]) -> [bool; 255]
     requires { ⌜ Valid (now form) × ArcStarts (now form) (now begins) × Within (now form) (now from) ⌝ }
-    ensures { λ r. ⌜ Marks (Reached (view (now (form .entry))) (Has (now (from .entry)))) (replicate 255 false) r ⌝ }
+    ensures { λ r. ⌜ Marks (Reached (view (old form)) (Has (old from))) (replicate 255 false) r ⌝ }
 {
     let last = 2 * letters(form);
     let mut set = [false; 255];

@@ -9,7 +9,7 @@ use native.Mathlib.Nat.{mul-le-mul-right}
 use lib.ListN.{length, getD, drop}
 use Rattle.lists.specs.Order.{eq-or-ne}
 use Rattle.lists.specs.Outside.{Outside, outside-none, outside-then, outside-wider, behind-at}
-use Rattle.outcome.specs.Matrix.{Matrix}
+use Rattle.matrix.specs.Matrix.{Matrix}
 use Rattle.automaton.specs.Form.{alphabetOf, view}
 use Rattle.automaton.specs.Valid.{Valid}
 use Rattle.trellis.specs.CostToGo.{CostToGo}

@@ -9,7 +9,7 @@ use lib.ListN.{length, getD, set}
 use lib.Seq.{getD-set-same, getD-set-other}
 use Rattle.lists.specs.Order.{eq-or-ne}
 use Rattle.lists.specs.Outside.{Outside, outside-none, outside-set, outside-then}
-use Rattle.outcome.specs.Matrix.{Matrix}
+use Rattle.matrix.specs.Matrix.{Matrix}
 use Rattle.automaton.specs.Form.{lettersOf, endsOf, view}
 use Rattle.trellis.specs.Extended.{at-letter}
 use Rattle.trellis.specs.Cells.{ending, last-cell}

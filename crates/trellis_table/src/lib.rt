@@ -5,9 +5,10 @@ use trellis_costs::last_cost;
 use trellis_row::fill_row;
 ghost use Prim.Native.Nat.{_+_, _*_, _<_};
 ghost use lib.ListN.{length};
+ghost use Rattle.lists.specs.Memory.{old, new};
 ghost use Rattle.automaton.specs.Form.{lettersOf, view};
 ghost use Rattle.automaton.specs.Valid.{Valid};
-ghost use Rattle.outcome.specs.Matrix.{matrix};
+ghost use Rattle.matrix.specs.Matrix.{matrix};
 ghost use Rattle.trellis.specs.Table.{Row};
 ghost use Rattle.trellis_table.specs.Last.{LastFilled};
 ghost use Rattle.trellis_table.specs.Fill.{states, Sized, RowsFilled, Filled};
@@ -18,7 +19,7 @@ pub use trellis_costs::TOP;
 // Writes the last row, at `base`.
 fn fill_last(form: &[u32], work: &mut [u32], base: usize)
     requires { ⌜ Valid (now form) × (base + 2 * lettersOf (now form) < length (now work)) ⌝ }
-    ensures { λ _. ⌜ LastFilled (now (form .entry)) (now (work .entry)) (now (work .exit)) base ⌝ }
+    ensures { λ _. ⌜ LastFilled (old form) (old work) (new work) base ⌝ }
 {
     let n = 2 * letters(form) + 1;
     let mut s = 0;
@@ -38,7 +39,7 @@ fn fill_rows(
     stride: usize,
 )
     requires { ⌜ Sized (now form) (matrix (now costs) width count) (now work) stride × Row (view (now form)) (matrix (now costs) width count) (now work) (count * stride) count 0 ⌝ }
-    ensures { λ _. ⌜ RowsFilled (now (form .entry)) (matrix (now (costs .entry)) width count) (now (work .entry)) (now (work .exit)) stride 0 ⌝ }
+    ensures { λ _. ⌜ RowsFilled (old form) (matrix (old costs) width count) (old work) (new work) stride 0 ⌝ }
 {
     let begins = starts(form);
     let mut t = count;
@@ -59,7 +60,7 @@ fn fill_rows(
 // Fills the table of costs to go. The answer is the least price, or TOP where there is none.
 pub fn fill(form: &[u32], costs: &[u32], width: usize, count: usize, work: &mut [u32]) -> u32
     requires { ⌜ Sized (now form) (matrix (now costs) width count) (now work) (states (now form)) ⌝ }
-    ensures { λ r. ⌜ Filled (now (form .entry)) (matrix (now (costs .entry)) width count) (now (work .entry)) (now (work .exit)) r ⌝ }
+    ensures { λ r. ⌜ Filled (old form) (matrix (old costs) width count) (old work) (new work) r ⌝ }
 {
     let stride = 2 * letters(form) + 1;
     fill_last(form, work, count * stride);

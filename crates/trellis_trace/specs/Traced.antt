@@ -15,7 +15,7 @@ use Rattle.lists.specs.Marks.{Has, has-none, marks-one}
 use Rattle.automaton.specs.Automaton.{Automaton}
 use Rattle.automaton.specs.Form.{lettersOf, alphabetOf, view}
 use Rattle.automaton.specs.Valid.{Valid, valid-proper}
-use Rattle.outcome.specs.Matrix.{Matrix, cost}
+use Rattle.matrix.specs.Matrix.{Matrix, cost}
 use Rattle.trellis.specs.Impossible.{TOP, plus}
 use Rattle.trellis.specs.CostToGo.{CostToGo}
 use Rattle.trellis.specs.Trace.{BestFrom, Tracing, tracing-start, tracing-more, tracing-all}

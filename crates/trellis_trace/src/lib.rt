@@ -6,8 +6,9 @@ use trellis_column::Front;
 use trellis_column::advance;
 ghost use Prim.Native.Nat.{_≤_};
 ghost use lib.ListN.{length};
+ghost use Rattle.lists.specs.Memory.{old, new};
 ghost use Rattle.automaton.specs.Form.{view};
-ghost use Rattle.outcome.specs.Matrix.{matrix};
+ghost use Rattle.matrix.specs.Matrix.{matrix};
 ghost use Rattle.trellis_trace.specs.Traced.{Ready, Traced};
 
 // Writes the best path, one label for each column. The row of column t begins at base + t * stride of the work memory: rows of several
@@ -23,7 +24,7 @@ pub fn trace(
     path: &mut [u8],
 )
     requires { ⌜ Ready (now form) (matrix (now costs) width count) (now work) base stride × (count ≤ length (now path)) ⌝ }
-    ensures { λ _. ⌜ Traced (view (now (form .entry))) (matrix (now (costs .entry)) width count) (now (path .entry)) (now (path .exit)) ⌝ }
+    ensures { λ _. ⌜ Traced (view (old form)) (matrix (old costs) width count) (old path) (new path) ⌝ }
 {
     let begins = starts(form);
     let states = 2 * letters(form) + 1;

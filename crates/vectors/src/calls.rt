@@ -1,6 +1,7 @@
 // Compile and Judge, Collapse and Spread, the costs of confidences.
 use super::parts;
 use super::show;
+use numbers::wide_word;
 
 // With this memory; the form's length.
 fn compiled(line: &[u8], form: &mut [u32]) -> usize {
@@ -11,7 +12,7 @@ fn compiled(line: &[u8], form: &mut [u32]) -> usize {
         form,
         &mut counts,
     );
-    let words = show::wide(counts[0]);
+    let words = wide_word(counts[0]);
     show::filled(refused, words);
     words
 }
@@ -60,7 +61,7 @@ pub fn labels(name: usize, line: &[u8], given: &[u8]) {
         kavurehy::kavurehy_spread(k, given, &mut memory[..room], &mut counts)
     };
     head(name, given);
-    show::filled(refused, show::wide(counts[0]));
+    show::filled(refused, wide_word(counts[0]));
     filled_bytes(&memory, room);
 }
 
@@ -75,6 +76,6 @@ pub fn costs(line: &[u8], given: &[u8]) {
     let room = parts::room(line, 2, 256);
     let refused = kavurehy::kavurehy_costs(given, &mut memory[..room]);
     head(show::COSTS, given);
-    show::number(show::wide(refused));
+    show::number(wide_word(refused));
     filled_words(&memory, room);
 }

@@ -1,5 +1,6 @@
 // Prints answers and lists on standard output. What is written is compared with the stored output; no contract can speak of it.
 use libc::STDOUT_FILENO;
+use numbers::wide_word;
 
 // The words that are printed, by their places in `say`.
 const SPACE: usize = 0;
@@ -52,10 +53,6 @@ fn byte(x: u8) {
     number(x as usize);
 }
 
-pub fn wide(x: u32) -> usize {
-    x as usize
-}
-
 // The first n bytes of a list, or all.
 pub fn bytes(list: &[u8], n: usize) {
     let mut i = 0;
@@ -76,14 +73,14 @@ pub fn words(list: &[u32], from: usize, to: usize) {
     say(BAR);
     let mut i = from;
     while i < to && i < list.len() {
-        number(wide(list[i]));
+        number(wide_word(list[i]));
         i += 1;
     }
 }
 
 fn named(k: usize, n: u32) {
     say(k);
-    number(wide(n));
+    number(wide_word(n));
 }
 
 // What a call answered that fills one list.

@@ -3,7 +3,7 @@
 use mathlib.Core.Path.{_≡_, refl}
 use mathlib.Core.List.{[], _∷_}
 use mathlib.Core.Bool.{true, false}
-use Rattle.regex.specs.Bytes.{bytes}
+use Rattle.text.specs.Bytes.{bytes}
 use Rattle.sheet_format.specs.Sheet.{onto, pieces}
 use Rattle.vectors_fields.specs.Fields.{fieldOf, value, numbersOf, sizeOf, labelsOf}
 

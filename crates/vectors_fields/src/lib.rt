@@ -1,16 +1,18 @@
 // The fields of a line of text, which have tabs between them, and the numbers in a field, for the program that runs vectors.
+use numbers::wide_word;
 ghost use mathlib.Core.Path.{_≡_};
 ghost use mathlib.Core.Bool.{false};
 ghost use mathlib.Core.List.{map};
 ghost use Prim.Native.Nat.{_-_, _≤_, min};
 ghost use lib.ListN.{length, take, drop};
+ghost use Rattle.lists.specs.Memory.{old, new};
 ghost use Rattle.lists.specs.Written.{Stored, Wrote};
 ghost use Rattle.vectors_fields.specs.Fields.{fieldOf, numbersOf, sizeOf, low, labelsOf, Counts};
 ghost use Rattle.vectors_fields.specs.Numbers.{ended, onward};
 
 // Where field k begins: behind the k-th tab, or at the end.
 fn start(line: &[u8], k: usize) -> usize
-    ensures { λ r. ⌜ (r ≤ length (now (line .entry))) × (fieldOf (drop r (now (line .entry))) 0 ≡ fieldOf (now (line .entry)) k) ⌝ }
+    ensures { λ r. ⌜ (r ≤ length (old line)) × (fieldOf (drop r (old line)) 0 ≡ fieldOf (old line) k) ⌝ }
 {
     let mut at = 0;
     let mut i = 0;
@@ -27,18 +29,11 @@ fn start(line: &[u8], k: usize) -> usize
 
 // Field k of a line.
 pub fn field(line: &[u8], k: usize) -> &[u8]
-    ensures { λ r. ⌜ now r ≡ fieldOf (now (line .entry)) k ⌝ }
+    ensures { λ r. ⌜ now r ≡ fieldOf (old line) k ⌝ }
 {
     let a = start(line, k);
     let e = text::find(line, a, b'\t');
     &line[a..e]
-}
-
-// A number as a size.
-fn wide(x: u32) -> usize
-    ensures { λ r. ⌜ r ≡ x ⌝ }
-{
-    x as usize
 }
 
 // The number with one more digit; none behind a space.
@@ -62,8 +57,8 @@ fn longer(v: u32, hexadecimal: bool, b: u8) -> u32
 // The list with one number more, if the number ends here and there is room.
 fn push(list: &mut [u32], n: usize, v: u32, b: u8) -> usize
     requires { ⌜ n ≤ length (now list) ⌝ }
-    ensures { λ r. ⌜ Stored (take (length (now (list .entry)) - n) (ended b v)) n (now (list .entry)) (now (list .exit)) r ⌝ }
-    ensures { λ r. ⌜ r ≤ length (now (list .exit)) ⌝ }
+    ensures { λ r. ⌜ Stored (take (length (old list) - n) (ended b v)) n (old list) (new list) r ⌝ }
+    ensures { λ r. ⌜ r ≤ length (new list) ⌝ }
 {
     if b != b' ' {
         return n;
@@ -77,8 +72,8 @@ fn push(list: &mut [u32], n: usize, v: u32, b: u8) -> usize
 
 // The numbers of a field go into `list`, as many as it has room for; how many there are.
 pub fn numbers(field: &[u8], hexadecimal: bool, list: &mut [u32]) -> usize
-    ensures { λ r. ⌜ Wrote (take (length (now (list .entry))) (numbersOf hexadecimal (now (field .entry)))) (now (list .entry)) (now (list .exit)) r ⌝ }
-    ensures { λ r. ⌜ Counts r (now (list .exit)) ⌝ }
+    ensures { λ r. ⌜ Wrote (take (length (old list)) (numbersOf hexadecimal (old field))) (old list) (new list) r ⌝ }
+    ensures { λ r. ⌜ Counts r (new list) ⌝ }
 {
     if field.len() == 0 {
         return 0;
@@ -96,19 +91,19 @@ pub fn numbers(field: &[u8], hexadecimal: bool, list: &mut [u32]) -> usize
 
 // One number; a field that begins with `-` is the largest there is.
 pub fn size(field: &[u8]) -> usize
-    ensures { λ r. ⌜ r ≡ sizeOf (now (field .entry)) ⌝ }
+    ensures { λ r. ⌜ r ≡ sizeOf (old field) ⌝ }
 {
     if text::peek(field, 0) == b'-' {
         return 18446744073709551615;
     }
     let mut list = [0u32; 1];
     numbers(field, false, &mut list);
-    wide(list[0])
+    wide_word(list[0])
 }
 
 // So many places of memory, at most `most`.
 pub fn room(field: &[u8], most: usize) -> usize
-    ensures { λ r. ⌜ (r ≡ min (sizeOf (now (field .entry))) most) × (r ≤ most) ⌝ }
+    ensures { λ r. ⌜ (r ≡ min (sizeOf (old field)) most) × (r ≤ most) ⌝ }
 {
     let n = size(field);
     if n < most {
@@ -120,8 +115,8 @@ pub fn room(field: &[u8], most: usize) -> usize
 // The first n numbers as bytes; how many found room.
 fn narrow(list: &[u32], n: usize, bytes: &mut [u8]) -> usize
     requires { ⌜ n ≤ length (now list) ⌝ }
-    ensures { λ r. ⌜ Wrote (take (length (now (bytes .entry))) (map low (take n (now (list .entry))))) (now (bytes .entry)) (now (bytes .exit)) r ⌝ }
-    ensures { λ r. ⌜ r ≤ length (now (bytes .exit)) ⌝ }
+    ensures { λ r. ⌜ Wrote (take (length (old bytes)) (map low (take n (old list)))) (old bytes) (new bytes) r ⌝ }
+    ensures { λ r. ⌜ r ≤ length (new bytes) ⌝ }
 {
     let mut i = 0;
     while i < n {
@@ -136,8 +131,8 @@ fn narrow(list: &[u32], n: usize, bytes: &mut [u8]) -> usize
 
 // The numbers of a field as bytes, at most 256; how many there are.
 pub fn labels(field: &[u8], bytes: &mut [u8]) -> usize
-    ensures { λ r. ⌜ Wrote (take (length (now (bytes .entry))) (labelsOf (now (field .entry)))) (now (bytes .entry)) (now (bytes .exit)) r ⌝ }
-    ensures { λ r. ⌜ Counts r (now (bytes .exit)) ⌝ }
+    ensures { λ r. ⌜ Wrote (take (length (old bytes)) (labelsOf (old field))) (old bytes) (new bytes) r ⌝ }
+    ensures { λ r. ⌜ Counts r (new bytes) ⌝ }
 {
     let mut list = [0u32; 256];
     let n = numbers(field, false, &mut list);

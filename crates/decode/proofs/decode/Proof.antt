@@ -36,20 +36,20 @@ use denote.Triple.Table.{entered, cited}
 use denote.Triple.Walked.{says}
 use denote.Triple.Clauses.{ensured, Lasts, lasts}
 use Rattle.answers.specs.Decoded.{reported}
-use Rattle.outcome.specs.Matrix.{matrix, Matrix as Value}
-use Rattle.decode.specs.View.{value}
+use Rattle.matrix.specs.Matrix.{matrix, Matrix as Value}
+use Rattle.matrix.specs.View.{value}
 use Rattle.decode.specs.Promise.{Decodes}
-use Rattle.decode.specs.declared.Matrix.{Matrix}
+use Rattle.matrix.specs.declared.Matrix.{Matrix}
 use Rattle.answers.specs.declared.Decoded.{Decoded}
-use Rattle.decode.proofs.PassedOn.{After, ends, passed-meets}
-use Rattle.decode.proofs.Matrix as T
-use Rattle.decode.proofs.Matrix.Laws as T′
+use Rattle.matrix.proofs.PassedOn.{After, ends, passed-meets}
+use Rattle.matrix.proofs.Matrix as T
+use Rattle.matrix.proofs.Matrix.Laws as T′
 use Rattle.answers.proofs.Decoded as S
 use Rattle.answers.proofs.Decoded.Laws as S′
-use Rattle.decode.proofs.matrix_of as maker
-use Rattle.decode.proofs.matrix_of.Symbol as maker-def
-use Rattle.decode.proofs.matrix_of.Symbol.{name as #maker}
-use Rattle.decode.proofs.matrix_of.Met as maker-thm
+use Rattle.matrix.proofs.matrix_of as maker
+use Rattle.matrix.proofs.matrix_of.Symbol as maker-def
+use Rattle.matrix.proofs.matrix_of.Symbol.{name as #maker}
+use Rattle.matrix.proofs.matrix_of.Met as maker-thm
 use Rattle.decode.proofs.decode_matrix as callee
 use Rattle.decode.proofs.decode_matrix.Symbol as callee-def
 use Rattle.decode.proofs.decode_matrix.Symbol.{name as #callee}
@@ -214,5 +214,5 @@ decode-spec 𝓤 H 𝓜 𝓖 𝓡 =
     entered 𝓤 H (tripleOf 𝓤 H (𝓖 .A) caller.signature (caller.spec 𝓤 H (𝓖 .A) (𝓜 .mem) (𝓡 .run)))
     (tables 𝓤 H 𝓜 𝓡 code.env .C) (tables 𝓤 H 𝓜 𝓡 code.env .Λ) #caller code.function (code.unfolded 𝓤 H 𝓜 𝓡)
     (meets 𝓤 H (𝓖 .A) (givenOf 𝓤 H 𝓜 𝓖) (𝓜 .mem) (𝓡 .run) (tablesOf 𝓤 H 𝓜 (tables 𝓤 H 𝓜 𝓡 code.env))
-    (cited 𝓤 H (Maker 𝓤 H (𝓖 .A) (𝓜 .mem) (𝓡 .run)) 𝓜 𝓡 code.env #maker maker-def.routine code.calls-decode·matrix-of (maker-thm.met 𝓤 H 𝓜 𝓖 𝓡))
+    (cited 𝓤 H (Maker 𝓤 H (𝓖 .A) (𝓜 .mem) (𝓡 .run)) 𝓜 𝓡 code.env #maker maker-def.routine code.calls-matrix·matrix-of (maker-thm.met 𝓤 H 𝓜 𝓖 𝓡))
     (cited 𝓤 H (Callee 𝓤 H (𝓖 .A) (𝓜 .mem) (𝓡 .run)) 𝓜 𝓡 code.env #callee callee-def.routine code.calls-decode·decode-matrix (callee-thm.met 𝓤 H 𝓜 𝓖 𝓡)))

@@ -35,14 +35,14 @@ use denote.Triple.Table.{entered, cited}
 use denote.Triple.Walked.{says}
 use denote.Triple.Clauses.{ensured, Lasts, lasts}
 use Rattle.answers.specs.Decoded.{reported}
-use Rattle.decode.specs.View.{value}
+use Rattle.matrix.specs.View.{value}
 use Rattle.decode.specs.Promise.{Decodes}
-use Rattle.decode.specs.declared.Matrix.{Matrix}
+use Rattle.matrix.specs.declared.Matrix.{Matrix}
 use Rattle.answers.specs.declared.Decoded.{Decoded}
-use Rattle.decode.proofs.PassedOn.{After, ends, passed-meets}
-use Rattle.decode.proofs.View.{field-types, fields, machine, apart, typed}
-use Rattle.decode.proofs.Matrix as T
-use Rattle.decode.proofs.Matrix.Laws as T′
+use Rattle.matrix.proofs.PassedOn.{After, ends, passed-meets}
+use Rattle.matrix.proofs.View.{field-types, fields, machine, apart, typed}
+use Rattle.matrix.proofs.Matrix as T
+use Rattle.matrix.proofs.Matrix.Laws as T′
 use Rattle.answers.proofs.Decoded as S
 use Rattle.answers.proofs.Decoded.Laws as S′
 use Rattle.decode.proofs.decode_parts as callee

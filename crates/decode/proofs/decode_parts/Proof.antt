@@ -9,7 +9,7 @@ use Rattle.refusal.specs.declared.Refusal.the-variants.{BadForm}
 use Rattle.refusal.specs.Verdict.{first-refusal, first-holds, first-fails}
 use Rattle.automaton.specs.Form.{validForm, alphabetOf, lettersOf}
 use Rattle.automaton.specs.Valid.{valid-at}
-use Rattle.outcome.specs.Matrix.{Matrix, matrix}
+use Rattle.matrix.specs.Matrix.{Matrix, matrix}
 use Rattle.decode_checks.specs.Checks.{matrix-checks, decode-checks}
 use Rattle.decode_checks.specs.Passing.{fits}
 use Rattle.decode_valid.specs.Answers.{Lent, rooms, DecodeAnswers, checks-refused, checks-passed}

@@ -6,7 +6,7 @@ use borrow.Author.Needs.{needs}
 use borrow.Author.Tests.{not-true, not-false}
 use denote.Ref.{now}
 use Rattle.lists.specs.Each.{all}
-use Rattle.outcome.specs.Matrix.{Matrix}
+use Rattle.matrix.specs.Matrix.{Matrix}
 use Rattle.decode_checks.specs.Checks.{Rooms, matrix-fault, passes}
 use Rattle.decode_checks.specs.Passing.{sized, needed-most, refused-matrix, refused-cost, refused-path, refused-word, refused-work, all-passed}
 use Rattle.decode_checks.proofs.check_matrix.Statement.{statement}

@@ -5,7 +5,7 @@ use native.Mathlib.Nat.{mul-le-mul}
 use native.Mathlib.Omega.{arith}
 use borrow.Author.Needs.{needs}
 use denote.Ref.{now}
-use Rattle.outcome.specs.Matrix.{Matrix}
+use Rattle.matrix.specs.Matrix.{Matrix}
 use Rattle.decode_checks.specs.Passing.{fault-count, fault-width, fault-length}
 use Rattle.decode_checks.proofs.has_fault.Statement.{statement}
 use Rattle.decode_checks.proofs.has_fault.Tie as tie

@@ -23,6 +23,9 @@ returns c =
     let w = a .w in
     sym (ap (λ t. t && in-range 1 (a .l) (source w) && in-range 1 (a .l) (target w)) (ne-eqb w (arcWord (source w) (target w)) (c .if1 .taken)))
 
+cast-in-range : tie.Need-cast-in-range
+cast-in-range c = search needs
+
 in-range-requires : tie.Need-in-range-requires
 in-range-requires c κs = search needs
 
@@ -34,6 +37,9 @@ returns-2 c =
     (ap₂ (λ s t. s && t && in-range 1 (a .l) (target w))
     (eq-eqb w (arcWord (source w) (target w)) (c .before .before .if1 .left))
     (sym (c .before .in-range .ensures) ∙ not-true _ (c .if2 .taken)))
+
+cast-in-range-2 : tie.Need-cast-in-range-2
+cast-in-range-2 c = search needs
 
 in-range-requires-2 : tie.Need-in-range-requires-2
 in-range-requires-2 c κs = search needs
@@ -56,7 +62,7 @@ is-arc-spec =
     add-if1
     add-if1-2
     returns
-    in-range-requires
+    cast-in-range in-range-requires
     returns-2
-    in-range-requires-2
+    cast-in-range-2 in-range-requires-2
     returns-3)

@@ -30,6 +30,9 @@ returns c =
     let w = c .before .args .w in
     sym (ap (λ t. t && in-range 1 127 (byte0 w) && in-range 1 95 (byte2 w)) (ne-eqb w (headWord (byte0 w) (bit8 w) (byte2 w)) (λ e. c .if1 .taken (e ∙ head-sum w))))
 
+cast-in-range : tie.Need-cast-in-range
+cast-in-range c = search needs
+
 in-range-requires : tie.Need-in-range-requires
 in-range-requires c κs = search needs
 
@@ -38,6 +41,9 @@ returns-2 c =
     let w = c .before .before .before .args .w in
     let same : eqb w (headWord (byte0 w) (bit8 w) (byte2 w)) ≡ true = eq-eqb w (headWord (byte0 w) (bit8 w) (byte2 w)) (c .before .before .if1 .left ∙ sym (head-sum w)) in
     sym (ap₂ (λ s t. s && t && in-range 1 95 (byte2 w)) same (sym (c .before .in-range .ensures) ∙ not-true _ (c .if2 .taken)))
+
+cast-in-range-2 : tie.Need-cast-in-range-2
+cast-in-range-2 c = search needs
 
 in-range-requires-2 : tie.Need-in-range-requires-2
 in-range-requires-2 c κs = search needs
@@ -59,7 +65,7 @@ is-head-spec =
     add-if1-2
     add-if1-3
     returns
-    in-range-requires
+    cast-in-range in-range-requires
     returns-2
-    in-range-requires-2
+    cast-in-range-2 in-range-requires-2
     returns-3)

@@ -30,6 +30,9 @@ returns c =
     let w = a .w in
     sym (ap (λ t. t && in-range 1 (a .k) (byte0 w)) (ne-eqb w (letterWord (byte0 w) (bit8 w) (bit9 w)) (λ e. c .if1 .taken (e ∙ letter-sum w))))
 
+cast-in-range : tie.Need-cast-in-range
+cast-in-range c = search needs
+
 in-range-requires : tie.Need-in-range-requires
 in-range-requires c κs = search needs
 
@@ -43,4 +46,4 @@ returns-2 c =
 pub is-letter-spec : {M : Type 1} → statement M
 is-letter-spec =
     tie.close
-    (tie.spec mul-if1 add-if1 mul-if1-2 add-if1-2 add-if1-3 returns in-range-requires returns-2)
+    (tie.spec mul-if1 add-if1 mul-if1-2 add-if1-2 add-if1-3 returns cast-in-range in-range-requires returns-2)

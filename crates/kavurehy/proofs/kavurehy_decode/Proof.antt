@@ -2,7 +2,7 @@
 use borrow.Author.Needs.{needs}
 use denote.Ref.{now}
 use Rattle.answers.specs.Decoded.{reported}
-use Rattle.outcome.specs.Matrix.{matrix}
+use Rattle.matrix.specs.Matrix.{matrix}
 use Rattle.decode_valid.specs.Answers.{Lent}
 use Rattle.kavurehy.specs.Bounds.{decode-fits}
 use Rattle.kavurehy.proofs.kavurehy_decode.Statement.{statement}

@@ -33,8 +33,8 @@ loop-holds c =
       subst (λ t. Filling (take (a .n) l ++ labelsIn A s) l l t (a .n)) (labels-first A s) (filling-from (labelsIn A s) l (a .n) (c .before .before .before .pre .1 .1)),
     )
 
-narrow-requires : tie.Need-narrow-requires Inv-loop μ-loop
-narrow-requires c κs = let h = c .before .before .before .before .before .before .pre .1 .0 in omega arith
+narrow-byte-requires : tie.Need-narrow-byte-requires Inv-loop μ-loop
+narrow-byte-requires c κs = let h = c .before .before .before .before .before .before .pre .1 .0 in omega arith
 
 sub-member : tie.Need-sub-member Inv-loop μ-loop
 sub-member c = omega arith
@@ -55,7 +55,7 @@ put-label-requires c κs =
     let x = l .label in
     let q = filling-room (take (a .n) f ++ labelsIn A s) f (keeping (passes A s x) x []) (l .labels) (labelsFrom A s (x + 1)) (l .m)
     (rw (labels-here A s x (omega arith)) at (l .inv .2)) in
-    rw (c .member .ensures, c .before .before .narrow .ensures) q
+    rw (c .member .ensures, c .before .before .narrow-byte .ensures) q
 
 add-label : tie.Need-add-label Inv-loop μ-loop
 add-label c = omega arith
@@ -76,7 +76,7 @@ loop-again c =
       omega arith,
       filling-stored (take (a .n) f ++ labelsIn A s) f (keeping (passes A s x) x []) (l .labels) (put .last .0) (labelsFrom A s (x + 1)) (l .m) (put .result)
           (rw (labels-here A s x (omega arith)) at (l .inv .2))
-          (rw (c .before .before .before .member .ensures, c .before .before .before .before .before .narrow .ensures) at (put .ensures)),
+          (rw (c .before .before .before .member .ensures, c .before .before .before .before .before .narrow-byte .ensures) at (put .ensures)),
     )
 
 same-length : tie.Need-same-length Inv-loop μ-loop
@@ -104,7 +104,7 @@ write-labels-spec =
     Inv-loop
     μ-loop
     loop-holds
-    narrow-requires
+    narrow-byte-requires
     sub-member
     shared-slice-read-member
     member-requires

@@ -35,12 +35,12 @@ use denote.Triple.Table.{entered, cited}
 use denote.Triple.Walked.{says}
 use denote.Triple.Clauses.{ensured, Lasts, lasts}
 use Rattle.answers.specs.Reading.{reported}
-use Rattle.decode.specs.View.{value}
-use Rattle.decode.specs.declared.Matrix.{Matrix}
-use Rattle.decode.proofs.PassedOn.{After, ends, passed-meets}
-use Rattle.decode.proofs.View.{field-types, fields, machine, apart, typed}
-use Rattle.decode.proofs.Matrix as T
-use Rattle.decode.proofs.Matrix.Laws as T′
+use Rattle.matrix.specs.View.{value}
+use Rattle.matrix.specs.declared.Matrix.{Matrix}
+use Rattle.matrix.proofs.PassedOn.{After, ends, passed-meets}
+use Rattle.matrix.proofs.View.{field-types, fields, machine, apart, typed}
+use Rattle.matrix.proofs.Matrix as T
+use Rattle.matrix.proofs.Matrix.Laws as T′
 use Rattle.read_text.specs.Promise.{Reads}
 use Rattle.answers.specs.declared.Reading.{Reading}
 use Rattle.answers.proofs.Reading as S

@@ -4,7 +4,7 @@ use lib.ListN.{length}
 use denote.Ref.{now}
 use Rattle.refusal.specs.Verdict.{first-refusal}
 use Rattle.automaton.specs.Form.{lettersOf}
-use Rattle.outcome.specs.Matrix.{Matrix, matrix}
+use Rattle.matrix.specs.Matrix.{Matrix, matrix}
 use Rattle.decode_checks.specs.Checks.{matrix-checks}
 use Rattle.decode_checks.specs.Passing.{Fits, fits}
 use Rattle.decode_valid.specs.Answers.{Lent, rooms, checks-refused, checks-passed}

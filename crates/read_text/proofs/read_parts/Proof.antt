@@ -7,7 +7,7 @@ use lib.Seq.{length-take-le}
 use denote.Ref.{now}
 use Rattle.refusal.specs.Report.{reported as counted, Fills}
 use Rattle.automaton.specs.Valid.{valid-at}
-use Rattle.outcome.specs.Matrix.{Matrix, matrix}
+use Rattle.matrix.specs.Matrix.{Matrix, matrix}
 use Rattle.compile.specs.Call.{compile-call}
 use Rattle.decode_valid.specs.Answers.{Lent}
 use Rattle.read_text.specs.Steps.{Compiled, compiled, compiled-fits, compiled-form, compiled-text, reads-refused, reads-form}

@@ -3,7 +3,7 @@ use Prim.Native.Nat.{_+_}
 use mathlib.Core.Path.{ap, _∙_, subst}
 use denote.Ref.{now}
 use Rattle.answers.specs.Decoded.{reported as decoded}
-use Rattle.outcome.specs.Matrix.{Matrix, matrix}
+use Rattle.matrix.specs.Matrix.{Matrix, matrix}
 use Rattle.decode_valid.specs.Answers.{Lent, DecodeAnswers}
 use Rattle.read_valid.specs.Words.{read-none, read-labels, read-characters}
 use borrow.Author.Needs.{needs}

@@ -2,8 +2,8 @@
 use borrow.Author.Needs.{needs}
 use denote.Ref.{now}
 use mathlib.Core.Path.{ap, _∙_}
-use Rattle.regex.specs.Bytes.{bytes}
-use Rattle.regex.specs.Text.{one-of}
+use Rattle.text.specs.Bytes.{bytes}
+use Rattle.text.specs.Text.{one-of}
 use Rattle.regex_items.specs.Items.{opens-not, opens-by}
 use Rattle.regex_items.proofs.opens_class.Statement.{statement}
 use Rattle.regex_items.proofs.opens_class.Tie as tie

@@ -7,7 +7,7 @@ use lib.ListN.{length, drop}
 use Rattle.regex.specs.Letters.{labelsOf}
 use Rattle.regex.specs.Tree.{member}
 use Rattle.regex_set.specs.Answers.{setAt}
-use Rattle.regex_set.specs.Sets.{labels-none, labels-more, labels-end, at-most-one}
+use Rattle.regex_set.specs.Sets.{labels-none, labels-more, labels-end}
 use Rattle.regex_set.proofs.count_labels.Statement.{statement}
 use Rattle.regex_set.proofs.count_labels.Tie as tie
 
@@ -35,7 +35,7 @@ one-if-requires : tie.Need-one-if-requires Inv-loop μ-loop
 one-if-requires c κs = tt
 
 add-n : tie.Need-add-n Inv-loop μ-loop
-add-n c = let o = at-most-one _ (c .before .member .result) (c .one-if .ensures) in omega arith
+add-n c = let o = c .one-if .ensures .1 in omega arith
 
 add-i : tie.Need-add-i Inv-loop μ-loop
 add-i c = omega arith
@@ -50,10 +50,10 @@ loop-again c =
     let A = now (start .args .alphabet) in
     let s = setAt (now (start .args .text)) (start .args .at) in
     let l = at-loop .loop in
-    let o = at-most-one _ (c .before .member .result) (c .one-if .ensures) in (
+    let o = c .one-if .ensures .1 in (
       omega arith,
       omega arith,
-      rw (c .one-if .ensures, c .before .member .ensures)
+      rw (c .one-if .ensures .0, c .before .member .ensures)
           (labels-more A s (l .i) (l .n) (omega arith) (l .inv .2)),
     )
 

@@ -9,7 +9,7 @@ use lib.Seq.{length-take-le}
 use denote.Ref.{now}
 use borrow.Author.Needs.{needs}
 use Rattle.refusal.specs.declared.Refusal.the-variants.{Sheet}
-use Rattle.outcome.specs.Matrix.{matrix}
+use Rattle.matrix.specs.Matrix.{matrix}
 use Rattle.sheet_scan.specs.Answers.{Scans}
 use Rattle.sheet_lines.specs.Lines.{refusal-line}
 use Rattle.sheet_lines.specs.Lengths.{refusal-short}

@@ -6,7 +6,7 @@ use native.Mathlib.Omega.{arith}
 use lib.ListN.{length}
 use denote.Ref.{now}
 use borrow.Author.Needs.{needs}
-use Rattle.regex.specs.Bytes.{bytes}
+use Rattle.text.specs.Bytes.{bytes}
 use Rattle.refusal.specs.Number.{numberOf}
 use Rattle.sheet_decimal.specs.Numerals.{decimal}
 use Rattle.sheet_decimal.specs.Pieces.{back-room, both-stored}

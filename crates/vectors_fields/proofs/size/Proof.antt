@@ -24,18 +24,18 @@ slice-aggregate-numbers c = search needs
 numbers-requires : tie.Need-numbers-requires
 numbers-requires c κs = search needs
 
-array-read-wide : tie.Need-array-read-wide
-array-read-wide c = search needs
+array-read-wide-word : tie.Need-array-read-wide-word
+array-read-wide-word c = search needs
 
-wide-requires : tie.Need-wide-requires
-wide-requires c κs = search needs
+wide-word-requires : tie.Need-wide-word-requires
+wide-word-requires c κs = search needs
 
 returns-2 : tie.Need-returns-2
 returns-2 c =
     let numbers = c .before .before .numbers in
     let f = now (c .before .before .before .before .before .before .before .args .field) in
     let other = ne-eqb (getD f 0 0) 45 (λ e. c .before .before .before .before .if1 .left (c .before .before .before .before .before .peek .ensures ∙ e)) in
-    rw other (c .wide .ensures ∙ ap (λ l. getD l 0 0) (numbers .ensures .0 .memory) ∙ first-number (numbersOf false f))
+    rw other (c .wide-word .ensures ∙ ap (λ l. getD l 0 0) (numbers .ensures .0 .memory) ∙ first-number (numbersOf false f))
 
 pub size-spec : {M : Type 1} → statement M
 size-spec =
@@ -45,6 +45,6 @@ size-spec =
     returns
     slice-aggregate-numbers
     numbers-requires
-    array-read-wide
-    wide-requires
+    array-read-wide-word
+    wide-word-requires
     returns-2)

@@ -1,4 +1,4 @@
--- `decode::matrix_of` meets its contract, shown statement by statement: the view is put together in the result's place, and owns what the
+-- `matrix::matrix_of` meets its contract, shown statement by statement: the view is put together in the result's place, and owns what the
 -- parameters owned. Assumes nothing.
 use mathlib.Core.Path.{refl}
 use mathlib.Core.List.{[], _∷_}
@@ -29,14 +29,14 @@ use denote.Triple.Entry.{Args, Vals, alive, onEntry}
 use denote.Triple.Spec.{Meets, tripleOf}
 use denote.Triple.Table.{entered}
 use denote.Triple.Walked.{says}
-use Rattle.decode.specs.declared.Matrix.{Matrix}
-use Rattle.decode.proofs.PassedOn.{After, ends, passed-meets}
-use Rattle.decode.proofs.Matrix as T
-use Rattle.decode.proofs.Matrix.Laws as T′
-use Rattle.decode.proofs.matrix_of.Key.{name as #maker}
-use Rattle.decode.proofs.matrix_of as maker
-use Rattle.decode.proofs.matrix_of.Statement as stated
-use Rattle.decode.proofs.matrix_of.Code as code
+use Rattle.matrix.specs.declared.Matrix.{Matrix}
+use Rattle.matrix.proofs.PassedOn.{After, ends, passed-meets}
+use Rattle.matrix.proofs.Matrix as T
+use Rattle.matrix.proofs.Matrix.Laws as T′
+use Rattle.matrix.proofs.matrix_of.Key.{name as #maker}
+use Rattle.matrix.proofs.matrix_of as maker
+use Rattle.matrix.proofs.matrix_of.Statement as stated
+use Rattle.matrix.proofs.matrix_of.Code as code
 
 -- how the parameters' values are spelled
 abbrev spelled : (κs : Lfts 1) → Spells (typesAt (maker.signature .params) κs)

@@ -1,7 +1,7 @@
--- `form_check::in_range` meets its contract, by its two tests. Assumes nothing.
+-- `numbers::in_range` meets its contract, by its two tests. Assumes nothing.
 use borrow.Author.Tests.{lt-leb, le-leb}
-use Rattle.form_check.proofs.in_range.Statement.{statement}
-use Rattle.form_check.proofs.in_range.Tie as tie
+use Rattle.numbers.proofs.in_range.Statement.{statement}
+use Rattle.numbers.proofs.in_range.Tie as tie
 
 returns : tie.Need-returns
 returns c = simp (lt-leb _ _ (c .if1 .taken))

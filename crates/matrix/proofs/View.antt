@@ -18,9 +18,9 @@ use denote.Ref.{NamedLft}
 use denote.Slice.{sliceVal, ShrSlice}
 use denote.Struct.Laws as LL
 use denote.Struct.Rest.{all-own, own-open}
-use Rattle.decode.specs.declared.Matrix.{Matrix}
-use Rattle.decode.proofs.Matrix as T
-use Rattle.decode.proofs.Matrix.Laws as T′
+use Rattle.matrix.specs.declared.Matrix.{Matrix}
+use Rattle.matrix.proofs.Matrix as T
+use Rattle.matrix.proofs.Matrix.Laws as T′
 
 module _ (α : NamedLft) (d : Matrix) where
   abbrev pub field-types : List RattleType

@@ -2,8 +2,8 @@
 -- Used by the contracts and the proofs; in read.
 use mathlib.Core.Path.{_≡_, refl}
 use denote.Ref.{now}
-use Rattle.outcome.specs.Matrix.{Matrix, matrix}
-use Rattle.decode.specs.declared.Matrix.{Matrix as View}
+use Rattle.matrix.specs.Matrix.{Matrix, matrix}
+use Rattle.matrix.specs.declared.Matrix.{Matrix as View}
 
 abbrev pub value : View → Matrix
 value v = matrix (now (v .costs)) (v .width) (v .count)

@@ -1,0 +1,62 @@
+// Small functions on numbers: between bytes, 32-bit words and sizes; the lesser of two; a range; a truth as a number.
+ghost use mathlib.Core.Path.{_≡_};
+ghost use mathlib.Core.Bool.{cond};
+ghost use Prim.Native.Nat.{_<_, _≤_, min};
+ghost use Rattle.lists.specs.Ranges.{in-range};
+
+// A byte as a size.
+pub fn wide(x: u8) -> usize
+    ensures { λ r. ⌜ r ≡ x ⌝ }
+{
+    x as usize
+}
+
+// A 32-bit word as a size.
+pub fn wide_word(x: u32) -> usize
+    ensures { λ r. ⌜ r ≡ x ⌝ }
+{
+    x as usize
+}
+
+// A size as a 32-bit word.
+pub fn narrow(x: usize) -> u32
+    requires { ⌜ x < 4294967296 ⌝ }
+    ensures { λ r. ⌜ r ≡ x ⌝ }
+{
+    x as u32
+}
+
+// A size as a byte.
+pub fn narrow_byte(x: usize) -> u8
+    requires { ⌜ x < 256 ⌝ }
+    ensures { λ r. ⌜ r ≡ x ⌝ }
+{
+    x as u8
+}
+
+// 1 if it holds, else 0.
+pub fn one_if(b: bool) -> usize
+    ensures { λ r. ⌜ (r ≡ cond b 1 0) × (r ≤ 1) ⌝ }
+{
+    if b { 1 } else { 0 }
+}
+
+// The lesser of two.
+pub fn least(a: u32, b: u32) -> u32
+    ensures { λ r. ⌜ r ≡ min a b ⌝ }
+{
+    if b < a {
+        return b;
+    }
+    a
+}
+
+// Is x from `low` to `high`?
+pub fn in_range(low: usize, high: usize, x: usize) -> bool
+    ensures { λ r. ⌜ r ≡ in-range low high x ⌝ }
+{
+    if x < low {
+        return false;
+    }
+    x <= high
+}
