@@ -6,9 +6,7 @@ use mathlib.Core.Bool.{Bool, true, not, _&&_}
 use mathlib.Core.List.{List, [], _∷_}
 use lib.ListN.{length}
 use lib.Dec.{eqb}
-use Rattle.lists.specs.Ranges.{in-range}
-use Rattle.lists.specs.Each.{all}
-use Rattle.lists.specs.Among.{any}
+use Rattle.lists.specs.Lists.{in-range, all, any}
 use Rattle.refusal.specs.declared.Refusal.the-variants.{Alphabet, TextLength, TextByte}
 use Rattle.refusal.specs.Verdict.{Check, check}
 

@@ -1,4 +1,4 @@
 pub mod Alphabet
 pub mod Tests
-pub mod Turns
+pub mod Loops
 pub mod Examples

@@ -7,12 +7,13 @@ use mathlib.Core.List.{List, [], _∷_}
 use lib.ListN.{length}
 use lib.Dec.{leb}
 use borrow.Author.Tests.{leb-true, not-false}
-use Rattle.lists.specs.Ranges.{in-range, range-below, range-above, range-inside}
-use Rattle.lists.specs.Each.{all}
-use Rattle.lists.specs.Order.{and-left, and-right}
+use Rattle.lists.specs.RangeLaws.{range-below, range-above, range-inside}
+use Rattle.lists.specs.Lists.{in-range, all}
+use Rattle.lists.specs.OrderLaws.{and-left, and-right}
 use Rattle.refusal.specs.declared.Refusal.the-variants.{Alphabet, TextLength, TextByte}
 use Rattle.refusal.specs.declared.Checked.the-variants.{Passed, Refused}
-use Rattle.refusal.specs.Verdict.{Check, check, first-refusal, first-holds, first-fails, first-passed}
+use Rattle.refusal.specs.Verdict.{Check, check, first-refusal}
+use Rattle.refusal.specs.VerdictLaws.{first-holds, first-fails, first-passed}
 use Rattle.alphabet.specs.Alphabet.{distinct, is-alphabet, text-checks}
 
 module _ (A : List ℕ) where

@@ -6,7 +6,7 @@ ghost use mathlib.Core.Path.{_≡_};
 ghost use lib.ListN.{drop};
 ghost use lib.Dec.{eqb};
 ghost use Rattle.lists.specs.Memory.{old};
-ghost use Rattle.lists.specs.Among.{any};
+ghost use Rattle.lists.specs.Lists.{any};
 ghost use Rattle.refusal.specs.Verdict.{first-refusal};
 ghost use Rattle.alphabet.specs.Alphabet.{distinct, is-alphabet, text-checks};
 

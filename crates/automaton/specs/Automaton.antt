@@ -1,7 +1,7 @@
 -- An automaton by its parts, its walks, and the words that it accepts (document 01, "Opening and the compiled form").
 -- Letters are numbered from 1; 0 stands for 'no letter yet'. Assumes nothing.
 -- Used by 6 files of specs/; in 15 other crates.
-use Prim.Native.Nat.{ℕ, _≤_}
+use Prim.Native.Nat.{ℕ}
 use mathlib.Core.Path.{_≡_}
 use mathlib.Core.Bool.{Bool, true}
 use mathlib.Core.List.{List, [], _∷_, map}
@@ -29,8 +29,3 @@ Spells A i w = (js : List ℕ) × Walk A i js × (spelt A js ≡ w)
 
 abbrev pub Accepts : Automaton → List ℕ → Type 0
 Accepts A w = Spells A 0 w
-
--- arcs lead to letters, and letters have labels 1 to k
-pub record Proper (k : ℕ) (A : Automaton) : Type 0 where
-  pub target : (i j : ℕ) → A .follow i j ≡ true → (1 ≤ j) × (j ≤ A .letters)
-  pub labelled : (j : ℕ) → 1 ≤ j → j ≤ A .letters → (1 ≤ A .label j) × (A .label j ≤ k)

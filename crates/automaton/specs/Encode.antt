@@ -11,18 +11,17 @@ use lib.Dec.{eqb}
 use lib.ListN.{length, getD, drop, length-append, length-map, take-append-drop}
 use lib.Seq.{take-at, drop-at, drop-cons, drop-drop, ext-getD, getD-take, getD-drop}
 use borrow.Author.Tests.{eq-eqb, eqb-true}
-use Rattle.lists.specs.Order.{same-truth, and-left, and-right, and-both}
-use Rattle.lists.specs.Each.{Each}
-use Rattle.lists.specs.Among.{Among, any, keep, any-among, among-any, among-each, each-among, among-map, map-among, among-keep, keep-among, among-flat, flat-among}
-use Rattle.lists.specs.Ascending.{numbers, length-numbers, map-numbers-at, among-numbers, numbers-among}
-use Rattle.lists.specs.Ascending.{Ascending, ascending-numbers, ascending-keep, ascending-map, ascending-flat, ascending-same}
-use Rattle.automaton.specs.Automaton.{Automaton, Proper, Accepts}
-use Rattle.automaton.specs.Accepted.{Agree, agree-accepts}
-use Rattle.automaton.specs.Form.{headWord, letterWord, arcWord, byte0, bit8, bit9, source, target, validForm, lettersOf, alphabetOf, labelOf}
-use Rattle.automaton.specs.Form.{letterWords, arcWords, followOf, endsOf, leads, view, letterOf, arcsFrom, encode}
+use Rattle.lists.specs.OrderLaws.{same-truth, and-left, and-right, and-both}
+use Rattle.lists.specs.Lists.{Each, Among, any, keep, numbers, Ascending}
+use Rattle.lists.specs.AmongLaws.{any-among, among-any, among-each, each-among, among-map, map-among, among-keep, keep-among, among-flat, flat-among}
+use Rattle.lists.specs.AscendingLaws.{length-numbers, map-numbers-at, among-numbers, numbers-among, ascending-numbers, ascending-keep, ascending-map, ascending-flat, ascending-same}
+use Rattle.automaton.specs.Automaton.{Automaton, Accepts}
+use Rattle.automaton.specs.Proper.{Proper}
+use Rattle.automaton.specs.AcceptedLaws.{Agree, agree-accepts}
+use Rattle.automaton.specs.Form.{headWord, letterWord, arcWord, byte0, bit8, bit9, source, target, validForm, lettersOf, alphabetOf, labelOf, letterWords, arcWords, followOf, endsOf, leads, view, letterOf, arcsFrom, encode}
 use Rattle.automaton.specs.Words.{Head, Letter, Arc, head-fields, letter-fields, arc-fields}
-use Rattle.automaton.specs.Valid.{Parts, Valid, valid-parts, parts-valid, valid-at, view-proper}
-use Rattle.automaton.specs.Valid.{may-be-first, may-be-last, letter-at, length-letterWords, follow-arc, arc-among, among-follow}
+use Rattle.automaton.specs.Valid.{Valid}
+use Rattle.automaton.specs.ValidLaws.{Parts, valid-parts, parts-valid, valid-at, view-proper, may-be-first, may-be-last, letter-at, length-letterWords, follow-arc, arc-among, among-follow}
 
 -- a word of an automaton's arcs
 record ArcOf (A : Automaton) (w : ℕ) : Type 0 where

@@ -6,13 +6,11 @@ use mathlib.Core.Bool.{true, false, _&&_, _||_}
 use mathlib.Core.List.{List, [], _∷_, _++_, map, flatMap}
 use lib.ListN.{replicate}
 use lib.Dec.{eqb}
-use Rattle.lists.specs.Ranges.{in-range}
-use Rattle.lists.specs.Each.{all}
-use Rattle.lists.specs.Among.{any, keep}
-use Rattle.lists.specs.Ascending.{numbers}
+use Rattle.lists.specs.Lists.{in-range, all, any, keep, numbers}
 use Rattle.automaton.specs.Automaton.{Automaton}
 use Rattle.automaton.specs.Accepted.{spells, accepts}
 use Rattle.automaton.specs.Form.{lettersOf, alphabetOf, labelOf, ordered, validForm, followOf, endsOf, view, encode}
+use Rattle.automaton.specs.Arrays.{arrayed}
 
 -- Three automata over the alphabet `ab`: letter 1 is the a, letter 2 the b.
 
@@ -104,3 +102,13 @@ no-forms =
 valid : (all validForm forms ≡ true) × (any validForm no-forms ≡ false)
 unfolding forms no-forms all any validForm ordered
 valid = (refl, refl)
+
+-- the same `ab*` by arrays, with a third entry that says nothing
+unfoldable pub ab*-by-arrays : Automaton
+ab*-by-arrays =
+    arrayed 2 false (1 ∷ 2 ∷ 9 ∷ []) (true ∷ false ∷ true ∷ []) (true ∷ true ∷ true ∷ [])
+    ((false ∷ true ∷ true ∷ []) ∷ (false ∷ true ∷ true ∷ []) ∷ (true ∷ true ∷ true ∷ []) ∷ [])
+
+by-arrays : encode 2 ab*-by-arrays ≡ form
+unfolding encode keep numbers flatMap arrayed ab*-by-arrays
+by-arrays = refl

@@ -8,12 +8,12 @@ use mathlib.Core.Logic.{_↔_}
 use mathlib.Core.List.{List, [], _∷_, map}
 use native.Mathlib.Omega.{arith}
 use lib.ListN.{getD}
-use Rattle.lists.specs.Each.{Each}
-use Rattle.lists.specs.Among.{Among}
+use Rattle.lists.specs.Lists.{Each, Among}
 use Rattle.automaton.specs.Automaton.{Walk, Accepts}
 use Rattle.automaton.specs.Form.{arcWord, bit8, bit9, lettersOf, labelOf, arcWords, validForm, followOf, view}
 use Rattle.automaton.specs.Words.{arc-fields}
-use Rattle.automaton.specs.Valid.{Valid, valid-at, follow-arc, arc-among, among-follow, may-be-first, may-be-last, accepts-empty, first-letter, follow-target}
+use Rattle.automaton.specs.Valid.{Valid}
+use Rattle.automaton.specs.ValidLaws.{valid-at, follow-arc, arc-among, among-follow, may-be-first, may-be-last, accepts-empty, first-letter, follow-target}
 
 -- letter i is one of the form's
 abbrev pub OfForm : List ℕ → ℕ → Type 0

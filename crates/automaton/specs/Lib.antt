@@ -1,8 +1,12 @@
 pub mod Automaton
+pub mod Proper
 pub mod Accepted
+pub mod AcceptedLaws
 pub mod Form
 pub mod Words
 pub mod Valid
+pub mod ValidLaws
 pub mod FormAccepts
 pub mod Encode
 pub mod Examples
+pub mod Arrays

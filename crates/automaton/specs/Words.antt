@@ -8,10 +8,10 @@ use mathlib.Core.Logic.{_⊎_, inl, inr}
 use native.Mathlib.Omega.{arith}
 use lib.Dec.{ltb, eqb}
 use borrow.Author.Tests.{eqb-true, lt-ltb, eq-eqb, le-ltb, ne-eqb}
-use Rattle.lists.specs.Ranges.{in-range, range-inside, range-true}
-use Rattle.lists.specs.Order.{and-left, and-right, and-both, and-three, and-all-three, lt-or-le, eq-or-ne}
-use Rattle.automaton.specs.Form.{bit, headWord, letterWord, arcWord, byte0, byte2, bit8, bit9, source, target, isHead, isLetter, isArc}
-use Rattle.automaton.specs.Form.{before}
+use Rattle.lists.specs.RangeLaws.{range-inside, range-true}
+use Rattle.lists.specs.Lists.{in-range}
+use Rattle.lists.specs.OrderLaws.{and-left, and-right, and-both, and-three, and-all-three, lt-or-le, eq-or-ne}
+use Rattle.automaton.specs.Form.{bit, headWord, letterWord, arcWord, byte0, byte2, bit8, bit9, source, target, isHead, isLetter, isArc, before}
 
 pub record Head (w : ℕ) : Type 0 where
   pub same : w ≡ headWord (byte0 w) (bit8 w) (byte2 w)

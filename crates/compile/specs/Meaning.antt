@@ -10,12 +10,12 @@ use native.Mathlib.Omega.{arith}
 use lib.ListN.{length}
 use lib.Dec.{leb, ltb}
 use borrow.Author.Tests.{leb-true, ltb-false, le-ltb, not-false}
-use Rattle.lists.specs.Ranges.{in-range}
-use Rattle.lists.specs.Order.{and-left, and-right}
-use Rattle.lists.specs.Each.{all}
+use Rattle.lists.specs.Lists.{in-range, all}
+use Rattle.lists.specs.OrderLaws.{and-left, and-right}
 use Rattle.refusal.specs.declared.Refusal.{Refusal}
 use Rattle.refusal.specs.declared.Refusal.the-variants.{Alphabet, TextLength, TextByte, Letters, FormMemory}
-use Rattle.refusal.specs.Verdict.{Verdict, passed, refused, Check, check, unless, unless-neither, if-passed, first-refusal, first-all}
+use Rattle.refusal.specs.Verdict.{Verdict, passed, refused, Check, check, unless, if-passed, first-refusal}
+use Rattle.refusal.specs.VerdictLaws.{unless-neither, first-all}
 use Rattle.refusal.specs.declared.Checked.the-variants.{Passed}
 use Rattle.automaton.specs.Automaton.{Accepts}
 use Rattle.automaton.specs.Form.{validForm, view, lettersOf, alphabetOf}
@@ -26,7 +26,8 @@ use Rattle.regex.specs.Read.{expressionOf}
 use Rattle.regex.specs.Grammar.{TextOf, WordsOf}
 use Rattle.regex.specs.Exact.{exact, words-of-text, expression-whole}
 use Rattle.regex.specs.Sense.{sensible}
-use Rattle.positions.specs.Compiled.{formOf, form-valid, form-alphabet, form-letters, form-words}
+use Rattle.positions.specs.Compiled.{formOf}
+use Rattle.positions.specs.CompiledLaws.{form-valid, form-alphabet, form-letters, form-words}
 use Rattle.alphabet.specs.Alphabet.{distinct, is-alphabet, text-checks}
 use Rattle.compile.specs.Call.{read-form, compile-call}
 

@@ -10,32 +10,33 @@ use lib.Dec.{ltb}
 use borrow.Author.Tests.{lt-ltb, le-ltb}
 use Rattle.refusal.specs.declared.Refusal.{Refusal}
 use Rattle.refusal.specs.declared.Refusal.the-variants as row
-use Rattle.refusal.specs.Verdict.{refused, check, unless, unless-holds, unless-fails, if-passed, first-refusal, first-refused, first-all}
+use Rattle.refusal.specs.Verdict.{refused, check, unless, if-passed, first-refusal}
+use Rattle.refusal.specs.VerdictLaws.{unless-holds, unless-fails, first-refused, first-all}
 use Rattle.refusal.specs.declared.Checked.the-variants as checks
 use Rattle.regex.specs.Tree.{Tree}
 use Rattle.regex.specs.Text.{Reads, found, fault}
 use Rattle.regex.specs.Letters.{letterCount}
-use Rattle.regex.specs.Sense.{few, sensible}
+use Rattle.regex.specs.Sense.{sensible}
+use Rattle.regex.specs.Few.{few}
 use Rattle.regex.specs.Exact.{exact, expression-whole}
 use Rattle.regex.specs.Read.{expressionOf}
 use Rattle.positions.specs.Numbered.{automatonOf}
 use Rattle.automaton.specs.Form.{encode}
-use Rattle.positions.specs.Compiled.{formOf, automaton-letters}
+use Rattle.positions.specs.Compiled.{formOf}
+use Rattle.positions.specs.CompiledLaws.{automaton-letters}
 use Rattle.regex_bracket.specs.Answers.{is-found}
 use Rattle.regex_parse.specs.declared.Parsed.the-variants.{Letters, Refused}
 use Rattle.regex_parse.specs.Parsed.{parsedOf, parsed}
-use Rattle.form_encode.specs.Arrays.{arrayed, form-call}
-use Rattle.form_encode.specs.Parts.{told-form}
+use Rattle.form_encode.specs.Call.{form-call}
+use Rattle.automaton.specs.Arrays.{arrayed}
+use Rattle.form_encode.specs.PartsLaws.{told-form}
 use Rattle.alphabet.specs.Alphabet.{text-checks}
 use Rattle.positions_parts.specs.declared.Built.{Built}
 use Rattle.positions_letters.specs.Found.{treeOf}
-use Rattle.positions_build.specs.Whole.{treeOfText, Buildable, BuildsWhole, no-arc}
+use Rattle.positions_build.specs.Whole.{treeOfText, Buildable, BuildsWhole}
+use Rattle.positions_build.specs.WholeLaws.{no-arc}
 use Rattle.compile.specs.Call.{read-form, compile-call}
-
--- a text that reads, with few letters
-pub record Compilable (A s : List ℕ) : Type 0 where
-  pub reads : is-found (expressionOf A s) ≡ true
-  pub within : letterCount A (treeOfText A s) ≤ 127
+use Rattle.compile.specs.Compilable.{Compilable}
 
 module _ (A s : List ℕ) (room : ℕ) where
   -- the leftmost fault

@@ -9,10 +9,10 @@ ghost use Rattle.lists.specs.Memory.{old, new};
 ghost use Rattle.refusal.specs.Report.{reported, Fills};
 ghost use Rattle.regex.specs.Read.{expressionOf};
 ghost use Rattle.positions.specs.Numbered.{automatonOf};
-ghost use Rattle.form_encode.specs.Arrays.{form-call};
+ghost use Rattle.form_encode.specs.Call.{form-call};
 ghost use Rattle.positions_build.specs.Whole.{treeOfText};
 ghost use Rattle.compile.specs.Call.{read-form, compile-call};
-ghost use Rattle.compile.specs.Steps.{Compilable};
+ghost use Rattle.compile.specs.Compilable.{Compilable};
 
 // Writes the form of a text that reads, with at most 127 letters: its arcs are known, as an array of arrays, before the first word is
 // written.

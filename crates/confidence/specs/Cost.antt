@@ -2,13 +2,12 @@
 -- Assumes nothing.
 -- Used by the contracts, the proofs, Rule and Turns; in kavurehy.
 use Prim.Native.Nat.{ℕ, zero, suc, _*_, _^_}
-use mathlib.Core.Path.{_≡_, refl}
 use mathlib.Core.Bool.{Bool, true, false}
 use mathlib.Core.List.{List, [], _∷_, map}
 use lib.ListN.{length}
 use lib.Dec.{leb, ltb, eqb}
 use Rattle.refusal.specs.declared.Refusal.the-variants.{OutputMemory}
-use Rattle.refusal.specs.Verdict.{Verdict, passed, refused, check, unless}
+use Rattle.refusal.specs.Verdict.{Verdict, check, unless}
 
 abbrev pub either : Bool → ℕ → ℕ → ℕ
 either true a b = a
@@ -34,13 +33,3 @@ cost-of c = either (eqb c 0) 72 (shift (c ^ 8))
 -- what the call fills, with this much room for the costs
 unfoldable pub costs-call : List ℕ → ℕ → Verdict (List ℕ)
 costs-call confidences room = unless (check (ltb room (length confidences)) OutputMemory ∷ []) (map cost-of confidences)
-
--- Document 01's examples.
-examples : map cost-of (255 ∷ 182 ∷ 181 ∷ 128 ∷ 1 ∷ 0 ∷ []) ≡ 0 ∷ 3 ∷ 4 ∷ 8 ∷ 64 ∷ 72 ∷ []
-unfolding cost-of shift largest
-examples = refl
-
--- memory for just as many costs, and for one less
-rooms : (costs-call (128 ∷ 1 ∷ []) 2 ≡ passed (8 ∷ 64 ∷ [])) × (costs-call (128 ∷ 1 ∷ []) 1 ≡ refused OutputMemory) × (costs-call [] 0 ≡ passed [])
-unfolding costs-call unless cost-of shift largest
-rooms = (refl, refl, refl)

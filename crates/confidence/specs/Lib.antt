@@ -1,3 +1,4 @@
 pub mod Cost
+pub mod Examples
 pub mod Rule
-pub mod Turns
+pub mod Loops

@@ -8,7 +8,7 @@ use native.Mathlib.Omega.{arith}
 use native.Mathlib.Nat.{mul-le-mul, pow-le-pow-left, one-mul}
 use lib.Pow.{pow-mono}
 use borrow.Author.Tests.{leb-true, le-leb, ne-eqb}
-use Rattle.lists.specs.Order.{lt-or-le, eq-or-ne, not-both}
+use Rattle.lists.specs.OrderLaws.{lt-or-le, eq-or-ne, not-both}
 use Rattle.confidence.specs.Cost.{either, largest, within, shift, cost-of}
 
 -- n passes, and nothing larger does

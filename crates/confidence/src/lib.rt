@@ -6,8 +6,7 @@ ghost use mathlib.Core.Path.{_≡_};
 ghost use Prim.Native.Nat.{_*_, _^_, _≤_};
 ghost use mathlib.Core.List.{map};
 ghost use lib.ListN.{length};
-ghost use Rattle.lists.specs.Memory.{old, new};
-ghost use Rattle.lists.specs.Written.{Wrote};
+ghost use Rattle.lists.specs.Memory.{old, new, Wrote};
 ghost use Rattle.refusal.specs.Report.{reported, Fills};
 ghost use Rattle.confidence.specs.Cost.{shift, cost-of, costs-call};
 

@@ -2,28 +2,14 @@
 -- and 17). Assumes nothing.
 -- Used by the contracts, the proofs, Examples and Turns; in kavurehy.
 use Prim.Native.Nat.{ℕ}
-use mathlib.Core.Path.{_≡_, refl}
-use mathlib.Core.Bool.{Bool, true, false, _||_}
-use mathlib.Core.List.{List, [], _∷_, _++_}
+use mathlib.Core.List.{List, [], _∷_}
 use lib.ListN.{length}
-use lib.Dec.{ltb, eqb}
+use lib.Dec.{ltb}
 use Rattle.refusal.specs.declared.Refusal.the-variants.{OutputMemory, Label}
 use Rattle.refusal.specs.Verdict.{Verdict, check, unless}
-use Rattle.ctc.specs.Collapse.{omitting, collapse, after}
+use Rattle.ctc.specs.Collapse.{collapse}
 use Rattle.ctc_labels.specs.Calls.{label-fault}
 
 -- what Collapse fills, with this much room for the word
 unfoldable pub collapse-call : ℕ → List ℕ → ℕ → Verdict (List ℕ)
 collapse-call k path room = unless (check (ltb room (length path)) OutputMemory ∷ (check (label-fault k 0 path) Label ∷ [])) (collapse path)
-
--- what label x adds to the word behind label a
-abbrev pub added : ℕ → ℕ → List ℕ
-added a x = omitting (eqb x a || eqb x 0) x []
-
-pub after-added : (a x : ℕ) (p : List ℕ) → after a (x ∷ p) ≡ added a x ++ after x p
-unfolding after
-after-added a x p = by (eqb x a || eqb x 0)
-  where
-    by : (t : Bool) → omitting t x (after x p) ≡ omitting t x [] ++ after x p
-    by true = refl
-    by false = refl

@@ -4,11 +4,11 @@ use refusal::Counted;
 use refusal::Refusal;
 ghost use Prim.Native.Nat.{_+_, _≤_};
 ghost use lib.ListN.{length};
-ghost use Rattle.lists.specs.Memory.{old, new};
-ghost use Rattle.lists.specs.Written.{Wrote, Stored};
+ghost use Rattle.lists.specs.Memory.{old, new, Wrote, Stored};
 ghost use Rattle.refusal.specs.Report.{reported, Fills};
 ghost use Rattle.ctc.specs.Collapse.{collapse as collapseOf};
-ghost use Rattle.ctc_collapse.specs.Calls.{collapse-call, added};
+ghost use Rattle.ctc_collapse.specs.Calls.{collapse-call};
+ghost use Rattle.ctc_collapse.specs.Added.{added};
 
 // Label x behind label a goes to place n of the word, or is left out; the next place.
 fn put_added(word: &mut [u8], n: usize, a: u8, x: u8) -> usize

@@ -5,8 +5,7 @@ use mathlib.Core.Bool.{Bool, not, _||_}
 use mathlib.Core.List.{List}
 use lib.ListN.{length}
 use lib.Dec.{ltb}
-use Rattle.lists.specs.Ranges.{in-range}
-use Rattle.lists.specs.Each.{all}
+use Rattle.lists.specs.Lists.{in-range, all}
 
 -- K is not 1 to 95, the list is over 255, or a label is not from `low` to K: a path's labels begin at 0, a word's at 1
 abbrev pub label-fault : ℕ → ℕ → List ℕ → Bool

@@ -7,9 +7,9 @@ use mathlib.Core.List.{List}
 use lib.ListN.{length}
 use lib.Dec.{leb, ltb}
 use borrow.Author.Tests.{lt-ltb, le-ltb, leb-true, not-false}
-use Rattle.lists.specs.Ranges.{in-range}
-use Rattle.lists.specs.Order.{and-left, or-neither}
-use Rattle.lists.specs.Each.{all, Each, all-each}
+use Rattle.lists.specs.Lists.{in-range, all, Each}
+use Rattle.lists.specs.OrderLaws.{and-left, or-neither}
+use Rattle.lists.specs.EachLaws.{all-each}
 use Rattle.ctc_labels.specs.Calls.{label-fault}
 
 module _ (k low : ℕ) (list : List ℕ) where

@@ -3,8 +3,7 @@ use numbers::in_range;
 use numbers::wide;
 ghost use mathlib.Core.Path.{_≡_};
 ghost use Rattle.lists.specs.Memory.{old};
-ghost use Rattle.lists.specs.Ranges.{in-range};
-ghost use Rattle.lists.specs.Each.{all};
+ghost use Rattle.lists.specs.Lists.{in-range, all};
 ghost use Rattle.ctc_labels.specs.Calls.{label-fault};
 
 // Is each number of a list from `low` to `high`?

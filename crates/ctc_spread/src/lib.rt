@@ -7,12 +7,12 @@ ghost use Prim.Native.Nat.{_+_, _<_, _≤_};
 ghost use mathlib.Core.Bool.{cond};
 ghost use lib.Dec.{eqb};
 ghost use lib.ListN.{length};
-ghost use Rattle.lists.specs.Memory.{old, new};
-ghost use Rattle.lists.specs.Each.{Each};
-ghost use Rattle.lists.specs.Written.{Wrote, Stored};
+ghost use Rattle.lists.specs.Memory.{old, new, Wrote, Stored};
+ghost use Rattle.lists.specs.Lists.{Each};
 ghost use Rattle.refusal.specs.Report.{reported, Fills};
 ghost use Rattle.ctc.specs.Spread.{spread as spreadOf, pairs};
-ghost use Rattle.ctc_spread.specs.Calls.{spread-call, spaced};
+ghost use Rattle.ctc_spread.specs.Calls.{spread-call};
+ghost use Rattle.ctc_spread.specs.Spaced.{spaced};
 
 // 1 for equal labels, else 0.
 fn one_if_equal(a: u8, b: u8) -> usize

@@ -10,7 +10,8 @@ use mathlib.Core.List.{List}
 use Rattle.refusal.specs.declared.Refusal.{Refusal}
 use Rattle.refusal.specs.declared.Refusal.the-variants.{BadForm}
 use Rattle.refusal.specs.declared.Checked.the-variants.{Passed, Refused}
-use Rattle.refusal.specs.Verdict.{first-refusal, first-passed}
+use Rattle.refusal.specs.Verdict.{first-refusal}
+use Rattle.refusal.specs.VerdictLaws.{first-passed}
 use Rattle.refusal.specs.Report.{Report, turned-away}
 use Rattle.automaton.specs.Automaton.{Accepts}
 use Rattle.automaton.specs.Form.{validForm, view, lettersOf, alphabetOf}

@@ -1,3 +1,4 @@
 pub mod Checks
 pub mod Passing
+pub mod PassingLaws
 pub mod Examples

@@ -1,12 +1,11 @@
 -- What Decode and Read answer past their checks (demand 3), for any set of words, and what a refusal by the checks leaves. Assumes nothing.
 -- Used by the contracts, the proofs, Demand and Phases; in decode, kavurehy, sheet_read, read_text, read_valid and read.
 use Prim.Native.Nat.{ℕ}
-use mathlib.Core.Path.{_≡_, refl}
+use mathlib.Core.Path.{_≡_}
 use mathlib.Core.Option.{Option, some, none}
 use mathlib.Core.List.{List, []}
 use lib.ListN.{length, drop}
-use Rattle.lists.specs.Written.{written}
-use Rattle.refusal.specs.declared.Refusal.{Refusal}
+use Rattle.lists.specs.Memory.{written}
 use Rattle.refusal.specs.declared.Refusal.the-variants.{NoReading}
 use Rattle.refusal.specs.declared.Checked.{Checked}
 use Rattle.refusal.specs.declared.Checked.the-variants.{Passed, Refused}
@@ -16,7 +15,7 @@ use Rattle.ctc.specs.Collapse.{collapse}
 use Rattle.automaton.specs.Automaton.{Accepts}
 use Rattle.automaton.specs.Form.{view, lettersOf}
 use Rattle.matrix.specs.Matrix.{Matrix, price}
-use Rattle.outcome.specs.Reading.{Outcome}
+use Rattle.outcome.specs.Outcome.{Outcome}
 use Rattle.decode_checks.specs.Checks.{Rooms, needed}
 
 -- the lent lists
@@ -61,13 +60,6 @@ pub record Answers (Word : List ℕ → Type 0) (spelt : List ℕ → List ℕ) 
 abbrev pub Checks : Checked → (Passes : (before after : Lent) (answer : Report) → Type 0) (before after : Lent) (answer : Report) → Type 0
 Checks (Refused n) Passes before after answer = (answer ≡ turned-away n) × (after ≡ before)
 Checks Passed Passes before after answer = Passes before after answer
-
-module _ (c : Checked) (Passes : (before after : Lent) (answer : Report) → Type 0) where
-  pub checks-refused : (n : Refusal) (memory : Lent) → c ≡ Refused n → Checks c Passes memory memory (turned-away n)
-  checks-refused n memory e = rw e (refl, refl)
-
-  pub checks-passed : (before after : Lent) (answer : Report) → c ≡ Passed → Passes before after answer → Checks c Passes before after answer
-  checks-passed before after answer e h = rw e h
 
 -- what Decode answers past its checks
 abbrev pub DecodeAnswers : (form : List ℕ) (M : Matrix) (before after : Lent) (answer : Report) → Type 0

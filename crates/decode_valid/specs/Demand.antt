@@ -9,19 +9,23 @@ use mathlib.Core.List.{List, [], _∷_}
 use native.Mathlib.Omega.{arith}
 use lib.ListN.{length, drop}
 use lib.Seq.{drop-at}
-use Rattle.lists.specs.Each.{Each, each-map}
-use Rattle.lists.specs.Written.{written, written-none, length-written}
+use Rattle.lists.specs.EachLaws.{each-map}
+use Rattle.lists.specs.Lists.{Each}
+use Rattle.lists.specs.WrittenLaws.{written-none, length-written}
+use Rattle.lists.specs.Memory.{written}
 use Rattle.refusal.specs.declared.Refusal.the-variants.{NoReading}
 use Rattle.refusal.specs.declared.Checked.the-variants.{Passed}
 use Rattle.refusal.specs.Verdict.{first-refusal}
 use Rattle.refusal.specs.Report.{Report, turned-away}
 use Rattle.answers.specs.Decoded.{read}
-use Rattle.ctc.specs.Collapse.{collapse, collapse-shorter}
+use Rattle.ctc.specs.Collapse.{collapse}
+use Rattle.ctc.specs.CollapseLaws.{collapse-shorter}
 use Rattle.matrix.specs.Matrix.{Matrix, price, PathFrom}
 use Rattle.outcome.specs.Order.{NotAfter}
-use Rattle.outcome.specs.Reading.{Rival, OutcomeOf, outcome-of-same, passing-rival}
+use Rattle.outcome.specs.Outcome.{Rival, OutcomeOf}
+use Rattle.outcome.specs.OutcomeLaws.{outcome-of-same, passing-rival}
 use Rattle.decode_checks.specs.Checks.{Rooms, matrix-checks}
-use Rattle.decode_checks.specs.Passing.{fits}
+use Rattle.decode_checks.specs.PassingLaws.{fits}
 use Rattle.decode_valid.specs.Answers.{Lent, rooms, outcome-report, path-of, word-of, Answers}
 
 -- what demand 3 calls a rival: one label for each column, each 0 to k, whose collapse is a word

@@ -6,20 +6,23 @@ use mathlib.Core.Option.{some, none}
 use mathlib.Core.List.{List}
 use native.Mathlib.Omega.{arith}
 use lib.ListN.{length, getD, take}
-use Rattle.lists.specs.Written.{written, written-none, Wrote}
+use Rattle.lists.specs.WrittenLaws.{written-none}
+use Rattle.lists.specs.Memory.{written, Wrote}
 use Rattle.refusal.specs.declared.Refusal.the-variants.{NoReading}
 use Rattle.refusal.specs.Report.{turned-away}
 use Rattle.answers.specs.Decoded.{read}
 use Rattle.ctc.specs.Collapse.{collapse}
 use Rattle.automaton.specs.Form.{view, lettersOf, alphabetOf}
-use Rattle.automaton.specs.Valid.{Valid, valid-proper}
+use Rattle.automaton.specs.Valid.{Valid}
+use Rattle.automaton.specs.ValidLaws.{valid-proper}
 use Rattle.matrix.specs.Matrix.{Matrix, price}
 use Rattle.trellis.specs.Impossible.{TOP}
 use Rattle.trellis.specs.CostToGo.{CostToGo}
 use Rattle.trellis.specs.Extended.{extended}
 use Rattle.trellis.specs.Outcome.{outcome-none, outcome-price, outcome-best}
 use Rattle.trellis_table.specs.Fill.{Sized, Filled, states}
-use Rattle.trellis_trace.specs.Traced.{Ready, Traced, traced-front}
+use Rattle.trellis_trace.specs.Traced.{Ready, Traced}
+use Rattle.trellis_trace.specs.Loops.{traced-front}
 use Rattle.decode_checks.specs.Passing.{Fits}
 use Rattle.decode_valid.specs.Answers.{Lent, rooms, DecodeAnswers}
 

@@ -27,15 +27,3 @@ pub record Hands (counts : Report → List ℕ) (answer : Report) (handed : List
 pub record HandsJudgement (answer : Judgement) (handed : List ℕ) (result : ℕ) : Type 0 where
   pub number : result ≡ answer .number
   pub accepted : handed ≡ cond (answer .accepted) 1 0 ∷ []
-
--- From what is known of an answer to what is handed back.
-
-pub hands-as :
-    (counts : Report → List ℕ) {answer told : Report} {handed : List ℕ} {result : ℕ} → answer ≡ told → (handed ≡ counts told) × (result ≡ told .number)
-    → Hands counts answer handed result
-hands-as counts e h = rw e (record { number = h .1; list = h .0 })
-
-pub hands-judgement-as :
-    {answer told : Judgement} {handed : List ℕ} {result : ℕ} → answer ≡ told → (handed ≡ cond (told .accepted) 1 0 ∷ []) × (result ≡ told .number)
-    → HandsJudgement answer handed result
-hands-judgement-as e h = rw e (record { number = h .1; accepted = h .0 })

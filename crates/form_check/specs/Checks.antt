@@ -12,10 +12,10 @@ use lib.Dec.{ltb, eqb}
 use lib.ListN.{length, getD, take, drop, length-drop}
 use lib.Seq.{take-all}
 use borrow.Author.Tests.{eq-eqb, ne-eqb, lt-ltb, le-ltb}
-use Rattle.lists.specs.Order.{eq-or-ne}
-use Rattle.lists.specs.Each.{all, drop-here, drop-all}
-use Rattle.automaton.specs.Form.{bit, bit8, bit9, byte0, byte2, headWord, letterWord, isHead, isLetter, isArc, before, ordered}
-use Rattle.automaton.specs.Form.{validForm, lettersOf, alphabetOf, letterWords, arcWords}
+use Rattle.lists.specs.OrderLaws.{eq-or-ne}
+use Rattle.lists.specs.EachLaws.{drop-here, drop-all}
+use Rattle.lists.specs.Lists.{all}
+use Rattle.automaton.specs.Form.{bit, bit8, bit9, byte0, byte2, headWord, letterWord, isHead, isLetter, isArc, before, ordered, validForm, lettersOf, alphabetOf, letterWords, arcWords}
 use Rattle.automaton.specs.Words.{Arc, arc-true, before-less}
 
 -- a bit by its test

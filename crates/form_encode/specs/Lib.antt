@@ -1,3 +1,5 @@
-pub mod Arrays
+pub mod Call
+pub mod Examples
 pub mod Parts
+pub mod PartsLaws
 pub mod Whole

@@ -7,12 +7,15 @@ use mathlib.Core.Bool.{Bool}
 use mathlib.Core.List.{List, [], _∷_, _++_, append-nil}
 use native.Mathlib.Omega.{arith}
 use lib.ListN.{length, set, length-append, length-map}
-use Rattle.lists.specs.Ascending.{numbers, length-numbers}
-use Rattle.lists.specs.Written.{Filling, Stored, Wrote, filling-none, filling-more, filling-stored, filling-room, filling-all}
+use Rattle.lists.specs.AscendingLaws.{length-numbers}
+use Rattle.lists.specs.Lists.{numbers}
+use Rattle.lists.specs.FillingLoops.{Filling, filling-none, filling-more, filling-stored, filling-room, filling-all}
+use Rattle.lists.specs.Memory.{Stored, Wrote}
 use Rattle.automaton.specs.Form.{encode}
 use Rattle.form_encode_arcs.specs.Rows.{arcsBy}
-use Rattle.form_encode.specs.Arrays.{arrayed}
-use Rattle.form_encode.specs.Parts.{letterBy, lettersBy, arrayed-words}
+use Rattle.automaton.specs.Arrays.{arrayed}
+use Rattle.form_encode.specs.Parts.{letterBy, lettersBy}
+use Rattle.form_encode.specs.PartsLaws.{arrayed-words}
 
 module _ (whole : List ℕ) (head : ℕ) (letters arcs memory : List ℕ) (is : whole ≡ head ∷ (letters ++ arcs)) (room : length whole ≤ length memory) where
   head-written : Filling whole memory (set memory 0 head) (letters ++ arcs) 1

@@ -8,11 +8,11 @@ use refusal::Refusal;
 ghost use mathlib.Core.Path.{_≡_};
 ghost use Prim.Native.Nat.{_+_, _≤_};
 ghost use lib.ListN.{length};
-ghost use Rattle.lists.specs.Memory.{old, new};
-ghost use Rattle.lists.specs.Written.{Wrote, Stored};
+ghost use Rattle.lists.specs.Memory.{old, new, Wrote, Stored};
 ghost use Rattle.refusal.specs.Report.{reported, Fills};
 ghost use Rattle.automaton.specs.Form.{headWord, letterWord, encode};
-ghost use Rattle.form_encode.specs.Arrays.{arrayed, form-call, Sized};
+ghost use Rattle.form_encode.specs.Call.{form-call};
+ghost use Rattle.automaton.specs.Arrays.{arrayed, Sized};
 ghost use Rattle.form_encode.specs.Parts.{lettersBy};
 
 // The head of a form with l letters over an alphabet of k characters.

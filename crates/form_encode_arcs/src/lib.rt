@@ -6,12 +6,11 @@ ghost use mathlib.Core.Path.{_≡_};
 ghost use Prim.Native.Nat.{_+_, _≤_};
 ghost use mathlib.Core.List.{[]};
 ghost use lib.ListN.{length};
-ghost use Rattle.lists.specs.Memory.{old, new};
-ghost use Rattle.lists.specs.Among.{keep, keeping};
-ghost use Rattle.lists.specs.Ascending.{numbers};
-ghost use Rattle.lists.specs.Written.{Stored};
+ghost use Rattle.lists.specs.Memory.{old, new, Stored};
+ghost use Rattle.lists.specs.Lists.{keep, keeping, numbers};
 ghost use Rattle.automaton.specs.Form.{arcWord};
-ghost use Rattle.form_encode_arcs.specs.Rows.{has, rowBy, arcsBy};
+ghost use Rattle.form_encode_arcs.specs.Rows.{rowBy, arcsBy};
+ghost use Rattle.automaton.specs.Arrays.{has};
 
 // The word of an arc from letter to letter.
 fn arc_word(source: usize, target: usize) -> u32

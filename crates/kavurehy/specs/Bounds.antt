@@ -10,34 +10,36 @@ use native.Mathlib.Omega.{arith}
 use lib.ListN.{length, length-append, length-map}
 use lib.Dec.{ltb}
 use borrow.Author.Tests.{ltb-false}
-use Rattle.lists.specs.Ranges.{in-range}
-use Rattle.lists.specs.Order.{or-neither}
-use Rattle.lists.specs.Each.{all}
-use Rattle.lists.specs.Among.{keep, keep-shorter, flat-length}
-use Rattle.lists.specs.Ascending.{numbers, length-numbers}
+use Rattle.lists.specs.Lists.{in-range, all, keep, numbers}
+use Rattle.lists.specs.OrderLaws.{or-neither}
+use Rattle.lists.specs.AmongLaws.{keep-shorter, flat-length}
+use Rattle.lists.specs.AscendingLaws.{length-numbers}
 use Rattle.refusal.specs.declared.Refusal.{Refusal}
 use Rattle.refusal.specs.declared.Refusal.the-variants.{BadForm, OutputMemory, Label}
 use Rattle.refusal.specs.declared.Checked.{Checked}
 use Rattle.refusal.specs.declared.Checked.the-variants.{Passed, Refused}
-use Rattle.refusal.specs.Verdict.{Verdict, passed, refused, check, unless, first-refusal, first-passed}
+use Rattle.refusal.specs.Verdict.{Verdict, passed, refused, check, unless, first-refusal}
+use Rattle.refusal.specs.VerdictLaws.{first-passed}
 use Rattle.refusal.specs.Report.{Report, report, Fills}
-use Rattle.ctc.specs.Collapse.{collapse, collapse-shorter}
-use Rattle.ctc.specs.Spread.{spread, spread-length}
+use Rattle.ctc.specs.Collapse.{collapse}
+use Rattle.ctc.specs.CollapseLaws.{collapse-shorter}
+use Rattle.ctc.specs.Spread.{spread}
+use Rattle.ctc.specs.SpreadLaws.{spread-length}
 use Rattle.ctc_labels.specs.Calls.{label-fault}
 use Rattle.ctc_collapse.specs.Calls.{collapse-call}
 use Rattle.ctc_spread.specs.Calls.{spread-call}
-use Rattle.ctc_spread.specs.Turns.{few-pairs-in}
+use Rattle.ctc_spread.specs.Loops.{few-pairs-in}
 use Rattle.automaton.specs.Automaton.{Accepts}
 use Rattle.automaton.specs.Form.{validForm, view, lettersOf, alphabetOf, arcWord, letterOf, arcsFrom, encode}
-use Rattle.automaton.specs.Valid.{valid-parts}
+use Rattle.automaton.specs.ValidLaws.{valid-parts}
 use Rattle.automaton.specs.Encode.{encode-view}
 use Rattle.matrix.specs.Matrix.{Matrix}
-use Rattle.outcome.specs.Reading.{Outcome}
+use Rattle.outcome.specs.Outcome.{Outcome}
 use Rattle.regex.specs.Grammar.{WordsOf}
 use Rattle.compile.specs.Call.{compile-call}
 use Rattle.compile.specs.Meaning.{compiled-means}
 use Rattle.decode_checks.specs.Checks.{needed, matrix-checks, decode-checks}
-use Rattle.decode_checks.specs.Passing.{fits}
+use Rattle.decode_checks.specs.PassingLaws.{fits}
 use Rattle.decode_valid.specs.Answers.{Lent, rooms, labels, Checks, Answers, outcome-report}
 use Rattle.decode.specs.Promise.{Decodes}
 use Rattle.read_spelling.specs.Spelling.{characters}

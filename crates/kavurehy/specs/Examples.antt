@@ -6,20 +6,20 @@ use mathlib.Core.Path.{_≡_, refl, ap, _∙_}
 use mathlib.Core.Option.{some}
 use mathlib.Core.List.{List, [], _∷_}
 use lib.ListN.{drop, replicate}
-use Rattle.lists.specs.Each.{all}
-use Rattle.lists.specs.Among.{any}
-use Rattle.lists.specs.Ascending.{numbers}
-use Rattle.lists.specs.Written.{written}
+use Rattle.lists.specs.Lists.{all, any, numbers}
+use Rattle.lists.specs.Memory.{written}
 use Rattle.refusal.specs.declared.Refusal.the-variants.{OutputMemory}
 use Rattle.refusal.specs.Verdict.{passed, refused, unless, if-passed, first-refusal}
 use Rattle.refusal.specs.Report.{filling}
 use Rattle.ctc.specs.Collapse.{merge, without-blanks, collapse}
 use Rattle.automaton.specs.Automaton.{Accepts}
 use Rattle.automaton.specs.Form.{ordered, validForm, view, followOf, endsOf}
-use Rattle.automaton.specs.Valid.{view-proper}
-use Rattle.automaton.specs.Accepted.{spells, accepts, accepts-decides}
+use Rattle.automaton.specs.ValidLaws.{view-proper}
+use Rattle.automaton.specs.Accepted.{spells, accepts}
+use Rattle.automaton.specs.AcceptedLaws.{accepts-decides}
 use Rattle.matrix.specs.Matrix.{Matrix, matrix}
-use Rattle.outcome.specs.Reading.{Outcome, outcome-same, outcome-unique}
+use Rattle.outcome.specs.Outcome.{Outcome}
+use Rattle.outcome.specs.OutcomeLaws.{outcome-same, outcome-unique}
 use Rattle.outcome.specs.Choice.{not-after, preferred, better}
 use Rattle.outcome.specs.Exhaustive.{over, exhaustive, usable, decided, decided-outcome}
 use Rattle.text.specs.Bytes.{bytes}

@@ -2,11 +2,11 @@
 -- and a list of counts. Assumes nothing.
 -- Used by the contracts, the proofs and Examples.
 use Prim.Native.Nat.{ℕ}
-use mathlib.Core.Path.{_≡_, ap, _∙_}
+use mathlib.Core.Path.{_≡_}
 use mathlib.Core.List.{List}
-use Rattle.lists.specs.Written.{written}
+use Rattle.lists.specs.Memory.{written}
 use Rattle.refusal.specs.Verdict.{Verdict}
-use Rattle.refusal.specs.Report.{Report, report, filling, Fills}
+use Rattle.refusal.specs.Report.{Report, report, filling}
 use Rattle.answers.specs.Judgement.{report as judgement}
 use Rattle.export_counts.specs.Handed.{length-alone, price-and-length, price-and-lengths, Hands, HandsJudgement}
 use Rattle.judge.specs.Judge.{judged}
@@ -40,12 +40,3 @@ pub record ReadsCounted (alphabet text : List ℕ) (M : Matrix) (form form′ : 
   pub answer : Report
   pub reads : Reads alphabet text M form form′ before after answer
   pub hands : Hands price-and-lengths answer handed result
-
--- From the promise inside to the promise exported.
-
-module _ {verdict : Verdict (List ℕ)} {answer : Report} {before after : List ℕ} (fills : Fills verdict answer before after) where
-  pub fills-counted : {handed : List ℕ} {result : ℕ} → Hands length-alone answer handed result → FillsCounted verdict before after handed result
-  fills-counted h = record { hands = rw (fills .answered) at h; memory = fills .memory }
-
-  pub fills-plain : {result : ℕ} → result ≡ answer .number → FillsPlain verdict before after result
-  fills-plain n = record { number = n ∙ ap (λ (r : Report). r .number) (fills .answered); memory = fills .memory }

@@ -1,3 +1,4 @@
 pub mod Handed
+pub mod HandedLaws
 pub mod Bounds
 pub mod Examples

@@ -4,11 +4,8 @@ use Prim.Native.Nat.{ℕ}
 use mathlib.Core.Path.{_≡_, refl}
 use mathlib.Core.Bool.{true, false}
 use mathlib.Core.List.{[], _∷_, map}
-use Rattle.lists.specs.Ranges.{in-range}
-use Rattle.lists.specs.Each.{all}
-use Rattle.lists.specs.Among.{any, keep}
-use Rattle.lists.specs.Ascending.{numbers}
-use Rattle.lists.specs.Written.{written}
+use Rattle.lists.specs.Lists.{in-range, all, any, keep, numbers}
+use Rattle.lists.specs.Memory.{written}
 
 record Examples : Type 0 where
   -- two elements written into memory of three

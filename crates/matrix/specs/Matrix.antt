@@ -1,15 +1,11 @@
 -- The matrix of costs as one thing, and the price of a path through it (document 01, "Extended states and decoding").
 -- Assumes nothing.
 -- Used by 5 files of specs/; in 14 other crates.
-use Prim.Native.Nat.{ℕ, suc, _+_, _*_, _≤_, _<_}
-use mathlib.Core.Path.{_≡_, ap, _∙_}
-use mathlib.Core.List.{List, [], _∷_, _++_}
-use native.Mathlib.Omega.{arith}
+use Prim.Native.Nat.{ℕ, _+_, _*_, _≤_, _<_}
+use mathlib.Core.Path.{_≡_}
+use mathlib.Core.List.{List, [], _∷_}
 use lib.ListN.{length, getD}
-use mathlib.Core.Logic.{⊎-elim}
-use lib.ListN.{List·getD-eq-default}
-use Rattle.lists.specs.Order.{lt-or-le}
-use Rattle.lists.specs.Each.{Each, each-at}
+use Rattle.lists.specs.Lists.{Each}
 
 -- its costs, one column after another; its column width; its column count
 pub record Matrix : Type 0 where
@@ -49,24 +45,3 @@ pub record PathOf (M : Matrix) (p : List ℕ) : Type 0 where
 -- what refusal 13 turns away is no cost of the matrix
 abbrev pub CostsPass : Matrix → Type 0
 CostsPass M = Each Usable (M .costs)
-
-module _ (M : Matrix) where
-  -- the price of parts that are joined
-  pub price-append : (t : ℕ) (p q : List ℕ) → priceFrom M t (p ++ q) ≡ priceFrom M t p + priceFrom M (t + length p) q
-  price-append t [] q = let e : t ≡ t + 0 = omega arith in ap (λ k. priceFrom M k q) e ∙ omega arith
-  price-append t (x ∷ p) q =
-      let e : t + 1 + length p ≡ t + suc (length p) = omega arith in
-      let h = price-append (t + 1) p q ∙ ap (λ k. priceFrom M (t + 1) p + priceFrom M k q) e in
-      omega arith
-
-  pub path-append : (t : ℕ) (p q : List ℕ) → PathFrom M t p → PathFrom M (t + length p) q → PathFrom M t (p ++ q)
-  path-append t [] q h g = let e : t + 0 ≡ t = omega arith in rw e at g
-  path-append t (x ∷ p) q h g =
-      let e : t + suc (length p) ≡ t + 1 + length p = omega arith in
-      (h .0, h .1, path-append (t + 1) p q (h .2) (rw e at g))
-
--- past the list's end a cost counts as 0
-pub cost-passes : (M : Matrix) → CostsPass M → (t x : ℕ) → Usable (cost M t x)
-cost-passes M pass t x =
-    ⊎-elim (λ l. each-at Usable 0 (M .costs) (t * M .width + x) l pass)
-    (λ l. let e = List·getD-eq-default (M .costs) 0 l in omega arith) (lt-or-le (t * M .width + x) (length (M .costs)))

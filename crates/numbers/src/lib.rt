@@ -2,7 +2,7 @@
 ghost use mathlib.Core.Path.{_≡_};
 ghost use mathlib.Core.Bool.{cond};
 ghost use Prim.Native.Nat.{_<_, _≤_, min};
-ghost use Rattle.lists.specs.Ranges.{in-range};
+ghost use Rattle.lists.specs.Lists.{in-range};
 
 // A byte as a size.
 pub fn wide(x: u8) -> usize

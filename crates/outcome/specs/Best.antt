@@ -1,30 +1,9 @@
 -- The best of all that qualify: none costs less, and of those that cost the same it comes first. Assumes nothing.
 -- Used by Choice and Reading; in trellis.
 use Prim.Native.Nat.{ℕ, _≤_}
-use mathlib.Core.Path.{_≡_, sym}
-use native.Mathlib.Omega.{arith}
+use mathlib.Core.Path.{_≡_}
 
 pub record BestOf {A : Type 0} (Qualifies : A → Type 0) (cost : A → ℕ) (NotAfter : A → A → Type 0) (best : A) : Type 0 where
   pub qualifies : Qualifies best
   pub least : (a : A) → Qualifies a → cost best ≤ cost a
   pub first : (a : A) → Qualifies a → cost a ≡ cost best → NotAfter best a
-
-module _ {A : Type 0} {N : A → A → Type 0} where
-  -- what qualifies decides, and nothing else of it
-  pub best-same :
-      {P Q : A → Type 0} {cost : A → ℕ} {best : A} → ((a : A) → P a → Q a) → ((a : A) → Q a → P a) → BestOf P cost N best → BestOf Q cost N best
-  best-same to from b =
-      record {
-        qualifies = to _ (b .qualifies);
-        least = λ a q. b .least a (from a q);
-        first = λ a q e. b .first a (from a q) e;
-      }
-
-  -- there is one best, where two that are not after each other are equal
-  pub best-unique :
-      {P : A → Type 0} {cost : A → ℕ} {a b : A} → ((x y : A) → N x y → N y x → x ≡ y) → BestOf P cost N a → BestOf P cost N b → a ≡ b
-  best-unique {cost = cost} {a = a} {b = b} antisymmetric p q =
-      let low : cost a ≤ cost b = p .least b (q .qualifies) in
-      let high : cost b ≤ cost a = q .least a (p .qualifies) in
-      let e : cost b ≡ cost a = omega arith in
-      antisymmetric a b (p .first b (q .qualifies) e) (q .first a (p .qualifies) (sym e))

@@ -11,8 +11,10 @@ use lib.Dec.{ltb, eqb}
 use borrow.Author.Tests.{ltb-true, ltb-false, eqb-true, eqb-false}
 use Rattle.outcome.specs.Best.{BestOf}
 use Rattle.matrix.specs.Matrix.{Matrix, price}
-use Rattle.outcome.specs.Order.{NotAfter, order-trans}
-use Rattle.outcome.specs.Reading.{Rival, OutcomeOf, Outcome, outcome-of-same}
+use Rattle.outcome.specs.Order.{NotAfter}
+use Rattle.outcome.specs.OrderLaws.{order-trans}
+use Rattle.outcome.specs.Outcome.{Rival, OutcomeOf, Outcome}
+use Rattle.outcome.specs.OutcomeLaws.{outcome-of-same}
 
 -- the order of paths, as a test
 unfoldable pub not-after : List ℕ → List ℕ → Bool

@@ -7,9 +7,9 @@ use mathlib.Core.List.{List, [], _∷_}
 use mathlib.Core.Logic.{_⊎_, inl, inr}
 use native.Mathlib.Omega.{arith}
 use lib.ListN.{length}
-use Rattle.lists.specs.Order.{eq-or-ne}
+use Rattle.lists.specs.OrderLaws.{eq-or-ne}
 use Rattle.matrix.specs.Matrix.{Matrix, cost, priceFrom, price, Usable, PathFrom}
-use Rattle.outcome.specs.Reading.{Rival, Outcome}
+use Rattle.outcome.specs.Outcome.{Rival, Outcome}
 
 -- N is M with the usable costs of one column raised, and no cost becomes usable or ceases to be so
 pub record Raised (column amount : ℕ) (M N : Matrix) : Type 0 where

@@ -11,11 +11,12 @@ use native.Mathlib.Omega.{arith}
 use lib.ListN.{length}
 use lib.Dec.{leb, eqb}
 use borrow.Author.Tests.{leb-true, le-leb}
-use Rattle.lists.specs.Order.{eq-or-ne, and-left, and-right, and-both}
-use Rattle.lists.specs.Each.{Each}
+use Rattle.lists.specs.OrderLaws.{eq-or-ne, and-left, and-right, and-both}
+use Rattle.lists.specs.Lists.{Each}
 use Rattle.ctc.specs.Collapse.{merge, without-blanks, collapse}
 use Rattle.matrix.specs.Matrix.{Matrix, cost, price, PathFrom}
-use Rattle.outcome.specs.Reading.{OutcomeOf, Outcome, outcome-of-same}
+use Rattle.outcome.specs.Outcome.{OutcomeOf, Outcome}
+use Rattle.outcome.specs.OutcomeLaws.{outcome-of-same}
 use Rattle.outcome.specs.Choice.{not-after, preferred, better, outcome-either}
 
 abbrev pub prefixed : ℕ → Option (List ℕ) → Option (List ℕ)

@@ -1,6 +1,9 @@
 pub mod Best
+pub mod BestLaws
 pub mod Order
-pub mod Reading
+pub mod OrderLaws
+pub mod Outcome
+pub mod OutcomeLaws
 pub mod Choice
 pub mod Exhaustive
 pub mod Columns

@@ -10,7 +10,7 @@ use native.Mathlib.Omega.{arith}
 use lib.ListN.{length, length-append}
 use lib.Dec.{eqb, leb, ltb}
 use borrow.Author.Tests.{eq-eqb, ne-eqb, le-leb, lt-leb, lt-ltb, le-ltb}
-use Rattle.lists.specs.Order.{lt-or-le, eq-or-ne}
+use Rattle.lists.specs.OrderLaws.{lt-or-le, eq-or-ne}
 use Rattle.regex.specs.Tree.{Count, between, onward}
 use Rattle.positions.specs.Opened.{Opened, joining, alternation, optional, star, plus, empty, anyOf, copies, nested, repeated, labels, letters}
 use Rattle.positions.specs.Numbered.{Positions, numbered}

@@ -8,12 +8,15 @@ use mathlib.Core.List.{List, [], _++_}
 use native.Mathlib.Omega.{arith}
 use lib.ListN.{length, getD, length-append, List·getD-append}
 use lib.Seq.{getD-append-add}
-use Rattle.lists.specs.Each.{Each, each-append, each-at}
-use Rattle.lists.specs.Among.{among-each}
-use Rattle.automaton.specs.Automaton.{Accepts, Proper}
+use Rattle.lists.specs.EachLaws.{each-append, each-at}
+use Rattle.lists.specs.Lists.{Each}
+use Rattle.lists.specs.AmongLaws.{among-each}
+use Rattle.automaton.specs.Automaton.{Accepts}
+use Rattle.automaton.specs.Proper.{Proper}
 use Rattle.regex.specs.Tree.{Tree, set, group, times, join, either, Joined, Words}
 use Rattle.regex.specs.Sense.{Sensible}
-use Rattle.positions.specs.Opened.{Opened, letter, joining, alternation, optional, star, plus, empty, never, OpenedWords, labelsIn, opened, labels, letters}
+use Rattle.positions.specs.Opened.{Opened, letter, joining, alternation, optional, star, plus, empty, never, labelsIn, opened, labels, letters}
+use Rattle.positions.specs.OpenedWords.{OpenedWords}
 use Rattle.positions.specs.Opening.{label-among, opening-keeps-words}
 use Rattle.positions.specs.Letters.{any-of-labels}
 use Rattle.positions.specs.Numbered.{numbered, bare, labelAt, positionAutomaton, automatonOf}

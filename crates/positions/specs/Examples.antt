@@ -5,8 +5,7 @@ use Prim.Native.Char.{code}
 use mathlib.Core.Path.{_≡_, refl}
 use mathlib.Core.Bool.{Bool, true, false}
 use mathlib.Core.List.{List, [], _∷_, map, flatMap}
-use Rattle.lists.specs.Among.{keep}
-use Rattle.lists.specs.Ascending.{numbers}
+use Rattle.lists.specs.Lists.{keep, numbers}
 use Rattle.automaton.specs.Automaton.{Automaton}
 use Rattle.regex.specs.Tree.{range, only, except, between, onward, Tree, set, group, times, join, either}
 use Rattle.positions.specs.Opened.{anyOf, copies, nested, repeated, opened, labels}

@@ -9,11 +9,12 @@ use mathlib.Core.List.{List, [], _∷_, _++_, append-nil, append-assoc}
 use native.Mathlib.Omega.{arith}
 use lib.ListN.{length}
 use borrow.Author.Tests.{eqb-true}
-use Rattle.lists.specs.Order.{not-both, and-left, and-right, or-either}
+use Rattle.lists.specs.OrderLaws.{not-both, and-left, and-right, or-either}
 use Rattle.automaton.specs.Automaton.{Walk}
 use Rattle.regex.specs.Tree.{Tree, set, group, times, join, either, Joined}
 use Rattle.regex.specs.Sense.{Sensible}
-use Rattle.positions.specs.Opened.{Opened, letter, joining, alternation, optional, star, plus, empty, never, OpenedWords, anyOf, labelsIn, opened, letters}
+use Rattle.positions.specs.Opened.{Opened, letter, joining, alternation, optional, star, plus, empty, never, anyOf, labelsIn, opened, letters}
+use Rattle.positions.specs.OpenedWords.{OpenedWords}
 use Rattle.positions.specs.Letters.{labels-counted}
 use Rattle.positions.specs.Numbered.{Positions, numbered, assembled, positionAutomaton, automatonOf}
 use Rattle.positions.specs.Equations.{Kept, repeated-kept}

@@ -7,7 +7,7 @@ use mathlib.Core.Logic.{⊎-elim}
 use mathlib.Core.Bool.{Bool, true, false, _&&_, _||_, or-false, and-false, and-comm}
 use native.Mathlib.Omega.{arith}
 use borrow.Author.Tests.{eqb-true}
-use Rattle.lists.specs.Order.{not-both, never-true, and-left, and-right, or-either}
+use Rattle.lists.specs.OrderLaws.{not-both, never-true, and-left, and-right, or-either}
 use Rattle.positions.specs.Numbered.{Positions, bare, single, joint, choice, perhaps, again, behind, ending}
 
 -- each letter is one of n to m - 1

@@ -7,8 +7,9 @@ use mathlib.Core.List.{List, [], _∷_}
 use native.Mathlib.Nat.{add-mul}
 use native.Mathlib.Omega.{arith}
 use lib.ListN.{length, getD, length-append}
-use Rattle.lists.specs.Among.{keep, keep-same, keeping-length}
-use Rattle.lists.specs.Ascending.{numbers, numbers-among}
+use Rattle.lists.specs.AmongLaws.{keep-same, keeping-length}
+use Rattle.lists.specs.Lists.{keep, numbers}
+use Rattle.lists.specs.AscendingLaws.{numbers-among}
 use Rattle.regex.specs.Tree.{Set, Count, between, onward, Tree, set, group, times, join, either, member}
 use Rattle.regex.specs.Letters.{labelsOf, copiesOf, letterCount}
 use Rattle.regex.specs.OwnCounts.{InRange}

@@ -1,4 +1,5 @@
 pub mod Opened
+pub mod OpenedWords
 pub mod Opening
 pub mod Letters
 pub mod Numbered
@@ -7,6 +8,7 @@ pub mod Walks
 pub mod Exact
 pub mod Equations
 pub mod Compiled
+pub mod CompiledLaws
 pub mod Examples
 pub mod Marked
 pub mod FirstLast

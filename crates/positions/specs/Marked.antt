@@ -7,9 +7,10 @@ use mathlib.Core.List.{List, [], _∷_, _++_, map}
 use native.Mathlib.Omega.{arith}
 use lib.ListN.{length, getD, length-append, List·getD-append}
 use lib.Seq.{getD-append-add}
-use Rattle.lists.specs.Order.{lt-or-le}
+use Rattle.lists.specs.OrderLaws.{lt-or-le}
 use Rattle.automaton.specs.Automaton.{Walk}
-use Rattle.positions.specs.Opened.{Opened, letter, joining, alternation, optional, star, plus, empty, never, OpenedWords, labels, letters}
+use Rattle.positions.specs.Opened.{Opened, letter, joining, alternation, optional, star, plus, empty, never, labels, letters}
+use Rattle.positions.specs.OpenedWords.{OpenedWords}
 use Rattle.positions.specs.Numbered.{numbered, joint, choice, perhaps, again, assembled}
 use Rattle.positions.specs.Equations.{letters-joining, letters-alternation}
 use Rattle.positions.specs.Walks.{Exact}

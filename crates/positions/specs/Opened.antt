@@ -2,13 +2,10 @@
 -- Assumes nothing.
 -- Used by 8 files of specs/; in positions_build, compile, sheet_answer, positions_letters and read.
 use Prim.Native.Nat.{ℕ, zero, suc, _-_}
-use mathlib.Core.Path.{_≡_}
-use mathlib.Core.Logic.{_⊎_}
 use mathlib.Core.List.{List, [], _∷_, _++_}
 use lib.ListN.{length, getD}
-use Rattle.lists.specs.Among.{keep}
-use Rattle.lists.specs.Ascending.{numbers}
-use Rattle.regex.specs.Tree.{Set, Count, between, onward, Tree, set, group, times, join, either, member, Joined}
+use Rattle.lists.specs.Lists.{keep, numbers}
+use Rattle.regex.specs.Tree.{Set, Count, between, onward, Tree, set, group, times, join, either, member}
 
 -- `empty` has the empty word alone and ends a chain of copies; `never` has no word and ends an alternation of labels. Neither has letters.
 pub data Opened : Type 0 where
@@ -20,16 +17,6 @@ pub data Opened : Type 0 where
   plus : Opened → Opened
   empty : Opened
   never : Opened
-
-abbrev pub OpenedWords : Opened → List ℕ → Type 0
-OpenedWords (letter a) w = w ≡ a ∷ []
-OpenedWords (joining r s) w = (u : List ℕ) × (v : List ℕ) × (w ≡ u ++ v) × OpenedWords r u × OpenedWords s v
-OpenedWords (alternation r s) w = OpenedWords r w ⊎ OpenedWords s w
-OpenedWords (optional r) w = (w ≡ []) ⊎ OpenedWords r w
-OpenedWords (star r) w = (k : ℕ) × Joined (OpenedWords r) k w
-OpenedWords (plus r) w = (k : ℕ) × Joined (OpenedWords r) (suc k) w
-OpenedWords empty w = w ≡ []
-OpenedWords never w = ⊥
 
 -- the labels of a set, ascending: those whose character is in it
 abbrev pub labelsIn : List ℕ → Set → List ℕ

@@ -7,12 +7,14 @@ use mathlib.Core.Bool.{true}
 use mathlib.Core.List.{List, [], _∷_}
 use native.Mathlib.Omega.{arith}
 use lib.ListN.{length, getD}
-use Rattle.lists.specs.Among.{Among, among-keep, keep-among}
-use Rattle.lists.specs.Ascending.{numbers, among-numbers, numbers-among}
+use Rattle.lists.specs.AmongLaws.{among-keep, keep-among}
+use Rattle.lists.specs.Lists.{Among, numbers}
+use Rattle.lists.specs.AscendingLaws.{among-numbers, numbers-among}
 use Rattle.regex.specs.Tree.{Set, Count, between, onward, Tree, set, group, times, join, either, member, Allows, Joined, Words}
 use Rattle.regex.specs.OwnCounts.{InRange}
 use Rattle.regex.specs.Sense.{Sensible}
-use Rattle.positions.specs.Opened.{Opened, plus, OpenedWords, labelsIn, anyOf, copies, nested, repeated, opened}
+use Rattle.positions.specs.Opened.{Opened, plus, labelsIn, anyOf, copies, nested, repeated, opened}
+use Rattle.positions.specs.OpenedWords.{OpenedWords}
 
 -- Sets.
 any-of-out : (l w : List ℕ) → OpenedWords (anyOf l) w → (x : ℕ) × Among x l × (w ≡ x ∷ [])

@@ -8,7 +8,7 @@ use mathlib.Core.Bool.{Bool, true, false, _&&_}
 use mathlib.Core.List.{List, [], _∷_, _++_, map, map-append}
 use native.Mathlib.Omega.{arith}
 use borrow.Author.Tests.{eqb-true, eq-eqb}
-use Rattle.lists.specs.Order.{not-both, and-left, and-right, and-both, or-either, or-left, or-right}
+use Rattle.lists.specs.OrderLaws.{not-both, and-left, and-right, and-both, or-either, or-left, or-right}
 use Rattle.automaton.specs.Automaton.{Walk, Accepts}
 use Rattle.regex.specs.Tree.{Joined}
 use Rattle.positions.specs.Numbered.{Positions, bare, single, joint, choice, perhaps, again, behind, ending, assembled}

@@ -9,7 +9,7 @@ use mathlib.Core.List.{append-nil}
 use native.Mathlib.Omega.{arith}
 use lib.Dec.{leb}
 use borrow.Author.Tests.{le-leb, lt-leb}
-use Rattle.lists.specs.Order.{lt-or-le}
+use Rattle.lists.specs.OrderLaws.{lt-or-le}
 use Rattle.regex.specs.Tree.{Count, between, onward}
 use Rattle.regex.specs.Letters.{copiesOf}
 use Rattle.regex.specs.OwnCounts.{InRange}
@@ -17,11 +17,7 @@ use Rattle.positions.specs.Opened.{Opened, joining, optional, plus, star, empty
 use Rattle.positions.specs.Numbered.{numbered}
 use Rattle.positions.specs.Equations.{Same, between-none, between-needed, between-spare, onward-more, onward-one, onward-none, joined-empty}
 use Rattle.positions_letters.specs.Copies.{leastOf, isOnward}
-
--- what a count asks behind k words
-abbrev pub fewer : Count → ℕ → Count
-fewer (between n m) k = between (n - k) (m - k)
-fewer (onward n) k = onward (n - k)
+use Rattle.positions_build.specs.Places.{fewer}
 
 -- r or nothing, where it may be spared; r once or more, where it goes onward
 unfoldable pub spared : Bool → Opened → Opened

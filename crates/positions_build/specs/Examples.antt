@@ -3,8 +3,7 @@
 use mathlib.Core.Path.{_≡_, refl}
 use mathlib.Core.List.{List}
 use Prim.Native.Nat.{ℕ}
-use Rattle.lists.specs.Among.{keep}
-use Rattle.lists.specs.Ascending.{numbers}
+use Rattle.lists.specs.Lists.{keep, numbers}
 use Rattle.text.specs.Bytes.{bytes}
 use Rattle.regex.specs.Tree.{between, onward}
 use Rattle.regex.specs.Letters.{labelsOf}

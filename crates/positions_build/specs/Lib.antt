@@ -3,7 +3,8 @@ pub mod Shown
 pub mod Places
 pub mod Made
 pub mod Pieces
-pub mod BranchTurns
-pub mod PieceTurns
+pub mod BranchCalls
+pub mod PieceCalls
 pub mod Whole
+pub mod WholeLaws
 pub mod Examples

@@ -12,16 +12,17 @@ use lib.Dec.{eqb}
 use borrow.Author.Tests.{eq-eqb, ne-eqb}
 use Rattle.regex.specs.Tree.{only, Tree, set, join, either}
 use Rattle.regex.specs.Text.{Reads, found, fault, then}
-use Rattle.text.specs.Text.{next, rest}
+use Rattle.text.specs.Text.{next, rest, place}
 use Rattle.regex.specs.Read.{Mode, m-alternation, m-branch, m-piece, ends, step, read}
 use Rattle.regex.specs.Says.{of-found}
 use Rattle.regex.specs.Sense.{Sensible, sensible}
 use Rattle.regex.specs.Front.{Front, Stop}
 use Rattle.regex.specs.Sound.{read-sound}
 use Rattle.regex.specs.Steps.{read-step, read-forward}
-use Rattle.text.specs.Place.{place, behind, next-at, rest-at}
+use Rattle.text.specs.TextLaws.{behind, next-at, rest-at}
 use Rattle.regex_bracket.specs.Answers.{is-found}
-use Rattle.positions_letters.specs.Found.{restOf, treeOf, not-found, then-first, then-is}
+use Rattle.positions_letters.specs.Found.{restOf, treeOf}
+use Rattle.positions_letters.specs.FoundLaws.{not-found, then-first, then-is}
 use Rattle.positions_build.specs.Places.{PartAt, treeAt, endAt}
 
 -- x is made of a and then b

@@ -13,7 +13,7 @@ use borrow.Author.Tests.{eqb-true, eq-eqb, ne-eqb}
 use Rattle.refusal.specs.declared.Refusal.the-variants as row
 use Rattle.regex.specs.Tree.{Set, Count, between, Tree, set, group, times}
 use Rattle.regex.specs.Text.{Reads, found, fault, then}
-use Rattle.text.specs.Text.{next, rest}
+use Rattle.text.specs.Text.{next, rest, place}
 use Rattle.regex.specs.Letters.{labelsOf}
 use Rattle.regex.specs.Sets.{a-set, labelled-set}
 use Rattle.regex.specs.Repetition.{repeats, repetition}
@@ -23,9 +23,10 @@ use Rattle.regex.specs.Own.{Here}
 use Rattle.regex.specs.OwnCounts.{InRange, Repeating, repetition-says}
 use Rattle.regex.specs.Steps.{read-step}
 use Rattle.positions.specs.Opened.{opened, repeated}
-use Rattle.text.specs.Place.{place, place-drop, behind, next-at, rest-at, byte-is}
+use Rattle.text.specs.TextLaws.{place-drop, behind, next-at, rest-at, byte-is}
 use Rattle.regex_bracket.specs.Answers.{is-found, setOf}
-use Rattle.positions_letters.specs.Found.{restOf, treeOf, countOf, counted, counted-repeated, counted-plain, not-found}
+use Rattle.positions_letters.specs.Found.{restOf, treeOf, countOf, counted}
+use Rattle.positions_letters.specs.FoundLaws.{counted-repeated, counted-plain, not-found}
 use Rattle.positions_build.specs.Copies.{Alike, alike-by, one-copy}
 use Rattle.positions_build.specs.Places.{PartAt, treeAt, endAt}
 use Rattle.positions_build.specs.Made.{first-found, goes-on}

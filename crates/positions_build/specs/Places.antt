@@ -2,16 +2,20 @@
 -- Used by the contracts and 6 files of specs/.
 use mathlib.Core.Path.{_≡_}
 use mathlib.Core.List.{List}
-use mathlib.Core.Bool.{true}
-use Prim.Native.Nat.{ℕ}
-use lib.ListN.{drop}
-use Rattle.regex.specs.Tree.{Count, Tree}
+use mathlib.Core.Bool.{true, Bool}
+use Prim.Native.Nat.{ℕ, _-_, _+_, _≤_}
+use lib.ListN.{drop, length}
+use Rattle.regex.specs.Tree.{Count, Tree, between, onward}
 use Rattle.regex.specs.Read.{Mode, m-group, read}
-use Rattle.positions.specs.Opened.{Opened, opened, repeated}
-use Rattle.text.specs.Place.{place}
+use Rattle.positions.specs.Opened.{Opened, opened, repeated, labels}
+use Rattle.text.specs.Text.{place}
 use Rattle.regex_bracket.specs.Answers.{is-found}
 use Rattle.positions_letters.specs.Found.{restOf, treeOf, countOf, counted}
-use Rattle.positions_build.specs.Copies.{fewer}
+
+-- what a count asks behind k words
+abbrev pub fewer : Count → ℕ → Count
+fewer (between n m) k = between (n - k) (m - k)
+fewer (onward n) k = onward (n - k)
 
 -- in a text over the alphabet A
 module _ (A text : List ℕ) where
@@ -35,3 +39,10 @@ module _ (A text : List ℕ) where
 
   abbrev pub leftAt : ℕ → ℕ → ℕ → Opened
   leftAt d at k = repeated (openedAt m-group d at) (fewer (countAt d at) k)
+
+-- there is room to build r behind n letters
+pub record Room (A : List ℕ) (r : Opened) (n : ℕ) (marks : List ℕ) (follow : List (List Bool)) : Type 0 where
+  pub alphabet : length A ≤ 255
+  pub few : n + length (labels r) ≤ 127
+  pub labelled : 127 ≤ length marks
+  pub rows : 127 ≤ length follow

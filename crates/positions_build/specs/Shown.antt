@@ -7,7 +7,8 @@ use mathlib.Core.Bool.{Bool, true, false, _&&_, _||_, or-assoc, or-false}
 use mathlib.Core.List.{List}
 use native.Mathlib.Omega.{arith}
 use lib.ListN.{length}
-use Rattle.lists.specs.Written.{Stored, stored-then, stored-size}
+use Rattle.lists.specs.WrittenLaws.{stored-then, stored-size}
+use Rattle.lists.specs.Memory.{Stored}
 use Rattle.positions_follow.specs.Sets.{member, arc, Linked}
 use Rattle.positions.specs.Opened.{Opened, joining, alternation, labels}
 use Rattle.positions.specs.Numbered.{Positions, joint, choice, again, numbered}
@@ -16,13 +17,7 @@ use Rattle.positions_parts.specs.Together.{United, Chosen, Joined, Looped, Spar
 use Rattle.positions_parts.specs.declared.Built.{Built}
 use Rattle.positions_letters.specs.Shows.{Shows, Builds}
 use Rattle.positions_build.specs.Copies.{spared, looped, Alike}
-
--- there is room to build r behind n letters
-pub record Room (A : List ℕ) (r : Opened) (n : ℕ) (marks : List ℕ) (follow : List (List Bool)) : Type 0 where
-  pub alphabet : length A ≤ 255
-  pub few : n + length (labels r) ≤ 127
-  pub labelled : 127 ≤ length marks
-  pub rows : 127 ≤ length follow
+use Rattle.positions_build.specs.Places.{Room}
 
 -- Parts put together tell the positions of the whole.
 module _ (f g : List (List Bool)) where

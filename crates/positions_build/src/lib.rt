@@ -16,8 +16,7 @@ ghost use Rattle.lists.specs.Memory.{old, new};
 ghost use Rattle.regex.specs.Letters.{copiesOf};
 ghost use Rattle.regex.specs.Read.{m-alternation, m-branch, m-piece, m-group};
 ghost use Rattle.positions_letters.specs.Shows.{Builds};
-ghost use Rattle.positions_build.specs.Places.{PartAt, openedAt, endAt, countAt, leftAt};
-ghost use Rattle.positions_build.specs.Shown.{Room};
+ghost use Rattle.positions_build.specs.Places.{PartAt, openedAt, endAt, countAt, leftAt, Room};
 ghost use Rattle.positions_build.specs.Whole.{Buildable, BuildsWhole};
 
 // Branches with `|` between them, behind so many letters.

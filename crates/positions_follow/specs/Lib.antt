@@ -1,2 +1,2 @@
 pub mod Sets
-pub mod Turns
+pub mod Loops

@@ -6,7 +6,7 @@ use mathlib.Core.List.{List}
 use Rattle.regex.specs.Tree.{Count, between, onward}
 use Rattle.regex.specs.Text.{Reads}
 use Rattle.regex.specs.Letters.{copiesOf}
-use Rattle.text.specs.Place.{place}
+use Rattle.text.specs.Text.{place}
 use Rattle.positions_letters.specs.Found.{restOf, countOf}
 use Rattle.positions_letters.specs.declared.Copies.{Copies}
 

@@ -1,5 +1,7 @@
 pub mod Found
+pub mod FoundLaws
 pub mod Copies
 pub mod Shows
 pub mod Letters
+pub mod LettersLaws
 pub mod Tokens

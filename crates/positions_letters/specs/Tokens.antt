@@ -13,10 +13,12 @@ use Rattle.regex.specs.Letters.{copiesOf}
 use Rattle.regex.specs.Repetition.{repeats, repetition}
 use Rattle.regex_bracket.specs.declared.End.the-variants as end
 use Rattle.regex_repetition.specs.declared.Repeats.the-variants as count
-use Rattle.text.specs.Place.{place, place-drop}
+use Rattle.text.specs.TextLaws.{place-drop}
+use Rattle.text.specs.Text.{place}
 use Rattle.regex_bracket.specs.Answers.{is-found, endOf}
 use Rattle.regex_repetition.specs.Answers.{repeatsOf}
-use Rattle.positions_letters.specs.Found.{restOf, counted, counted-repeated, counted-plain, not-found}
+use Rattle.positions_letters.specs.Found.{restOf, counted}
+use Rattle.positions_letters.specs.FoundLaws.{counted-repeated, counted-plain, not-found}
 use Rattle.positions_letters.specs.Copies.{copiesBy}
 use Rattle.positions_letters.specs.declared.Copies.{Copies}
 

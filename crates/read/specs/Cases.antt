@@ -11,10 +11,9 @@ use native.Mathlib.Omega.{arith}
 use lib.ListN.{length, getD}
 use lib.Dec.{eqb}
 use borrow.Author.Tests.{eqb-true}
-use Rattle.lists.specs.Order.{and-left, and-right}
-use Rattle.lists.specs.Each.{all, Each, all-each}
-use Rattle.lists.specs.Among.{any, keep}
-use Rattle.lists.specs.Ascending.{numbers}
+use Rattle.lists.specs.OrderLaws.{and-left, and-right}
+use Rattle.lists.specs.EachLaws.{all-each}
+use Rattle.lists.specs.Lists.{all, Each, any, keep, numbers}
 use Rattle.refusal.specs.declared.Checked.{Checked}
 use Rattle.refusal.specs.declared.Checked.the-variants.{Passed, Refused}
 use Rattle.refusal.specs.Verdict.{Verdict, passed, refused, unless, if-passed, first-refusal}
@@ -23,10 +22,12 @@ use Rattle.answers.specs.Decoded.{read as answer}
 use Rattle.ctc.specs.Collapse.{merge, without-blanks, collapse}
 use Rattle.automaton.specs.Automaton.{Accepts}
 use Rattle.automaton.specs.Form.{encode, view, lettersOf, alphabetOf, followOf, endsOf}
-use Rattle.automaton.specs.Valid.{valid-at, valid-proper}
-use Rattle.automaton.specs.Accepted.{spells, accepts, accepts-decides}
+use Rattle.automaton.specs.ValidLaws.{valid-at, valid-proper}
+use Rattle.automaton.specs.Accepted.{spells, accepts}
+use Rattle.automaton.specs.AcceptedLaws.{accepts-decides}
 use Rattle.matrix.specs.Matrix.{Matrix, matrix}
-use Rattle.outcome.specs.Reading.{Outcome, outcome-same}
+use Rattle.outcome.specs.Outcome.{Outcome}
+use Rattle.outcome.specs.OutcomeLaws.{outcome-same}
 use Rattle.outcome.specs.Choice.{not-after, preferred, better}
 use Rattle.outcome.specs.Exhaustive.{over, exhaustive, usable, decided, decided-outcome}
 use Rattle.text.specs.Bytes.{bytes}

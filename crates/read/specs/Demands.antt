@@ -7,13 +7,15 @@ use mathlib.Core.Path.{_≡_, ap, _∙_}
 use mathlib.Core.Logic.{_↔_}
 use mathlib.Core.List.{List}
 use lib.ListN.{length, length-map}
-use Rattle.lists.specs.Each.{Each}
-use Rattle.lists.specs.Written.{written, written-none}
+use Rattle.lists.specs.Lists.{Each}
+use Rattle.lists.specs.WrittenLaws.{written-none}
+use Rattle.lists.specs.Memory.{written}
 use Rattle.refusal.specs.declared.Refusal.{Refusal}
 use Rattle.refusal.specs.declared.Checked.the-variants.{Passed, Refused}
 use Rattle.refusal.specs.Verdict.{passed, refused, first-refusal}
 use Rattle.refusal.specs.Report.{Report, turned-away, filling}
-use Rattle.ctc.specs.Spread.{spread, Shortest, spread-is-shortest}
+use Rattle.ctc.specs.Spread.{spread, Shortest}
+use Rattle.ctc.specs.SpreadLaws.{spread-is-shortest}
 use Rattle.automaton.specs.Form.{lettersOf}
 use Rattle.matrix.specs.Matrix.{Matrix}
 use Rattle.regex.specs.Grammar.{WordsOf}

@@ -1,1 +1,3 @@
 pub mod Spelling
+pub mod Loops
+pub mod Examples

@@ -5,30 +5,27 @@ use mathlib.Core.Path.{_≡_, refl, sym, ap, _∙_}
 use mathlib.Core.List.{List}
 use native.Mathlib.Omega.{arith}
 use lib.ListN.{length, take}
-use Rattle.lists.specs.Written.{written, take-written, written-fits}
+use Rattle.lists.specs.WrittenLaws.{take-written, written-fits}
+use Rattle.lists.specs.Memory.{written}
 use Rattle.refusal.specs.declared.Refusal.{Refusal}
 use Rattle.refusal.specs.declared.Checked.{Checked}
 use Rattle.refusal.specs.declared.Checked.the-variants.{Passed, Refused}
-use Rattle.refusal.specs.Number.{number-between}
+use Rattle.refusal.specs.NumberLaws.{number-between}
 use Rattle.refusal.specs.Verdict.{Verdict, passed, refused, first-refusal}
 use Rattle.refusal.specs.Report.{Report, turned-away, counted, report, filling, Fills}
 use Rattle.automaton.specs.Automaton.{Accepts}
 use Rattle.automaton.specs.Form.{view, lettersOf}
 use Rattle.matrix.specs.Matrix.{Matrix}
-use Rattle.outcome.specs.Reading.{outcome-same}
+use Rattle.outcome.specs.OutcomeLaws.{outcome-same}
 use Rattle.regex.specs.Grammar.{WordsOf}
 use Rattle.compile.specs.Call.{compile-call}
 use Rattle.compile.specs.Meaning.{Means, compiled-means}
 use Rattle.decode_checks.specs.Checks.{needed, matrix-checks}
 use Rattle.decode_valid.specs.Answers.{Lent, rooms, Answers, Checks}
 use Rattle.read_spelling.specs.Spelling.{characters}
-use Rattle.read_valid.specs.Words.{ReadsAccepted}
+use Rattle.read_valid.specs.Accepted.{ReadsAccepted}
 use Rattle.read_text.specs.Promise.{Reads}
-
--- Past Compile, with the form f: rows 12 to 15, or the outcome for the words that the form accepts.
-abbrev pub ChecksForm : (A f : List ℕ) (M : Matrix) (before after : Lent) (answer : Report) → Type 0
-ChecksForm A f M before after answer =
-    Checks (first-refusal (matrix-checks (length A) (lettersOf f) M (rooms before))) (ReadsAccepted A f M) before after answer
+use Rattle.read_text.specs.ChecksForm.{ChecksForm}
 
 -- the words that the form accepts are those of the text
 pub read-words :

@@ -14,7 +14,7 @@ ghost use Rattle.automaton.specs.Form.{alphabetOf};
 ghost use Rattle.automaton.specs.Valid.{Valid};
 ghost use Rattle.matrix.specs.Matrix.{matrix};
 ghost use Rattle.read_text.specs.Promise.{Reads};
-ghost use Rattle.read_text.specs.Steps.{ChecksForm};
+ghost use Rattle.read_text.specs.ChecksForm.{ChecksForm};
 
 // Rows 12 to 15, and then what a compiled form reads.
 fn read_form(

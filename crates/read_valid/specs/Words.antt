@@ -6,24 +6,22 @@ use mathlib.Core.Option.{Option, some, none}
 use mathlib.Core.List.{List, [], _∷_}
 use native.Mathlib.Omega.{arith}
 use lib.ListN.{length, getD, take, length-map}
-use Rattle.lists.specs.Each.{Each}
-use Rattle.lists.specs.Written.{written, length-written, written-over, take-written}
+use Rattle.lists.specs.Lists.{Each}
+use Rattle.lists.specs.WrittenLaws.{length-written, written-over, take-written}
+use Rattle.lists.specs.Memory.{written}
 use Rattle.refusal.specs.declared.Refusal.{Refusal}
-use Rattle.refusal.specs.Number.{number-between}
+use Rattle.refusal.specs.NumberLaws.{number-between}
 use Rattle.refusal.specs.Report.{Report, turned-away}
 use Rattle.answers.specs.Decoded.{read}
-use Rattle.ctc.specs.Collapse.{collapse, collapse-each, collapse-letters, collapse-shorter}
+use Rattle.ctc.specs.Collapse.{collapse}
+use Rattle.ctc.specs.CollapseLaws.{collapse-each, collapse-letters, collapse-shorter}
 use Rattle.automaton.specs.Automaton.{Accepts}
-use Rattle.automaton.specs.Form.{view, lettersOf}
+use Rattle.automaton.specs.Form.{view}
 use Rattle.matrix.specs.Matrix.{Matrix, price, PathFrom}
-use Rattle.outcome.specs.Reading.{Best, Outcome}
-use Rattle.decode_checks.specs.Checks.{needed}
-use Rattle.decode_valid.specs.Answers.{Lent, outcome-report, path-of, word-of, labels, Answers, DecodeAnswers}
+use Rattle.outcome.specs.Outcome.{Best, Outcome}
+use Rattle.decode_valid.specs.Answers.{Lent, outcome-report, path-of, word-of, labels, DecodeAnswers}
 use Rattle.read_spelling.specs.Spelling.{characters, Labels, Spelt}
-
--- what Read answers past its checks, by the words that the form accepts, the word written as characters
-abbrev pub ReadsAccepted : (A f : List ℕ) (M : Matrix) (before after : Lent) (answer : Report) → Type 0
-ReadsAccepted A f M = Answers (Accepts (view f)) (characters A) (length f) M (needed (M .count) (lettersOf f))
+use Rattle.read_valid.specs.Accepted.{ReadsAccepted}
 
 path-each : (M : Matrix) (t : ℕ) (p : List ℕ) → PathFrom M t p → Each (λ x. x < M .width) p
 path-each M t [] h = tt

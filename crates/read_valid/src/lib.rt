@@ -12,7 +12,7 @@ ghost use Rattle.automaton.specs.Valid.{Valid};
 ghost use Rattle.matrix.specs.Matrix.{matrix};
 ghost use Rattle.decode_checks.specs.Passing.{Fits};
 ghost use Rattle.decode_valid.specs.Answers.{rooms};
-ghost use Rattle.read_valid.specs.Words.{ReadsAccepted};
+ghost use Rattle.read_valid.specs.Accepted.{ReadsAccepted};
 
 // What the form reads, as Decode does, with the word as characters.
 pub fn read_valid(

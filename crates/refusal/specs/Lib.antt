@@ -1,4 +1,7 @@
 pub mod Number
+pub mod NumberLaws
 pub mod Verdict
+pub mod VerdictLaws
 pub mod Report
+pub mod ReportLaws
 pub mod Examples

@@ -2,10 +2,10 @@
 -- fills one list promises. Assumes nothing.
 -- Used by Examples; in 14 other crates.
 use Prim.Native.Nat.{ℕ}
-use mathlib.Core.Path.{_≡_, refl, sym, ap}
+use mathlib.Core.Path.{_≡_}
 use mathlib.Core.List.{List, []}
 use lib.ListN.{length}
-use Rattle.lists.specs.Written.{written, written-none, Wrote}
+use Rattle.lists.specs.Memory.{written}
 use Rattle.refusal.specs.declared.Refusal.{Refusal}
 use Rattle.refusal.specs.declared.Counted.{Counted}
 use Rattle.refusal.specs.declared.Counted.the-variants.{Filled, Refused}
@@ -47,9 +47,3 @@ module _ {A : Type 0} where
   pub record Fills (verdict : Verdict (List A)) (answer : Report) (before after : List A) : Type 0 where
     pub answered : answer ≡ report verdict
     pub memory : after ≡ written (filling verdict) before
-
-  pub fills-refused : (v : Verdict (List A)) (n : Refusal) (memory : List A) → v ≡ refused n → Fills v (turned-away n) memory memory
-  fills-refused v n memory e = rw e (record { answered = refl; memory = sym (written-none memory) })
-
-  pub fills-wrote : (v : Verdict (List A)) (w before after : List A) (n : ℕ) → v ≡ passed w → Wrote w before after n → Fills v (counted n) before after
-  fills-wrote v w before after n e h = rw e (record { answered = ap counted (h .count); memory = h .memory })

@@ -9,7 +9,7 @@ use Prim.Native.Nat.{ℕ, zero, suc, _≤_}
 use Prim.Native.Char.{code}
 use native.Mathlib.Omega.{arith}
 use lib.Dec.{eqb}
-use Rattle.lists.specs.Order.{or-neither}
+use Rattle.lists.specs.OrderLaws.{or-neither}
 use Rattle.refusal.specs.declared.Refusal.the-variants as row
 use Rattle.text.specs.Bytes.{bytes}
 use Rattle.regex.specs.Tree.{Count, Set, Tree, set, group, times, join, either, Words}

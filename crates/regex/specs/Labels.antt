@@ -8,7 +8,8 @@ use Prim.Native.Nat.{ℕ, zero, suc, _+_, _-_, _≤_, _<_, suc-le-suc}
 use native.Mathlib.Omega.{arith}
 use native.Mathlib.Nat.{le-of-suc-le-suc}
 use lib.ListN.{length, getD}
-use Rattle.lists.specs.Each.{Each, each-append}
+use Rattle.lists.specs.EachLaws.{each-append}
+use Rattle.lists.specs.Lists.{Each}
 use Rattle.regex.specs.Tree.{Set, member, Tree, set, group, times, join, either, Joined, Words}
 use Rattle.regex.specs.Letters.{labelsOf}
 

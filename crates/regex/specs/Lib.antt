@@ -19,5 +19,6 @@ pub mod Exact
 pub mod Leftmost
 pub mod Together
 pub mod Labels
+pub mod Few
 pub mod Sense
 pub mod WordExamples

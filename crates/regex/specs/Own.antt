@@ -10,8 +10,8 @@ use Prim.Native.Char.{Char, code}
 use native.Mathlib.Omega.{arith}
 use lib.Dec.{eqb}
 use borrow.Author.Tests.{eqb-true}
-use Rattle.lists.specs.Order.{or-either}
-use Rattle.lists.specs.Each.{Each}
+use Rattle.lists.specs.OrderLaws.{or-either}
+use Rattle.lists.specs.Lists.{Each}
 use Rattle.refusal.specs.declared.Refusal.{Refusal}
 use Rattle.regex.specs.Text.{Reads, found, enclosed}
 use Rattle.text.specs.Text.{one-of, next, rest, in-front, split}

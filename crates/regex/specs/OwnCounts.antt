@@ -11,7 +11,7 @@ use native.Mathlib.Omega.{arith}
 use lib.ListN.{length}
 use lib.Dec.{eqb, leb}
 use borrow.Author.Tests.{leb-true}
-use Rattle.lists.specs.Order.{and-left, and-right}
+use Rattle.lists.specs.OrderLaws.{and-left, and-right}
 use Rattle.refusal.specs.declared.Refusal.the-variants as row
 use Rattle.regex.specs.Tree.{Count, between, onward}
 use Rattle.regex.specs.Text.{Reads, found, then, enclosed}

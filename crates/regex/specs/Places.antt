@@ -8,7 +8,8 @@ use Prim.Native.Char.{code}
 use native.Mathlib.Omega.{arith}
 use lib.Dec.{eqb}
 use borrow.Author.Tests.{eqb-true}
-use Rattle.lists.specs.Each.{all, all-each}
+use Rattle.lists.specs.EachLaws.{all-each}
+use Rattle.lists.specs.Lists.{all}
 use Rattle.refusal.specs.declared.Refusal.{Refusal}
 use Rattle.refusal.specs.declared.Refusal.the-variants as row
 use Rattle.text.specs.Bytes.{bytes}

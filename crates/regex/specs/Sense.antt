@@ -4,10 +4,10 @@
 use mathlib.Core.Path.{_≡_, ap, _∙_}
 use mathlib.Core.Logic.{_⊎_, inl, inr}
 use mathlib.Core.List.{List, []}
-use Prim.Native.Nat.{ℕ, zero, suc, _+_, _*_, _≤_, _<_, min}
+use Prim.Native.Nat.{ℕ, zero, suc, _+_, _*_, _≤_, _<_}
 use native.Mathlib.Omega.{arith}
 use native.Mathlib.Nat.{mul-le-mul-right, mul-le-mul-left}
-use Rattle.lists.specs.Order.{lt-or-le}
+use Rattle.lists.specs.OrderLaws.{lt-or-le}
 use Rattle.regex.specs.Tree.{Count, between, onward, Tree, set, group, times, join, either}
 use Rattle.regex.specs.Letters.{labelsOf, copiesOf, letterCount}
 use Rattle.regex.specs.Sets.{labelled-set}
@@ -17,6 +17,7 @@ use Rattle.regex.specs.Says.{of-found}
 use Rattle.regex.specs.Own.{Here}
 use Rattle.regex.specs.OwnSets.{ASet, labelled-set-says}
 use Rattle.regex.specs.OwnCounts.{InRange, Repeating, repetition-says}
+use Rattle.regex.specs.Few.{few}
 
 abbrev pub Sensible : List ℕ → Tree → Type 0
 Sensible A (set c) = 1 ≤ labelsOf A c
@@ -51,10 +52,6 @@ module _ (A : List ℕ) where
       let l = letters-some r (h .0) in let k = copies-some c (h .1) in omega (arith, mul-le-mul-right (letterCount A r) k)
   letters-some (join r s) h = let l = letters-some r (h .0) in omega arith
   letters-some (either r s) h = let l = letters-some r (h .0) in omega arith
-
--- up to 128
-abbrev pub few : ℕ → ℕ
-few n = min n 128
 
 pub few-add : (a b : ℕ) → few (few a + few b) ≡ few (a + b)
 few-add a b = omega arith

@@ -6,8 +6,7 @@ use mathlib.Core.List.{List, [], _∷_, map}
 use mathlib.Core.Bool.{not}
 use Prim.Native.Nat.{ℕ}
 use Prim.Native.Char.{code}
-use Rattle.lists.specs.Among.{keep}
-use Rattle.lists.specs.Ascending.{numbers}
+use Rattle.lists.specs.Lists.{keep, numbers}
 use Rattle.refusal.specs.declared.Refusal.the-variants.{MisplacedSign, Bracket}
 use Rattle.text.specs.Bytes.{bytes}
 use Rattle.regex.specs.Tree.{range, only, except, Tree, set}

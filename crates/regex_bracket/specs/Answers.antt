@@ -1,13 +1,17 @@
 -- What the functions that find a set answer, by the definitions of `expression`. Assumes nothing.
 -- Used by the contracts and Brackets; in positions_build, compile, positions_letters and regex_set.
 use mathlib.Core.List.{List, []}
-use mathlib.Core.Bool.{Bool, true, false}
-use Prim.Native.Nat.{ℕ}
+use mathlib.Core.Bool.{Bool, true, false, cond}
+use Prim.Native.Nat.{ℕ, _+_}
 use Rattle.regex.specs.Tree.{Set, only}
 use Rattle.regex.specs.Text.{Reads, found, fault}
-use Rattle.text.specs.Place.{place}
+use Rattle.text.specs.Text.{place, until}
 use Rattle.regex_bracket.specs.declared.End.{End}
 use Rattle.regex_bracket.specs.declared.End.the-variants as end
+use Prim.Native.Char.{code}
+use lib.ListN.{getD, drop}
+use lib.Dec.{eqb}
+use Rattle.regex.specs.Sets.{bracket}
 
 -- where what was found in the text ends, or the refusal
 abbrev pub endOf : {X : Type 0} → List ℕ → Reads X → End
@@ -22,3 +26,18 @@ is-found (fault n r) = false
 abbrev pub setOf : Reads Set → Set
 setOf (found c r) = c
 setOf (fault n r) = only []
+
+-- where the first item stands, behind `[` or `[^`
+unfoldable pub opened : List ℕ → ℕ → ℕ
+opened text at = cond (eqb (getD text (at + 1) 0) (code "^")) (at + 2) (at + 1)
+
+-- where the closing `]` stands, or past the end: a `]` as first item is ordinary
+unfoldable pub closing : List ℕ → ℕ → ℕ
+closing text first =
+    cond (eqb (getD text first 0) (code "]"))
+    (first + 1 + until (code "]") (drop (first + 1) text))
+    (first + until (code "]") (drop first text))
+
+-- the bracket that begins at a place
+abbrev pub bracketAt : List ℕ → ℕ → Reads Set
+bracketAt text at = bracket (drop at text) (drop (at + 1) text)

@@ -10,8 +10,7 @@ ghost use Prim.Native.Nat.{_<_, _≤_};
 ghost use lib.ListN.{length};
 ghost use Rattle.lists.specs.Memory.{old};
 ghost use Rattle.regex.specs.Tree.{member as memberOf};
-ghost use Rattle.regex_bracket.specs.Answers.{is-found, endOf, setOf};
-ghost use Rattle.regex_bracket.specs.Brackets.{opened, closing as closingOf, bracketAt};
+ghost use Rattle.regex_bracket.specs.Answers.{is-found, endOf, setOf, opened, closing as closingOf, bracketAt};
 
 // Where a set ends, or why it is turned away.
 pub enum End {

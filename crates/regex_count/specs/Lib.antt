@@ -1,2 +1,3 @@
 pub mod Sums
 pub mod Parts
+pub mod PartsLaws

@@ -1,21 +1,15 @@
 -- Parts of a text as the parser answers them: joined, repeated, in parentheses; and where a branch ends. Assumes nothing.
 -- Used by the contracts and the proofs; in regex_parse.
-use mathlib.Core.Path.{_≡_, sym, ap}
 use mathlib.Core.List.{List}
-use mathlib.Core.Bool.{true, cond}
-use Prim.Native.Nat.{ℕ, _+_, _*_, _≤_, _<_}
+use mathlib.Core.Bool.{cond}
+use Prim.Native.Nat.{ℕ, _+_, _*_}
 use Prim.Native.Char.{code}
-use lib.ListN.{length, getD, drop}
+use lib.ListN.{getD}
 use lib.Dec.{eqb}
-use borrow.Author.Tests.{eq-eqb, ne-eqb}
-use Rattle.lists.specs.Each.{drop-here, drop-all}
 use Rattle.refusal.specs.declared.Refusal.the-variants as row
-use Rattle.text.specs.Bytes.{bytes}
 use Rattle.regex.specs.Tree.{onward}
-use Rattle.text.specs.Text.{one-of}
 use Rattle.regex.specs.Letters.{copiesOf}
-use Rattle.regex.specs.Sense.{few}
-use Rattle.regex.specs.Read.{ends}
+use Rattle.regex.specs.Few.{few}
 use Rattle.regex_set.specs.declared.Part.{Part}
 use Rattle.regex_set.specs.declared.Part.the-variants as part
 use Rattle.regex_repetition.specs.declared.Repeats.{Repeats}
@@ -36,17 +30,3 @@ repeated n (count.Refused x) = part.Refused x
 abbrev pub closed : List ℕ → Part → Part
 closed text (part.Read e n) = cond (eqb (getD text e 0) (code ")")) (part.Read (e + 1) n) (part.Refused row.MisplacedSign)
 closed text (part.Refused x) = part.Refused x
-
-module _ (text : List ℕ) (e n : ℕ) where
-  pub closed-is : getD text e 0 ≡ code ")" → part.Read (e + 1) n ≡ closed text (part.Read e n)
-  closed-is k = rw (eq-eqb (getD text e 0) (code ")") k)
-
-  pub closed-not : (getD text e 0 ≡ code ")" → ⊥) → part.Refused row.MisplacedSign ≡ closed text (part.Read e n)
-  closed-not k = rw (ne-eqb (getD text e 0) (code ")") k)
-
--- a branch ends here
-pub ends-none : (text : List ℕ) (at : ℕ) → length text ≤ at → true ≡ ends (drop at text)
-ends-none text at l = sym (ap ends (drop-all text at l))
-
-pub ends-by : (text : List ℕ) (at : ℕ) → at < length text → one-of (bytes "|)") (getD text at 0) ≡ ends (drop at text)
-ends-by text at l = sym (ap ends (drop-here 0 text at l))

@@ -12,7 +12,7 @@ ghost use lib.ListN.{drop};
 ghost use Rattle.lists.specs.Memory.{old};
 ghost use Rattle.regex.specs.Tree.{onward};
 ghost use Rattle.regex.specs.Letters.{copiesOf};
-ghost use Rattle.regex.specs.Sense.{few};
+ghost use Rattle.regex.specs.Few.{few};
 ghost use Rattle.regex.specs.Repetition.{repeats as repeatsHere};
 ghost use Rattle.regex.specs.Read.{ends};
 ghost use Rattle.regex_count.specs.Parts.{add, repeated as repeatedOf, closed as closedOf};

@@ -13,15 +13,16 @@ use Rattle.refusal.specs.declared.Refusal.{Refusal}
 use Rattle.refusal.specs.declared.Refusal.the-variants as row
 use Rattle.regex.specs.Tree.{Count, between, onward, Tree, group, times, join, either}
 use Rattle.regex.specs.Text.{Reads, found, fault, then}
-use Rattle.text.specs.Text.{next, rest}
+use Rattle.text.specs.Text.{next, rest, place}
 use Rattle.regex.specs.Letters.{copiesOf, letterCount}
-use Rattle.regex.specs.Sense.{few, few-add}
+use Rattle.regex.specs.Sense.{few-add}
+use Rattle.regex.specs.Few.{few}
 use Rattle.regex.specs.Repetition.{repeats, repetition}
 use Rattle.regex.specs.Read.{Mode, m-alternation, m-branch, m-piece, m-group, ends, grouped, step, read}
 use Rattle.regex.specs.Steps.{read-step}
 use Rattle.regex_set.specs.declared.Part.{Part}
 use Rattle.regex_set.specs.declared.Part.the-variants as part
-use Rattle.text.specs.Place.{place, place-drop, next-at, rest-at, byte-is}
+use Rattle.text.specs.TextLaws.{place-drop, next-at, rest-at, byte-is}
 use Rattle.regex_set.specs.Answers.{partOf, set-tree}
 use Rattle.regex_repetition.specs.Answers.{repeatsOf}
 use Rattle.regex_count.specs.Sums.{few-times}

@@ -1,4 +1,5 @@
 pub mod Parts
 pub mod Cycle
 pub mod Parsed
+pub mod ParsedLaws
 pub mod Examples

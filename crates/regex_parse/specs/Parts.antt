@@ -8,7 +8,7 @@ use lib.ListN.{length, drop, length-drop}
 use Rattle.regex.specs.Tree.{Tree}
 use Rattle.regex.specs.Text.{Reads, found, fault}
 use Rattle.regex.specs.Letters.{letterCount}
-use Rattle.regex.specs.Sense.{few}
+use Rattle.regex.specs.Few.{few}
 use Rattle.regex.specs.Read.{Mode, read}
 use Rattle.regex.specs.Says.{of-found}
 use Rattle.regex.specs.Front.{Front, Stop}
@@ -16,7 +16,8 @@ use Rattle.regex.specs.Sound.{read-sound}
 use Rattle.regex.specs.Steps.{read-forward}
 use Rattle.regex_set.specs.declared.Part.{Part}
 use Rattle.regex_set.specs.declared.Part.the-variants as part
-use Rattle.text.specs.Place.{place, behind}
+use Rattle.text.specs.TextLaws.{behind}
+use Rattle.text.specs.Text.{place}
 use Rattle.regex_set.specs.Answers.{partOf}
 
 module _ (A text : List ℕ) where

@@ -1,3 +1,3 @@
 pub mod Answers
-pub mod Counts
-pub mod Signs
+pub mod CountLaws
+pub mod SignLaws

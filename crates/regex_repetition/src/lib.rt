@@ -7,9 +7,7 @@ ghost use Prim.Native.Nat.{_+_, _<_};
 ghost use lib.ListN.{length, drop};
 ghost use Rattle.lists.specs.Memory.{old};
 ghost use Rattle.regex.specs.Repetition.{number as numberOf, counts as countsOf, sign as signOf, repetition as repetitionOf};
-ghost use Rattle.regex_repetition.specs.Answers.{repeatsOf};
-ghost use Rattle.regex_repetition.specs.Counts.{number-or, ranged, counted};
-ghost use Rattle.regex_repetition.specs.Signs.{braced, modified};
+ghost use Rattle.regex_repetition.specs.Answers.{repeatsOf, number-or, ranged, counted, braced, modified};
 
 // A repetition: at least and at most so many, or so many and more; then where it ends. Or why it is turned away.
 pub enum Repeats {

@@ -8,9 +8,9 @@ use lib.ListN.{drop}
 use Rattle.regex.specs.Tree.{Set, Tree, set}
 use Rattle.regex.specs.Text.{Reads, found, fault, then}
 use Rattle.regex.specs.Letters.{letterCount}
-use Rattle.regex.specs.Sense.{few}
+use Rattle.regex.specs.Few.{few}
 use Rattle.regex.specs.Sets.{a-set, labelled-set}
-use Rattle.text.specs.Place.{place}
+use Rattle.text.specs.Text.{place}
 use Rattle.regex_bracket.specs.Answers.{is-found, setOf}
 use Rattle.regex_set.specs.declared.Part.{Part}
 use Rattle.regex_set.specs.declared.Part.the-variants as part

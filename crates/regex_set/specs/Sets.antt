@@ -10,21 +10,21 @@ use native.Mathlib.Omega.{arith}
 use lib.ListN.{length, getD, drop}
 use lib.Dec.{eqb, leb}
 use borrow.Author.Tests.{eq-eqb, ne-eqb, eqb-true, le-leb, leb-true}
-use Rattle.lists.specs.Each.{drop-here, drop-all}
-use Rattle.lists.specs.Order.{lt-or-le, not-both, same-truth, and-left, and-right, and-both}
+use Rattle.lists.specs.EachLaws.{drop-here, drop-all}
+use Rattle.lists.specs.OrderLaws.{lt-or-le, not-both, same-truth, and-left, and-right, and-both}
 use Rattle.refusal.specs.declared.Refusal.{Refusal}
 use Rattle.refusal.specs.declared.Refusal.the-variants as row
 use Rattle.regex.specs.Tree.{Set, except, Tree, set, member}
 use Rattle.regex.specs.Text.{Reads, found, fault, then}
 use Rattle.lists.specs.Cases.{first-of}
 use Rattle.regex.specs.Letters.{labelsOf, letterCount}
-use Rattle.regex.specs.Sense.{few}
+use Rattle.regex.specs.Few.{few}
 use Rattle.regex.specs.Sets.{special, alone, escaped, bracket, a-set, labelled-set}
-use Rattle.text.specs.Place.{place, place-drop, byte-within}
+use Rattle.text.specs.TextLaws.{place-drop, byte-within}
+use Rattle.text.specs.Text.{place}
 use Rattle.lists.specs.CasesLaws.{fourth}
 use Rattle.regex_bracket.specs.declared.End.the-variants as end
-use Rattle.regex_bracket.specs.Answers.{endOf, is-found, setOf}
-use Rattle.regex_bracket.specs.Brackets.{bracketAt}
+use Rattle.regex_bracket.specs.Answers.{endOf, is-found, setOf, bracketAt}
 use Rattle.regex_set.specs.declared.Part.the-variants as part
 use Rattle.regex_set.specs.Answers.{partOf, set-tree, SetAt, setAt}
 

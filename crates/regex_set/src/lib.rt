@@ -13,7 +13,7 @@ ghost use lib.ListN.{length, drop};
 ghost use Rattle.lists.specs.Memory.{old};
 ghost use Rattle.regex.specs.Tree.{member as memberOf};
 ghost use Rattle.regex.specs.Letters.{labelsOf};
-ghost use Rattle.regex.specs.Sense.{few};
+ghost use Rattle.regex.specs.Few.{few};
 ghost use Rattle.regex.specs.Sets.{special, escaped, a-set};
 ghost use Rattle.regex_bracket.specs.Answers.{endOf};
 ghost use Rattle.regex_set.specs.Answers.{partOf, set-tree, SetAt, setAt};

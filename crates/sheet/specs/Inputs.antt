@@ -7,8 +7,7 @@ use Prim.Native.Nat.{ℕ}
 use lib.ListN.{take}
 use Rattle.io.specs.Counts.{Counts}
 use Rattle.text.specs.Bytes.{bytes}
-use Rattle.sheet_answer.specs.Answer.{Prints, prints-unique}
-use Rattle.sheet_answer.specs.Document.{document-prints}
+use Rattle.sheet_answer.specs.Answer.{Prints}
 use Rattle.sheet.specs.declared.Input.{Input}
 use Rattle.sheet.specs.declared.Input.the-variants as input
 
@@ -24,11 +23,5 @@ PrintsInput input.Failed buffer output = output ≡ []
 
 -- Document 01's sheet of 24 bytes, and a byte of the buffer that was not read.
 
-abbrev buffer : List ℕ
+abbrev pub buffer : List ℕ
 buffer = bytes "ab\naa\n5 1 9\n5 1 9\n5 1 9\n7"
-
-whole-input : (output : List ℕ) → PrintsInput (input.Whole 24) buffer output → output ≡ bytes "7\naa\n1 0 1\n"
-whole-input output h = prints-unique (bytes "ab\naa\n5 1 9\n5 1 9\n5 1 9\n") output (bytes "7\naa\n1 0 1\n") h document-prints
-
-failed-input : (output : List ℕ) → PrintsInput input.Failed buffer output → output ≡ []
-failed-input output h = h

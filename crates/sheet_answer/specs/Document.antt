@@ -5,9 +5,7 @@ use mathlib.Core.Path.{_≡_, refl}
 use mathlib.Core.Option.{some, none}
 use mathlib.Core.List.{List, [], _∷_, flatMap, flatten}
 use lib.ListN.{take}
-use Rattle.lists.specs.Each.{all}
-use Rattle.lists.specs.Among.{any, keep}
-use Rattle.lists.specs.Ascending.{numbers}
+use Rattle.lists.specs.Lists.{all, any, keep, numbers}
 use Rattle.refusal.specs.Verdict.{unless, if-passed, first-refusal}
 use Rattle.ctc.specs.Collapse.{merge, without-blanks, collapse}
 use Rattle.automaton.specs.Form.{encode}
@@ -27,8 +25,10 @@ use Rattle.read.specs.Cases.{cases, cases-stated}
 use Rattle.sheet_format.specs.Sheet.{onto, pieces, both, every, closed, costOf, columnOf, laid, sheetFrom, sheetOf}
 use Rattle.sheet_decimal.specs.Numerals.{digits, decimal}
 use Rattle.sheet_path.specs.Labels.{following, spaced}
-use Rattle.sheet_read.specs.Promise.{Answers, answers-printed}
-use Rattle.sheet_answer.specs.Answer.{Prints, prints-unique}
+use Rattle.sheet_read.specs.Promise.{Answers}
+use Rattle.sheet_read.specs.PromiseLaws.{answers-printed}
+use Rattle.sheet_answer.specs.Answer.{Prints}
+use Rattle.sheet_answer.specs.AnswerLaws.{prints-unique}
 
 -- "Input in full" and "Output in full"
 pub document-prints : Prints (bytes "ab\naa\n5 1 9\n5 1 9\n5 1 9\n") (bytes "7\naa\n1 0 1\n")

@@ -6,13 +6,14 @@ use mathlib.Core.Option.{Option, some, none}
 use mathlib.Core.List.{List}
 use native.Mathlib.Omega.{arith}
 use lib.ListN.{length, take, drop}
-use Rattle.lists.specs.Written.{take-written, written-fits}
+use Rattle.lists.specs.WrittenLaws.{take-written, written-fits}
 use Rattle.refusal.specs.declared.Refusal.the-variants as row
 use Rattle.refusal.specs.Number.{numberOf}
 use Rattle.matrix.specs.Matrix.{matrix}
 use Rattle.sheet_format.specs.Sheet.{Sheet, sheetOf, matrixOf}
 use Rattle.sheet_format.specs.Parts.{sheet-within, sheet-alphabet, sheet-text, sheet-costs, sheet-area}
-use Rattle.sheet_scan.specs.Answers.{answerOf, Scans, answered}
+use Rattle.sheet_scan.specs.Answers.{answerOf, Scans}
+use Rattle.sheet_scan.specs.AnswersLaws.{answered}
 use Rattle.sheet_scan.specs.declared.Scanned.the-variants as scanned
 use Rattle.sheet_lines.specs.Lines.{refusal-line}
 use Rattle.sheet_read.specs.Answer.{PrintsReading}

@@ -1,3 +1,5 @@
 pub mod Rests
+pub mod Loops
 pub mod Storing
 pub mod Matrices
+pub mod MatricesLaws

@@ -1,22 +1,15 @@
 -- What storing the whole matrix answers: the first column line gives the width that the others must have. Assumes nothing.
 -- Used by the contracts and the proofs; in sheet_scan.
-use mathlib.Core.Path.{_≡_, refl, sym, ap, _∙_}
+use mathlib.Core.Path.{_≡_}
 use mathlib.Core.Option.{some}
-use mathlib.Core.List.{List, [], _∷_, _++_, flatten}
+use mathlib.Core.List.{List, flatten}
 use mathlib.Core.Bool.{true}
-use Prim.Native.Nat.{ℕ, _+_, _<_, _≤_}
-use native.Mathlib.Omega.{arith}
-use lib.ListN.{length, drop, length-append, length-drop}
-use lib.Seq.{sets, sets-eq}
-use lib.Dec.{leb}
-use borrow.Author.Tests.{leb-true, le-leb}
-use Rattle.lists.specs.Each.{drop-all}
-use Rattle.lists.specs.Order.{and-left, and-right, and-both}
-use Rattle.lists.specs.Written.{written, written-none, stored-then}
-use Rattle.sheet_format.specs.Sheet.{both, equal-columns, fitting, widthOr}
-use Rattle.sheet_format.specs.Rows.{rows, rows-end, rows-some}
-use Rattle.sheet_columns.specs.Storing.{Spoilt, spoilt-stored, StoredColumn, StoredColumns, wide, both-back, flatten-more}
-use Rattle.sheet_columns.specs.declared.Column.the-variants as column
+use Prim.Native.Nat.{ℕ}
+use lib.ListN.{length, drop}
+use Rattle.lists.specs.Memory.{written}
+use Rattle.sheet_format.specs.Sheet.{fitting, widthOr}
+use Rattle.sheet_format.specs.ColumnLines.{rows}
+use Rattle.sheet_columns.specs.Storing.{Spoilt}
 use Rattle.sheet_columns.specs.declared.Columns.the-variants as columns
 use Rattle.sheet_columns.specs.declared.Body.{Body}
 use Rattle.sheet_columns.specs.declared.Body.the-variants as body
@@ -34,72 +27,3 @@ abbrev pub StoredMatrix : ℕ → List ℕ → ℕ → List ℕ → List ℕ →
 StoredMatrix if-none input at before after (body.Matrix width count) = AllColumns if-none input at before after width count
 StoredMatrix if-none input at before after body.Bad =
     ((cs : List (List ℕ)) → rows (drop at input) ≡ some cs → fitting cs ≡ true → ⊥) × Spoilt before after
-
-sets-written : (c m : List ℕ) → length c ≤ length m → sets m 0 c ≡ written c m
-unfolding written
-sets-written c m l = let z : 0 + length c ≡ length c = omega arith in sets-eq c m 0 (omega arith) ∙ ap (λ k. c ++ drop k m) z
-
-module _ (if-none : ℕ) (input : List ℕ) (at : ℕ) (before : List ℕ) where
-  pub matrix-none : at ≡ length input → StoredMatrix if-none input at before before (body.Matrix if-none 0)
-  unfolding flatten
-  matrix-none l =
-      record {
-        columns = [];
-        are = ap rows (drop-all input at (omega arith)) ∙ rows-end;
-        fits = refl;
-        is-width = refl;
-        is-count = refl;
-        memory = sym (written-none before);
-      }
-
-  pub matrix-bad :
-      (after : List ℕ) → at < length input → StoredColumn input at 0 before after column.Bad → StoredMatrix if-none input at before after body.Bad
-  matrix-bad after l h = (by, h .1)
-    where
-      by : (cs : List (List ℕ)) → rows (drop at input) ≡ some cs → fitting cs ≡ true → ⊥
-      by [] e q = rows-some (drop at input) (let k = length-drop at input in omega arith) e
-      by (c ∷ cs) e q =
-          let k = h .0 c cs e in
-          let s = flatten-more c (c ∷ cs) cs refl in
-          let r = leb-true (length (flatten (c ∷ cs))) 16384 (and-right (equal-columns (c ∷ cs)) (leb (length (flatten (c ∷ cs))) 16384) q) in
-          omega arith
-
-  module _ (middle : List ℕ) (e w : ℕ) (h : StoredColumn input at 0 before middle (column.Ends e w)) where
-    first : w ≡ length (h .costs)
-    first = h .stored .next ∙ omega arith
-
-    pub matrix-unequal :
-        (after : List ℕ) → StoredColumns w input e w 1 middle after columns.Bad → StoredMatrix if-none input at before after body.Bad
-    matrix-unequal after s = (
-      (λ cs q t.
-          let k = both-back (h .costs) (rows (drop e input)) cs (sym (h .is) ∙ q) in
-          let ds = h .costs ∷ k .0 in
-          let u : fitting ds ≡ true = rw (k .2) at t in
-          let v : wide w (k .0) ≡ true = rw first (and-left (equal-columns ds) (leb (length (flatten ds)) 16384) u) in
-          let l = s .0 (k .0) (k .1) v in
-          let r = leb-true (length (flatten ds)) 16384 (and-right (equal-columns ds) (leb (length (flatten ds)) 16384) u) in
-          let y = flatten-more (h .costs) ds (k .0) refl in
-          let z = first in
-          omega arith),
-      spoilt-stored (h .costs) 0 w before middle after (h .stored) (h .room) (s .1),
-    )
-
-    pub matrix-is :
-        (after : List ℕ) (count : ℕ) → 16384 ≤ length before → StoredColumns w input e w 1 middle after (columns.Count count)
-        → StoredMatrix if-none input at before after (body.Matrix w count)
-    unfolding flatten both
-    matrix-is after count l s =
-        let z = first in
-        let n = s .counted in
-        let r = s .room in
-        let y = length-append (h .costs) (flatten (s .columns)) in
-        let t = stored-then (h .stored) (s .stored) in
-        let u : wide (length (h .costs)) (s .columns) ≡ true = rw first at (s .equal) in
-        record {
-          columns = h .costs ∷ s .columns;
-          are = h .is ∙ ap (both (some (h .costs))) (s .are);
-          fits = and-both (equal-columns (h .costs ∷ s .columns)) (leb (length (flatten (h .costs ∷ s .columns))) 16384) u (le-leb (length (flatten (h .costs ∷ s .columns))) 16384 (omega arith));
-          is-width = first;
-          is-count = omega arith;
-          memory = t .memory ∙ sets-written (h .costs ++ flatten (s .columns)) before (omega arith);
-        }

@@ -12,12 +12,15 @@ use lib.ListN.{length, getD, take, drop, length-append, length-drop}
 use lib.Seq.{take-append-seam, getD-append-seam, getD-drop}
 use lib.Dec.{eqb}
 use borrow.Author.Tests.{eqb-true, eq-eqb}
-use Rattle.lists.specs.Each.{drop-here}
-use Rattle.lists.specs.Order.{and-left, and-right, or-either, or-left, or-right}
+use Rattle.lists.specs.EachLaws.{drop-here}
+use Rattle.lists.specs.OrderLaws.{and-left, and-right, or-either, or-left, or-right}
 use Rattle.text.specs.Digits.{digits}
-use Rattle.sheet_format.specs.Rows.{Free, rows, FirstCost, rows-back, put, rows-put}
-use Rattle.sheet_number.specs.Places.{part, part-rest}
-use Rattle.sheet_number.specs.Digits.{digit, separator, digit-range, cost-back, CostAt, ReadCost, cost-begins}
+use Rattle.sheet_format.specs.Rows.{FirstCost, rows-back, put, rows-put}
+use Rattle.sheet_format.specs.ColumnLines.{Free, rows}
+use Rattle.sheet_number.specs.Places.{part}
+use Rattle.sheet_number.specs.PlacesLaws.{part-rest}
+use Rattle.sheet_number.specs.Digits.{digit, separator, CostAt, ReadCost}
+use Rattle.sheet_number.specs.DigitsLaws.{digit-range, cost-back, cost-begins}
 use Rattle.sheet_number.specs.declared.Cost.the-variants as cost
 
 digits-free : (c : ℕ) (p : List ℕ) → c < 48 → digits p ≡ true → Free c p

@@ -10,7 +10,7 @@ use native.Mathlib.Omega.{arith}
 use lib.Dec.{leb}
 use borrow.Author.Tests.{lt-ltb, le-ltb, le-leb}
 use lib.ListN.{length, getD, length-append, List·getD-append}
-use Rattle.lists.specs.Order.{lt-or-le, and-left, and-right, and-both}
+use Rattle.lists.specs.OrderLaws.{lt-or-le, and-left, and-right, and-both}
 use Rattle.text.specs.Digits.{value, digits as all-digits}
 use Rattle.sheet_decimal.specs.Numerals.{digit, digits, decimal}
 

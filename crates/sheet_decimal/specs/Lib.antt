@@ -1,3 +1,4 @@
 pub mod Numerals
+pub mod Examples
 pub mod Decimal
 pub mod Pieces

@@ -2,11 +2,9 @@
 -- Used by the contracts, the proofs and Decimal; in sheet_answer, sheet_path and sheet_lines.
 use Prim.Native.Nat.{ℕ, zero, suc, _+_, _/_, _%_}
 use Prim.Native.Char.{code}
-use mathlib.Core.Path.{_≡_, refl}
 use mathlib.Core.Bool.{true, false}
 use mathlib.Core.List.{List, [], _∷_, _++_}
 use lib.Dec.{ltb}
-use Rattle.text.specs.Bytes.{bytes}
 
 -- the digit of a number below 10
 abbrev pub digit : ℕ → ℕ
@@ -20,18 +18,3 @@ digits (suc k) n = elim (ltb n 10) [ true ↦ digit n ∷ [] | false ↦ digits 
 -- n in decimal: n + 1 divisions are enough
 unfoldable pub decimal : ℕ → List ℕ
 decimal n = digits (n + 1) n
-
--- Checked at the edges.
-
-nought : decimal 0 ≡ bytes "0"
-unfolding decimal digits
-nought = refl
-
-hundred : decimal 100 ≡ bytes "100"
-unfolding decimal digits
-hundred = refl
-
--- the dearest path there is
-dearest : decimal 255000000 ≡ bytes "255000000"
-unfolding decimal digits
-dearest = refl

@@ -5,7 +5,8 @@ use mathlib.Core.Path.{_≡_, ap}
 use mathlib.Core.List.{List, _++_}
 use native.Mathlib.Omega.{arith}
 use lib.ListN.{length, length-append}
-use Rattle.lists.specs.Written.{Stored, stored-then, stored-size}
+use Rattle.lists.specs.WrittenLaws.{stored-then, stored-size}
+use Rattle.lists.specs.Memory.{Stored}
 
 -- front and back make the whole: room for both, and what is stored then
 module _ (whole front back before : List ℕ) (n : ℕ) (is : whole ≡ front ++ back) (room : n + length whole ≤ length before) where

@@ -5,24 +5,11 @@ use mathlib.Core.Option.{Option, some, none}
 use mathlib.Core.List.{List, [], _∷_, map, flatten}
 use mathlib.Core.Bool.{Bool, true, false}
 use Prim.Native.Nat.{ℕ}
-use Rattle.lists.specs.Each.{all}
+use Rattle.lists.specs.Lists.{all}
 use Rattle.text.specs.Bytes.{bytes}
 use Rattle.lists.specs.Cases.{provided}
 use Rattle.matrix.specs.Matrix.{matrix}
-use Rattle.sheet_format.specs.Sheet.{
-  onto,
-  pieces,
-  both,
-  every,
-  closed,
-  costOf,
-  columnOf,
-  Sheet,
-  laid,
-  sheetFrom,
-  sheetOf,
-  matrixOf,
-}
+use Rattle.sheet_format.specs.Sheet.{onto, pieces, both, every, closed, costOf, columnOf, Sheet, laid, sheetFrom, sheetOf, matrixOf}
 
 three-pieces : pieces 10 (bytes "a\nb\n") ≡ bytes "a" ∷ (bytes "b" ∷ ([] ∷ []))
 unfolding pieces onto

@@ -11,13 +11,10 @@ use native.Mathlib.Omega.{arith}
 use lib.ListN.{length}
 use lib.Dec.{eqb}
 use borrow.Author.Tests.{ne-eqb, eq-eqb}
-use Rattle.lists.specs.Each.{Each, each-append}
-use Rattle.lists.specs.Order.{eq-or-ne}
+use Rattle.lists.specs.EachLaws.{each-append}
+use Rattle.lists.specs.OrderLaws.{eq-or-ne}
 use Rattle.sheet_format.specs.Sheet.{onto, pieces, both, every, closed, linesOf, costOf, columnOf}
-
--- no byte is the separator c
-abbrev pub Free : ℕ → List ℕ → Type 0
-Free c p = Each (λ b. b ≡ c → ⊥) p
+use Rattle.sheet_format.specs.ColumnLines.{Free, columnsOf, rows}
 
 -- Pieces.
 
@@ -139,16 +136,6 @@ lines-back (b ∷ s) l ls e =
           splits = ap (λ x. b ∷ x) (f .splits) ∙ ap (λ x. x ++ (10 ∷ f .behind)) k;
           others = f .others ∙ ap some n;
         }
-
--- Columns.
-
-unfoldable pub columnsOf : Option (List (List ℕ)) → Option (List (List ℕ))
-columnsOf none = none
-columnsOf (some ls) = every columnOf ls
-
--- the columns of a sheet's rest
-abbrev pub rows : List ℕ → Option (List (List ℕ))
-rows s = columnsOf (linesOf s)
 
 -- a cost in front of the first column
 unfoldable pub beside : Option ℕ → Option (List (List ℕ)) → Option (List (List ℕ))

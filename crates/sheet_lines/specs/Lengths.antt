@@ -5,14 +5,16 @@ use mathlib.Core.Path.{_≡_}
 use mathlib.Core.List.{List, [], _∷_, _++_, append-nil}
 use native.Mathlib.Omega.{arith}
 use lib.ListN.{length, length-append}
-use Rattle.lists.specs.Each.{Each}
-use Rattle.lists.specs.Written.{Wrote, Stored, filling-none, filling-stored, filling-all}
+use Rattle.lists.specs.Lists.{Each}
+use Rattle.lists.specs.FillingLoops.{filling-none, filling-stored, filling-all}
+use Rattle.lists.specs.Memory.{Wrote, Stored}
 use Rattle.refusal.specs.declared.Refusal.{Refusal}
-use Rattle.refusal.specs.Number.{numberOf, number-between}
+use Rattle.refusal.specs.Number.{numberOf}
+use Rattle.refusal.specs.NumberLaws.{number-between}
 use Rattle.sheet_decimal.specs.Numerals.{decimal}
 use Rattle.sheet_decimal.specs.Decimal.{decimal-short}
 use Rattle.sheet_path.specs.Labels.{spaced}
-use Rattle.sheet_path.specs.Turns.{spaced-short}
+use Rattle.sheet_path.specs.Loops.{spaced-short}
 use Rattle.sheet_lines.specs.Lines.{line, reading-lines, refusal-line}
 
 -- what is stored from the front on

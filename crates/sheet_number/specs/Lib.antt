@@ -1,2 +1,4 @@
 pub mod Places
+pub mod PlacesLaws
 pub mod Digits
+pub mod DigitsLaws

@@ -2,10 +2,8 @@
 -- Used by the contracts, the proofs and Turns; in sheet_answer and sheet_lines.
 use Prim.Native.Nat.{ℕ}
 use Prim.Native.Char.{code}
-use mathlib.Core.Path.{_≡_, refl}
 use mathlib.Core.List.{List, [], _∷_, _++_, flatMap}
-use Rattle.text.specs.Bytes.{bytes}
-use Rattle.sheet_decimal.specs.Numerals.{digits, decimal}
+use Rattle.sheet_decimal.specs.Numerals.{decimal}
 
 -- labels in decimal, each behind a space
 unfoldable pub following : List ℕ → List ℕ
@@ -15,9 +13,3 @@ following p = flatMap (λ x. code " " ∷ decimal x) p
 unfoldable pub spaced : List ℕ → List ℕ
 spaced [] = []
 spaced (x ∷ p) = decimal x ++ following p
-
--- Checked on three labels.
-
-labels : spaced (1 ∷ 0 ∷ 95 ∷ []) ≡ bytes "1 0 95"
-unfolding spaced following decimal digits flatMap
-labels = refl

@@ -1,2 +1,3 @@
 pub mod Labels
-pub mod Turns
+pub mod Examples
+pub mod Loops

@@ -4,8 +4,7 @@ use sheet_decimal::put_decimal;
 ghost use mathlib.Core.List.{_∷_};
 ghost use Prim.Native.Nat.{_+_, _≤_};
 ghost use lib.ListN.{length, drop};
-ghost use Rattle.lists.specs.Memory.{old, new};
-ghost use Rattle.lists.specs.Written.{Stored};
+ghost use Rattle.lists.specs.Memory.{old, new, Stored};
 ghost use Rattle.sheet_decimal.specs.Numerals.{decimal};
 ghost use Rattle.sheet_path.specs.Labels.{following, spaced};
 

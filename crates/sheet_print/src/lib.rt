@@ -3,8 +3,7 @@
 use answers::Reading;
 ghost use Prim.Native.Nat.{_≤_};
 ghost use lib.ListN.{length};
-ghost use Rattle.lists.specs.Memory.{old, new};
-ghost use Rattle.lists.specs.Written.{Wrote};
+ghost use Rattle.lists.specs.Memory.{old, new, Wrote};
 ghost use Rattle.sheet_print.specs.Printed.{Shown, answer-lines};
 
 // Prints what Read answered of `count` columns, with path and word memory as it left them; the number of bytes.

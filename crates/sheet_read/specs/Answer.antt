@@ -2,7 +2,7 @@
 -- away"): "the lowest number", and past the checks the best reading, or 16 where there is none. No memory is in it. Assumes nothing.
 -- Used by the contracts, the proofs, Examples, Longest and Steps; in sheet_answer and sheet.
 use Prim.Native.Nat.{ℕ}
-use mathlib.Core.Path.{_≡_, sym, ap, _∙_}
+use mathlib.Core.Path.{_≡_}
 use mathlib.Core.Option.{Option, some, none}
 use mathlib.Core.List.{List}
 use lib.ListN.{length}
@@ -14,7 +14,7 @@ use Rattle.refusal.specs.Verdict.{Verdict, passed, refused, first-refusal}
 use Rattle.ctc.specs.Collapse.{collapse}
 use Rattle.automaton.specs.Form.{lettersOf}
 use Rattle.matrix.specs.Matrix.{Matrix, price}
-use Rattle.outcome.specs.Reading.{Outcome, outcome-unique}
+use Rattle.outcome.specs.Outcome.{Outcome}
 use Rattle.regex.specs.Grammar.{WordsOf}
 use Rattle.compile.specs.Call.{compile-call}
 use Rattle.decode_checks.specs.Checks.{Rooms, matrix-checks}
@@ -56,18 +56,3 @@ PrintsCompiled (passed f) A s M output = PrintsChecked (first-refusal (matrix-ch
 -- for an alphabet, a text and a matrix
 abbrev pub PrintsReading : (A s : List ℕ) (M : Matrix) (output : List ℕ) → Type 0
 PrintsReading A s M output = PrintsCompiled (compile-call A s form-room) A s M output
-
--- One alphabet, text and matrix have one output.
-
-module _ (A s : List ℕ) (M : Matrix) (a b : List ℕ) where
-  outcome-same : PrintsOutcome A s M a → PrintsOutcome A s M b → a ≡ b
-  outcome-same h g =
-      h .lines ∙ ap (outcome-lines A M) (outcome-unique M (WordsOf A s) (h .outcome) (g .outcome) (h .is) (g .is)) ∙ sym (g .lines)
-
-  checked-same : (c : Checked) → PrintsChecked c A s M a → PrintsChecked c A s M b → a ≡ b
-  checked-same (Refused n) h g = h ∙ sym g
-  checked-same Passed h g = outcome-same h g
-
-  pub compiled-same : (v : Verdict (List ℕ)) → PrintsCompiled v A s M a → PrintsCompiled v A s M b → a ≡ b
-  compiled-same (refused n) h g = h ∙ sym g
-  compiled-same (passed f) h g = checked-same (first-refusal (matrix-checks (length A) (lettersOf f) M lent-rooms)) h g

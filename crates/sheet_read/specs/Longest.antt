@@ -7,23 +7,24 @@ use mathlib.Core.Option.{Option, some, none}
 use mathlib.Core.List.{List, [], _∷_}
 use native.Mathlib.Omega.{arith}
 use lib.ListN.{length, getD, length-map}
-use Rattle.lists.specs.Each.{Each}
+use Rattle.lists.specs.Lists.{Each}
 use Rattle.refusal.specs.declared.Refusal.{Refusal}
 use Rattle.refusal.specs.declared.Refusal.the-variants.{NoReading}
 use Rattle.refusal.specs.declared.Checked.{Checked}
 use Rattle.refusal.specs.declared.Checked.the-variants.{Passed, Refused}
 use Rattle.refusal.specs.Number.{numberOf}
 use Rattle.refusal.specs.Verdict.{Verdict, passed, refused, first-refusal}
-use Rattle.ctc.specs.Collapse.{collapse, collapse-shorter}
+use Rattle.ctc.specs.Collapse.{collapse}
+use Rattle.ctc.specs.CollapseLaws.{collapse-shorter}
 use Rattle.automaton.specs.Form.{lettersOf}
-use Rattle.automaton.specs.Valid.{valid-parts}
+use Rattle.automaton.specs.ValidLaws.{valid-parts}
 use Rattle.matrix.specs.Matrix.{Matrix, priceFrom, price, PathFrom, PathOf}
-use Rattle.outcome.specs.Reading.{Outcome}
+use Rattle.outcome.specs.Outcome.{Outcome}
 use Rattle.regex.specs.Grammar.{WordsOf}
 use Rattle.compile.specs.Call.{compile-call}
 use Rattle.compile.specs.Meaning.{compiled-means}
 use Rattle.decode_checks.specs.Checks.{matrix-checks}
-use Rattle.decode_checks.specs.Passing.{fits}
+use Rattle.decode_checks.specs.PassingLaws.{fits}
 use Rattle.read_spelling.specs.Spelling.{characters}
 use Rattle.sheet_lines.specs.Lines.{reading-lines, refusal-line}
 use Rattle.sheet_lines.specs.Lengths.{reading-short, refusal-short}

@@ -6,12 +6,14 @@ use mathlib.Core.Option.{Option, some, none}
 use mathlib.Core.List.{List}
 use native.Mathlib.Omega.{arith}
 use lib.ListN.{length, getD, take, length-map}
-use Rattle.lists.specs.Written.{written, take-written, written-fits}
+use Rattle.lists.specs.WrittenLaws.{take-written, written-fits}
+use Rattle.lists.specs.Memory.{written}
 use Rattle.refusal.specs.declared.Refusal.{Refusal}
 use Rattle.refusal.specs.declared.Refusal.the-variants.{NoReading}
 use Rattle.refusal.specs.declared.Checked.{Checked}
 use Rattle.refusal.specs.declared.Checked.the-variants.{Passed, Refused}
-use Rattle.refusal.specs.Number.{numberOf, number-between}
+use Rattle.refusal.specs.Number.{numberOf}
+use Rattle.refusal.specs.NumberLaws.{number-between}
 use Rattle.refusal.specs.Verdict.{Verdict, passed, refused, first-refusal}
 use Rattle.refusal.specs.Report.{Report, turned-away}
 use Rattle.answers.specs.Decoded.{read}
@@ -21,7 +23,7 @@ use Rattle.answers.specs.declared.Reading.the-variants as answer
 use Rattle.ctc.specs.Collapse.{collapse}
 use Rattle.automaton.specs.Form.{lettersOf}
 use Rattle.matrix.specs.Matrix.{Matrix, price}
-use Rattle.outcome.specs.Reading.{Outcome}
+use Rattle.outcome.specs.Outcome.{Outcome}
 use Rattle.regex.specs.Grammar.{WordsOf}
 use Rattle.compile.specs.Call.{compile-call}
 use Rattle.decode_checks.specs.Checks.{needed, matrix-checks}

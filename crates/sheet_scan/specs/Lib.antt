@@ -1,2 +1,3 @@
 pub mod Answers
+pub mod AnswersLaws
 pub mod Whole

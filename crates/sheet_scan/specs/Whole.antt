@@ -10,13 +10,15 @@ use Prim.Native.Nat.{ℕ, _+_, _-_, _<_, _≤_}
 use native.Mathlib.Omega.{arith}
 use lib.ListN.{length, drop}
 use borrow.Author.Tests.{le-leb, lt-leb}
-use Rattle.lists.specs.Each.{drop-here, drop-all}
-use Rattle.lists.specs.Order.{eq-or-ne, true-or-false}
-use Rattle.lists.specs.Written.{written}
+use Rattle.lists.specs.EachLaws.{drop-here, drop-all}
+use Rattle.lists.specs.OrderLaws.{eq-or-ne, true-or-false}
+use Rattle.lists.specs.Memory.{written}
 use Rattle.lists.specs.Cases.{provided}
 use Rattle.sheet_format.specs.Sheet.{both, linesOf, Sheet, fitting, laid, sheetFrom, most-bytes, sheetOf, widthOr, matrixOf}
-use Rattle.sheet_format.specs.Rows.{lines-end, lines-open, lines-none, columnsOf, rows}
-use Rattle.sheet_number.specs.Places.{part, part-length, part-rest, LineEnd}
+use Rattle.sheet_format.specs.Rows.{lines-end, lines-open, lines-none}
+use Rattle.sheet_format.specs.ColumnLines.{columnsOf, rows}
+use Rattle.sheet_number.specs.Places.{part, LineEnd}
+use Rattle.sheet_number.specs.PlacesLaws.{part-length, part-rest}
 use Rattle.sheet_columns.specs.Matrices.{StoredMatrix}
 use Rattle.sheet_columns.specs.declared.Body.the-variants as body
 use Rattle.sheet_scan.specs.Answers.{answerOf, Scans}

@@ -1,4 +1,4 @@
 pub mod Bytes
 pub mod Text
 pub mod Digits
-pub mod Place
+pub mod TextLaws

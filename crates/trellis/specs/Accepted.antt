@@ -6,11 +6,15 @@ use mathlib.Core.Bool.{true}
 use mathlib.Core.List.{List, [], _∷_, map}
 use mathlib.Core.Logic.{_↔_, _⊎_, inl, inr}
 use native.Mathlib.Omega.{arith}
-use Rattle.lists.specs.Order.{eq-or-ne}
-use Rattle.ctc.specs.Collapse.{collapse, after, after-same, after-blank, after-new, collapse-after}
-use Rattle.automaton.specs.Automaton.{Automaton, Walk, Spells, Accepts, Proper}
-use Rattle.trellis.specs.Graph.{Way, way-step, way-split, way-here, way-none}
-use Rattle.trellis.specs.Extended.{OnLetter, InBlanks, Step, stay, pass, arc, rest, leave, AtLetter, may-end, extended}
+use Rattle.lists.specs.OrderLaws.{eq-or-ne}
+use Rattle.ctc.specs.Collapse.{collapse}
+use Rattle.ctc.specs.CollapseLaws.{after, after-same, after-blank, after-new, collapse-after}
+use Rattle.automaton.specs.Automaton.{Automaton, Walk, Spells, Accepts}
+use Rattle.automaton.specs.Proper.{Proper}
+use Rattle.trellis.specs.Graph.{Way}
+use Rattle.trellis.specs.GraphLaws.{way-step, way-split, way-here, way-none}
+use Rattle.trellis.specs.Extended.{OnLetter, InBlanks, Step, stay, pass, arc, rest, leave, extended}
+use Rattle.trellis.specs.ExtendedLaws.{AtLetter, may-end}
 
 module _ (A : Automaton) where
   -- what a word says of the letters that spell it, from the left

@@ -7,9 +7,12 @@ use mathlib.Core.List.{List, [], _∷_, _++_}
 use native.Mathlib.Omega.{arith}
 use lib.ListN.{length, getD, take, length-append}
 use lib.Seq.{length-take-le, take-suc, take-length}
-use Rattle.lists.specs.Least.{Least, least-same, least-through}
-use Rattle.matrix.specs.Matrix.{Matrix, cost, price, price-append}
-use Rattle.trellis.specs.Graph.{Graph, Leads, leads-append, leads-split}
+use Rattle.lists.specs.LeastLaws.{least-same, least-through}
+use Rattle.lists.specs.Least.{Least}
+use Rattle.matrix.specs.Matrix.{Matrix, cost, price}
+use Rattle.matrix.specs.MatrixLaws.{price-append}
+use Rattle.trellis.specs.Graph.{Graph, Leads}
+use Rattle.trellis.specs.GraphLaws.{leads-append, leads-split}
 use Rattle.trellis.specs.Impossible.{TOP, plus}
 use Rattle.trellis.specs.CostToGo.{CostToGo}
 

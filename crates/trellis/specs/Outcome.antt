@@ -8,16 +8,19 @@ use mathlib.Core.List.{List}
 use mathlib.Core.Logic.{_↔_, ⊎-elim}
 use native.Mathlib.Omega.{arith}
 use lib.ListN.{length}
-use Rattle.lists.specs.Order.{lt-or-le}
-use Rattle.lists.specs.Each.{Each}
-use Rattle.automaton.specs.Automaton.{Automaton, Accepts, Proper}
+use Rattle.lists.specs.OrderLaws.{lt-or-le}
+use Rattle.lists.specs.Lists.{Each}
+use Rattle.automaton.specs.Automaton.{Automaton, Accepts}
+use Rattle.automaton.specs.Proper.{Proper}
 use Rattle.matrix.specs.Matrix.{Matrix, price, CostsPass}
-use Rattle.outcome.specs.Reading.{Rival, Best, Outcome}
+use Rattle.outcome.specs.Outcome.{Rival, Best, Outcome}
 use Rattle.trellis.specs.Graph.{Way}
-use Rattle.trellis.specs.Impossible.{TOP, path-below, below-path}
+use Rattle.trellis.specs.Impossible.{TOP}
+use Rattle.trellis.specs.ImpossibleLaws.{path-below, below-path}
 use Rattle.trellis.specs.CostToGo.{CostToGo}
-use Rattle.trellis.specs.Trace.{WayFrom, BestFrom}
-use Rattle.trellis.specs.Extended.{extended, way-labels}
+use Rattle.trellis.specs.BestWay.{WayFrom, BestFrom}
+use Rattle.trellis.specs.Extended.{extended}
+use Rattle.trellis.specs.ExtendedLaws.{way-labels}
 use Rattle.trellis.specs.Accepted.{collapse-way}
 
 module _ {k : ℕ} {A : Automaton} (proper : Proper k A) (M : Matrix) (wide : M .width ≡ k + 1) (few : M .count ≤ 255) (pass : CostsPass M) where

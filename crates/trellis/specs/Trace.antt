@@ -7,26 +7,17 @@ use mathlib.Core.List.{List, [], _∷_, _++_, append-assoc, append-nil}
 use mathlib.Core.Logic.{inl, inr, ⊎-elim}
 use native.Mathlib.Omega.{arith}
 use lib.ListN.{length}
-use Rattle.lists.specs.Order.{lt-or-le}
-use Rattle.outcome.specs.Best.{BestOf, best-same}
+use Rattle.lists.specs.OrderLaws.{lt-or-le}
+use Rattle.outcome.specs.BestLaws.{best-same}
 use Rattle.matrix.specs.Matrix.{Matrix, cost, priceFrom}
 use Rattle.outcome.specs.Order.{NotAfter}
-use Rattle.trellis.specs.Graph.{Graph, Way, way-step, way-split}
+use Rattle.trellis.specs.Graph.{Graph, Way}
+use Rattle.trellis.specs.GraphLaws.{way-step, way-split}
 use Rattle.trellis.specs.Impossible.{TOP, plus}
 use Rattle.trellis.specs.CostToGo.{WayOf, CostToGo}
-
--- p is a way of n labels from a state of the set
-pub record WayFrom {S : Type 0} (G : Graph S) (n : ℕ) (In : S → Type 0) (p : List ℕ) : Type 0 where
-  pub long : length p ≡ n
-  pub from : S
-  pub member : In from
-  pub way : Way G from p
+use Rattle.trellis.specs.BestWay.{WayFrom, BestFrom}
 
 module _ {S : Type 0} (G : Graph S) (M : Matrix) where
-  -- the best of these, the first label in column t
-  abbrev pub BestFrom : (t n : ℕ) → (S → Type 0) → List ℕ → Type 0
-  BestFrom t n In = BestOf (WayFrom G n In) (priceFrom M t) NotAfter
-
   -- the states of the set, at least one, share a cost to go below TOP
   pub record Shared (t n : ℕ) (In : S → Type 0) (v : ℕ) : Type 0 where
     pub one : S
@@ -57,7 +48,7 @@ module _ {S : Type 0} (G : Graph S) (M : Matrix) where
   shared-least {t} sh p w = sh .all (w .from) (w .member) .least (priceFrom M t p) (record { path = p; long = w .long; way = w .way; paid = refl })
 
   -- so the best costs what they share
-  shared-price : {t n v : ℕ} {In : S → Type 0} (p : List ℕ) → Shared t n In v → BestFrom t n In p → priceFrom M t p ≡ v
+  shared-price : {t n v : ℕ} {In : S → Type 0} (p : List ℕ) → Shared t n In v → BestFrom G M t n In p → priceFrom M t p ≡ v
   shared-price p sh b =
       let w = shared-way sh in
       let e = w .paid in
@@ -66,7 +57,7 @@ module _ {S : Type 0} (G : Graph S) (M : Matrix) where
       omega arith
 
   -- no column is left
-  pub shared-end : {t v : ℕ} {In : S → Type 0} → Shared t 0 In v → BestFrom t 0 In []
+  pub shared-end : {t v : ℕ} {In : S → Type 0} → Shared t 0 In v → BestFrom G M t 0 In []
   shared-end {In = In} sh =
       let w = shared-way sh in
       record { qualifies = by (w .path) (w .long) (w .way); least = λ a q. omega arith; first = λ a q e. tt }
@@ -79,7 +70,7 @@ module _ {S : Type 0} (G : Graph S) (M : Matrix) where
   -- it, is the best of all.
   pub record Tracing (start : S) (n t l : ℕ) (In : S → Type 0) (v : ℕ) (done : List ℕ) : Type 0 where
     pub shared : Shared t l In v
-    pub best : (p : List ℕ) → BestFrom t l In p → BestFrom 0 n (λ s. s ≡ start) (done ++ p)
+    pub best : (p : List ℕ) → BestFrom G M t l In p → BestFrom G M 0 n (λ s. s ≡ start) (done ++ p)
 
   pub tracing-start :
       (start : S) (n v : ℕ) (In : S → Type 0) → In start → ((s : S) → In s → s ≡ start) → CostToGo G M 0 n start v → v < TOP → Tracing start n 0 n In v []
@@ -91,7 +82,7 @@ module _ {S : Type 0} (G : Graph S) (M : Matrix) where
             (λ a w. record { long = w .long; from = w .from; member = subst In (sym (w .member)) i; way = w .way });
       }
 
-  pub tracing-all : {start : S} {n t v : ℕ} {In : S → Type 0} {done : List ℕ} → Tracing start n t 0 In v done → BestFrom 0 n (λ s. s ≡ start) done
+  pub tracing-all : {start : S} {n t v : ℕ} {In : S → Type 0} {done : List ℕ} → Tracing start n t 0 In v done → BestFrom G M 0 n (λ s. s ≡ start) done
   tracing-all {done = done} h = rw (append-nil done) at (h .best [] (shared-end (h .shared)))
 
   -- One column: the set, what it shares, and the next row of costs to go.
@@ -143,7 +134,7 @@ module _ {S : Type 0} (G : Graph S) (M : Matrix) where
           }
 
       -- the best of the rest, behind x, is the best
-      pub best-next : (p : List ℕ) → BestFrom (t + 1) n In′ p → BestFrom t (n + 1) In (x ∷ p)
+      pub best-next : (p : List ℕ) → BestFrom G M (t + 1) n In′ p → BestFrom G M t (n + 1) In (x ∷ p)
       best-next p b =
           record {
             qualifies =

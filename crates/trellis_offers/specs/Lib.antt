@@ -1,2 +1,4 @@
 pub mod Offers
+pub mod OffersLoops
 pub mod Column
+pub mod ColumnLoops

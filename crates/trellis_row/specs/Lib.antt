@@ -1,2 +1,4 @@
 pub mod Letters
+pub mod LettersLoops
+pub mod RowsLaws
 pub mod Rows

@@ -1,24 +1,17 @@
 -- The whole table, filled from the last row to the first. Assumes nothing.
 -- Used by the contracts and the proofs; in decode_valid.
-use Prim.Native.Nat.{ℕ, _+_, _*_, _-_, _<_, _≤_}
-use mathlib.Core.Path.{_≡_, refl, subst, _∙_}
-use mathlib.Core.Logic.{_⊎_, inl, inr}
+use Prim.Native.Nat.{ℕ, _+_, _*_, _≤_}
+use mathlib.Core.Path.{_≡_}
 use mathlib.Core.List.{List}
-use native.Mathlib.Omega.{arith}
-use native.Mathlib.Nat.{mul-le-mul-right}
-use lib.ListN.{length, getD, drop}
-use Rattle.lists.specs.Order.{eq-or-ne}
-use Rattle.lists.specs.Outside.{Outside, outside-none, outside-then, outside-wider, behind-at}
+use lib.ListN.{length, drop}
+use Rattle.lists.specs.Memory.{Outside}
 use Rattle.matrix.specs.Matrix.{Matrix}
 use Rattle.automaton.specs.Form.{alphabetOf, view}
 use Rattle.automaton.specs.Valid.{Valid}
 use Rattle.trellis.specs.CostToGo.{CostToGo}
 use Rattle.trellis.specs.Extended.{extended}
 use Rattle.trellis.specs.Table.{Row, Table}
-use Rattle.trellis_offers.specs.Column.{Bounded}
 pub use Rattle.trellis_row.specs.Letters.{states}
-use Rattle.trellis_row.specs.Rows.{RowFilled, row-next}
-use Rattle.trellis_table.specs.Last.{LastFilled}
 
 -- the matrix has the form's width and as many costs as it says, and the memory has room for a table whose rows are `stride` apart
 pub record Sized (f : List ℕ) (M : Matrix) (work : List ℕ) (stride : ℕ) : Type 0 where
@@ -38,71 +31,3 @@ pub record Filled (f : List ℕ) (M : Matrix) (before after : List ℕ) (answer 
   pub table : Table (view f) M after 0 (states f)
   pub behind : drop ((M .count + 1) * states f) after ≡ drop ((M .count + 1) * states f) before
   pub price : CostToGo (extended (view f)) M 0 (M .count) 0 answer
-
-module _ {f : List ℕ} (M : Matrix) (before : List ℕ) (stride : ℕ) where
-  -- the last row is there
-  pub rows-last : Row (view f) M before (M .count * stride) (M .count) 0 → RowsFilled f M before before stride (M .count)
-  rows-last r =
-      record {
-        rows = λ u n h e. let p : u ≡ M .count = omega arith in let q : n ≡ 0 = omega arith in rw (p, q) r;
-        outside = outside-none 0 ((M .count + 1) * stride) before;
-      }
-
-  module _ (sized : Sized f M before stride) (t : ℕ) (few : t < M .count) where
-    -- the places of column t
-    pub cost-inside : t * M .width + alphabetOf f < length (M .costs)
-    cost-inside =
-        let a = mul-le-mul-right {m = t + 1} {n = M .count} (M .width) (omega arith) in
-        let w = sized .width in
-        let s = sized .size in
-        omega arith
-
-    pub row-inside : t * stride + stride + stride ≤ length before
-    row-inside = let a = mul-le-mul-right {m = t + 2} {n = M .count + 1} stride (omega arith) in let r = sized .room in omega arith
-
-    module _ (work : List ℕ) (done : RowsFilled f M before work stride (t + 1)) where
-      next-row : (n : ℕ) → t + (n + 1) ≡ M .count → Row (view f) M work (t * stride + stride) (t + 1) n
-      next-row n e = let p : (t + 1) * stride ≡ t * stride + stride = omega arith in rw p at (done .rows (t + 1) n (omega arith) (omega arith))
-
-      pub next-bounded : Bounded f work (t * stride + stride)
-      next-bounded =
-          record {
-            room = let a = row-inside in let l = done .outside .size in let r = sized .row in omega arith;
-            top = λ s h. next-row (M .count - (t + 1)) (omega arith) s h .within;
-          }
-
-      -- one more row
-      pub rows-more :
-          (after : List ℕ) → RowFilled f (M .costs) (t * M .width) work after (t * stride) (t * stride + stride) → RowsFilled f M before after stride t
-      rows-more after r =
-          record {
-            rows = λ u n h e. by u n h e (eq-or-ne u t);
-            outside = outside-then (done .outside) (outside-wider 0 ((M .count + 1) * stride) (omega arith) end (r .outside));
-          }
-        where
-          wide : states f ≤ stride
-          wide = sized .row
-
-          end : t * stride + states f ≤ (M .count + 1) * stride
-          end = let a = mul-le-mul-right {m = t + 1} {n = M .count + 1} stride (omega arith) in omega arith
-
-          by : (u n : ℕ) → t ≤ u → u + n ≡ M .count → (u ≡ t) ⊎ (u ≡ t → ⊥) → Row (view f) M after (u * stride) u n
-          by u n h e (inl q) =
-              let m : n - 1 + 1 ≡ n = omega arith in
-              rw q (subst (Row (view f) M after (t * stride) t) m (row-next (sized .valid) r M t (n - 1) (λ x. refl) (next-row (n - 1) (omega arith))))
-          by u n h e (inr d) =
-              let a = mul-le-mul-right {m = t + 1} {n = u} stride (omega arith) in
-              λ s k. rw (behind-at 0 (u * stride + s) (r .outside) (omega arith)) (done .rows u n (omega arith) e s k)
-
--- the last row was written, and then the others
-pub filled :
-    {f : List ℕ} (M : Matrix) (before work after : List ℕ) → LastFilled f before work (M .count * states f) → RowsFilled f M work after (states f) 0
-    → Filled f M before after (getD after 0 0)
-filled {f} M before work after last l =
-    record {
-      table = λ t n e. let p : 0 + t * states f ≡ t * states f = omega arith in rw p (l .rows t n (omega arith) e);
-      behind =
-          l .outside .behind
-          ∙ outside-wider 0 ((M .count + 1) * states f) (omega arith) (omega arith) (last .outside) .behind;
-      price = let p : 0 * states f + 0 ≡ 0 = omega arith in rw p at (l .rows 0 (M .count) (omega arith) (omega arith) 0 (omega arith));
-    }

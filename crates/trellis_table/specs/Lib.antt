@@ -1,2 +1,4 @@
 pub mod Last
+pub mod LastLoops
 pub mod Fill
+pub mod FillLoops

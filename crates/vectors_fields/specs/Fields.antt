@@ -1,13 +1,12 @@
 -- What a line of the vectors says: its fields, which have tabs between them, and the numbers in a field. Assumes nothing.
 -- Used by the contracts, the proofs, Examples, Narrow and Numbers.
-use mathlib.Core.Path.{_≡_, sym}
+use mathlib.Core.Path.{_≡_}
 use mathlib.Core.List.{List, [], _∷_, map}
 use mathlib.Core.Bool.{Bool, false, cond, _&&_}
 use Prim.Native.Nat.{ℕ, _+_, _*_, _%_, _≤_}
 use Prim.Native.Char.{code}
 use lib.ListN.{length, getD, take}
 use lib.Dec.{eqb, ltb}
-use lib.Seq.{length-take-le}
 use Rattle.sheet_format.specs.Sheet.{pieces}
 
 -- field k of a line; empty where the line has fewer fields
@@ -48,5 +47,10 @@ labelsOf field = map low (take 256 (numbersOf false field))
 abbrev pub Counts : ℕ → List ℕ → Type 0
 Counts n l = (n ≤ length l) × (n ≡ length (take n l))
 
-pub counts : (n : ℕ) (l : List ℕ) → n ≤ length l → Counts n l
-counts n l h = (h, sym (length-take-le n l h))
+-- the number v, if the byte ends it
+abbrev pub ended : ℕ → ℕ → List ℕ
+ended b v = cond (eqb b 32) (v ∷ []) []
+
+-- the number behind the byte
+abbrev pub onward : Bool → ℕ → ℕ → ℕ
+onward h v b = cond (eqb b 32) 0 (more h v b)

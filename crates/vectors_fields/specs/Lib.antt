@@ -1,5 +1,6 @@
 pub mod Fields
+pub mod FieldsLaws
 pub mod Cut
-pub mod Numbers
+pub mod NumbersLoops
 pub mod Narrow
 pub mod Examples

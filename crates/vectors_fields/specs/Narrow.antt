@@ -6,8 +6,10 @@ use Prim.Native.Nat.{ℕ, _+_, _<_, _≤_, min}
 use native.Mathlib.Omega.{arith}
 use lib.ListN.{length, getD, take, drop, set, length-take, length-map, List·getD-map}
 use lib.Seq.{length-take-le, getD-take}
-use Rattle.lists.specs.Each.{drop-here, drop-all}
-use Rattle.lists.specs.Written.{Wrote, take-written, Filling, filling-none, filling-more, filling-length, filling-all}
+use Rattle.lists.specs.EachLaws.{drop-here, drop-all}
+use Rattle.lists.specs.WrittenLaws.{take-written}
+use Rattle.lists.specs.FillingLoops.{Filling, filling-none, filling-more, filling-length, filling-all}
+use Rattle.lists.specs.Memory.{Wrote}
 use Rattle.vectors_fields.specs.Fields.{low}
 
 -- what was written stands in front

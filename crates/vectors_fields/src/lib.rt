@@ -5,10 +5,8 @@ ghost use mathlib.Core.Bool.{false};
 ghost use mathlib.Core.List.{map};
 ghost use Prim.Native.Nat.{_-_, _≤_, min};
 ghost use lib.ListN.{length, take, drop};
-ghost use Rattle.lists.specs.Memory.{old, new};
-ghost use Rattle.lists.specs.Written.{Stored, Wrote};
-ghost use Rattle.vectors_fields.specs.Fields.{fieldOf, numbersOf, sizeOf, low, labelsOf, Counts};
-ghost use Rattle.vectors_fields.specs.Numbers.{ended, onward};
+ghost use Rattle.lists.specs.Memory.{old, new, Stored, Wrote};
+ghost use Rattle.vectors_fields.specs.Fields.{fieldOf, numbersOf, sizeOf, low, labelsOf, Counts, ended, onward};
 
 // Where field k begins: behind the k-th tab, or at the end.
 fn start(line: &[u8], k: usize) -> usize

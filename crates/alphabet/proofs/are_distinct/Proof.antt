@@ -6,7 +6,7 @@ use lib.ListN.{length, drop}
 use denote.Ref.{now}
 use borrow.Author.Needs.{needs}
 use Rattle.alphabet.specs.Alphabet.{distinct}
-use Rattle.alphabet.specs.Turns.{distinct-more, distinct-fails, distinct-end}
+use Rattle.alphabet.specs.Loops.{distinct-more, distinct-fails, distinct-end}
 use Rattle.alphabet.proofs.are_distinct.Statement.{statement}
 use Rattle.alphabet.proofs.are_distinct.Tie as tie
 

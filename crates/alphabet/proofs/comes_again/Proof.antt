@@ -6,8 +6,8 @@ use lib.Dec.{eqb}
 use lib.ListN.{length, drop, getD}
 use denote.Ref.{now}
 use borrow.Author.Tests.{eq-eqb, ne-eqb}
-use Rattle.lists.specs.Among.{any}
-use Rattle.alphabet.specs.Turns.{again-here, again-later, again-none}
+use Rattle.lists.specs.Lists.{any}
+use Rattle.alphabet.specs.Loops.{again-here, again-later, again-none}
 use Rattle.alphabet.proofs.comes_again.Statement.{statement}
 use Rattle.alphabet.proofs.comes_again.Tie as tie
 

@@ -3,7 +3,8 @@ use mathlib.Core.Path.{sym, _∙_, subst}
 use lib.ListN.{length}
 use denote.Ref.{now}
 use Rattle.refusal.specs.declared.Refusal.the-variants.{Letters}
-use Rattle.refusal.specs.Report.{reported, Fills, fills-refused}
+use Rattle.refusal.specs.Report.{reported, Fills}
+use Rattle.refusal.specs.ReportLaws.{fills-refused}
 use Rattle.regex.specs.Read.{expressionOf}
 use Rattle.compile.specs.Call.{read-form}
 use Rattle.compile.specs.Steps.{text-refused, text-many, text-compilable, text-form}

@@ -1,7 +1,7 @@
 -- `confidence::cost` meets its contract. Assumes nothing.
 use mathlib.Core.Path.{sym, _∙_}
 use borrow.Author.Needs.{needs}
-use Rattle.confidence.specs.Turns.{cost-zero, cost-more}
+use Rattle.confidence.specs.Loops.{cost-zero, cost-more}
 use Rattle.confidence.proofs.cost.Statement.{statement}
 use Rattle.confidence.proofs.cost.Tie as tie
 

@@ -7,8 +7,8 @@ use borrow.Author.Needs.{needs}
 use borrow.Author.Tests.{lt-ltb, le-ltb}
 use denote.Ref.{now}
 use Rattle.refusal.specs.declared.Refusal.the-variants.{OutputMemory}
-use Rattle.refusal.specs.Verdict.{unless-none, unless-holds, unless-fails}
-use Rattle.refusal.specs.Report.{fills-refused, fills-wrote}
+use Rattle.refusal.specs.VerdictLaws.{unless-none, unless-holds, unless-fails}
+use Rattle.refusal.specs.ReportLaws.{fills-refused, fills-wrote}
 use Rattle.confidence.specs.Cost.{cost-of, costs-call}
 use Rattle.confidence.proofs.costs.Statement.{statement}
 use Rattle.confidence.proofs.costs.Tie as tie

@@ -3,7 +3,7 @@ use Prim.Native.Nat.{_^_}
 use mathlib.Core.Path.{_≡_, _∙_}
 use native.Mathlib.Omega.{arith}
 use borrow.Author.Needs.{needs}
-use Rattle.confidence.specs.Turns.{first-power, square-of, power-small}
+use Rattle.confidence.specs.Loops.{first-power, square-of, power-small}
 use Rattle.confidence.proofs.eighth_power.Statement.{statement}
 use Rattle.confidence.proofs.eighth_power.Tie as tie
 

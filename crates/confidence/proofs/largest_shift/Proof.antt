@@ -3,7 +3,7 @@ use Prim.Native.Nat.{_*_, _^_, _≤_}
 use mathlib.Core.Path.{_≡_, refl, sym, _∙_}
 use native.Mathlib.Omega.{arith}
 use Rattle.confidence.specs.Cost.{largest, within, shift}
-use Rattle.confidence.specs.Turns.{shift-found, shift-past, shift-one, limit-doubled, limit-small}
+use Rattle.confidence.specs.Loops.{shift-found, shift-past, shift-one, limit-doubled, limit-small}
 use Rattle.confidence.proofs.largest_shift.Statement.{statement}
 use Rattle.confidence.proofs.largest_shift.Tie as tie
 

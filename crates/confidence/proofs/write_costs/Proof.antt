@@ -5,9 +5,9 @@ use native.Mathlib.Omega.{arith}
 use lib.ListN.{length, length-map, getD, drop}
 use denote.Ref.{now}
 use borrow.Author.Needs.{needs}
-use Rattle.lists.specs.Written.{Filling, filling-none, filling-more, filling-length, filling-all}
+use Rattle.lists.specs.FillingLoops.{Filling, filling-none, filling-more, filling-length, filling-all}
 use Rattle.confidence.specs.Cost.{cost-of}
-use Rattle.confidence.specs.Turns.{cost-turn, cost-end}
+use Rattle.confidence.specs.Loops.{cost-turn, cost-end}
 use Rattle.confidence.proofs.write_costs.Statement.{statement}
 use Rattle.confidence.proofs.write_costs.Tie as tie
 

@@ -7,8 +7,9 @@ use borrow.Author.Needs.{needs}
 use borrow.Author.Tests.{lt-ltb, le-ltb}
 use denote.Ref.{now}
 use Rattle.refusal.specs.declared.Refusal.the-variants.{OutputMemory, Label}
-use Rattle.refusal.specs.Verdict.{check, unless-holds, unless-second, unless-neither}
-use Rattle.refusal.specs.Report.{fills-refused, fills-wrote}
+use Rattle.refusal.specs.Verdict.{check}
+use Rattle.refusal.specs.VerdictLaws.{unless-holds, unless-second, unless-neither}
+use Rattle.refusal.specs.ReportLaws.{fills-refused, fills-wrote}
 use Rattle.ctc.specs.Collapse.{collapse}
 use Rattle.ctc_labels.specs.Calls.{label-fault}
 use Rattle.ctc_collapse.specs.Calls.{collapse-call}

@@ -1,7 +1,7 @@
 -- `ctc_collapse::put_added` meets its contract, a lemma for each arm. Assumes nothing.
 use borrow.Author.Needs.{needs}
 use denote.Ref.{now}
-use Rattle.ctc_collapse.specs.Turns.{added-same, added-blank, added-new, added-room}
+use Rattle.ctc_collapse.specs.Loops.{added-same, added-blank, added-new, added-room}
 use Rattle.ctc_collapse.proofs.put_added.Statement.{statement}
 use Rattle.ctc_collapse.proofs.put_added.Tie as tie
 

@@ -5,10 +5,11 @@ use mathlib.Core.Path.{subst}
 use native.Mathlib.Omega.{arith}
 use lib.ListN.{length, getD, drop}
 use denote.Ref.{now}
-use Rattle.lists.specs.Written.{Filling, filling-none, filling-stored, filling-room, filling-length, filling-all}
-use Rattle.ctc.specs.Collapse.{collapse, after, collapse-after, collapse-shorter}
-use Rattle.ctc_collapse.specs.Calls.{added}
-use Rattle.ctc_collapse.specs.Turns.{after-turn, after-end}
+use Rattle.lists.specs.FillingLoops.{Filling, filling-none, filling-stored, filling-room, filling-length, filling-all}
+use Rattle.ctc.specs.Collapse.{collapse}
+use Rattle.ctc.specs.CollapseLaws.{after, collapse-after, collapse-shorter}
+use Rattle.ctc_collapse.specs.Added.{added}
+use Rattle.ctc_collapse.specs.Loops.{after-turn, after-end}
 use Rattle.ctc_collapse.proofs.write_collapse.Statement.{statement}
 use Rattle.ctc_collapse.proofs.write_collapse.Tie as tie
 

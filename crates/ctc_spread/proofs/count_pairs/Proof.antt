@@ -6,7 +6,7 @@ use lib.ListN.{length, drop, getD}
 use denote.Ref.{now}
 use borrow.Author.Needs.{needs}
 use Rattle.ctc.specs.Spread.{pairs}
-use Rattle.ctc_spread.specs.Turns.{pairs-turn, pairs-end, at-most-one}
+use Rattle.ctc_spread.specs.Loops.{pairs-turn, pairs-end, at-most-one}
 use Rattle.ctc_spread.proofs.count_pairs.Statement.{statement}
 use Rattle.ctc_spread.proofs.count_pairs.Tie as tie
 

@@ -3,7 +3,7 @@ use native.Mathlib.Omega.{arith}
 use lib.ListN.{length-set}
 use borrow.Author.Needs.{needs}
 use denote.Ref.{now}
-use Rattle.ctc_spread.specs.Turns.{spaced-same, spaced-other, room-same, room-other}
+use Rattle.ctc_spread.specs.Loops.{spaced-same, spaced-other, room-same, room-other}
 use Rattle.ctc_spread.proofs.put_spaced.Statement.{statement}
 use Rattle.ctc_spread.proofs.put_spaced.Tie as tie
 

@@ -9,13 +9,15 @@ use borrow.Author.Needs.{needs}
 use borrow.Author.Tests.{lt-ltb, le-ltb}
 use denote.Ref.{now}
 use Rattle.refusal.specs.declared.Refusal.the-variants.{OutputMemory, Label}
-use Rattle.refusal.specs.Verdict.{check, unless-holds, unless-second, unless-neither}
-use Rattle.refusal.specs.Report.{fills-refused, fills-wrote}
-use Rattle.ctc.specs.Spread.{spread, spread-length}
+use Rattle.refusal.specs.Verdict.{check}
+use Rattle.refusal.specs.VerdictLaws.{unless-holds, unless-second, unless-neither}
+use Rattle.refusal.specs.ReportLaws.{fills-refused, fills-wrote}
+use Rattle.ctc.specs.Spread.{spread}
+use Rattle.ctc.specs.SpreadLaws.{spread-length}
 use Rattle.ctc_labels.specs.Calls.{label-fault}
 use Rattle.ctc_labels.specs.Faults.{faultless-labels}
 use Rattle.ctc_spread.specs.Calls.{spread-call}
-use Rattle.ctc_spread.specs.Turns.{few-pairs-in}
+use Rattle.ctc_spread.specs.Loops.{few-pairs-in}
 use Rattle.ctc_spread.proofs.spread.Statement.{statement}
 use Rattle.ctc_spread.proofs.spread.Tie as tie
 

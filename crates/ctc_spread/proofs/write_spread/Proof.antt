@@ -5,10 +5,11 @@ use mathlib.Core.Path.{subst}
 use native.Mathlib.Omega.{arith}
 use lib.ListN.{length, getD, drop}
 use denote.Ref.{now}
-use Rattle.lists.specs.Written.{Filling, filling-none, filling-stored, filling-room, filling-length, filling-all}
-use Rattle.ctc.specs.Spread.{spread, spread-after, spread-from}
-use Rattle.ctc_spread.specs.Calls.{spaced}
-use Rattle.ctc_spread.specs.Turns.{spread-turn, spread-end}
+use Rattle.lists.specs.FillingLoops.{Filling, filling-none, filling-stored, filling-room, filling-length, filling-all}
+use Rattle.ctc.specs.Spread.{spread}
+use Rattle.ctc.specs.SpreadLaws.{spread-after, spread-from}
+use Rattle.ctc_spread.specs.Spaced.{spaced}
+use Rattle.ctc_spread.specs.Loops.{spread-turn, spread-end}
 use Rattle.ctc_spread.proofs.write_spread.Statement.{statement}
 use Rattle.ctc_spread.proofs.write_spread.Tie as tie
 

@@ -6,13 +6,15 @@ use borrow.Author.Needs.{needs}
 use borrow.Author.Tests.{not-true, not-false}
 use denote.Ref.{now}
 use Rattle.refusal.specs.declared.Refusal.the-variants.{BadForm}
-use Rattle.refusal.specs.Verdict.{first-refusal, first-holds, first-fails}
+use Rattle.refusal.specs.Verdict.{first-refusal}
+use Rattle.refusal.specs.VerdictLaws.{first-holds, first-fails}
 use Rattle.automaton.specs.Form.{validForm, alphabetOf, lettersOf}
-use Rattle.automaton.specs.Valid.{valid-at}
+use Rattle.automaton.specs.ValidLaws.{valid-at}
 use Rattle.matrix.specs.Matrix.{Matrix, matrix}
 use Rattle.decode_checks.specs.Checks.{matrix-checks, decode-checks}
-use Rattle.decode_checks.specs.Passing.{fits}
-use Rattle.decode_valid.specs.Answers.{Lent, rooms, DecodeAnswers, checks-refused, checks-passed}
+use Rattle.decode_checks.specs.PassingLaws.{fits}
+use Rattle.decode_valid.specs.Answers.{Lent, rooms, DecodeAnswers}
+use Rattle.decode_valid.specs.AnswersLaws.{checks-refused, checks-passed}
 use Rattle.decode.proofs.decode_parts.Statement.{statement}
 use Rattle.decode.proofs.decode_parts.Tie as tie
 

@@ -6,7 +6,7 @@ use native.Mathlib.Omega.{arith}
 use borrow.Author.Needs.{needs}
 use denote.Ref.{now}
 use Rattle.matrix.specs.Matrix.{Matrix}
-use Rattle.decode_checks.specs.Passing.{fault-count, fault-width, fault-length}
+use Rattle.decode_checks.specs.PassingLaws.{fault-count, fault-width, fault-length}
 use Rattle.decode_checks.proofs.has_fault.Statement.{statement}
 use Rattle.decode_checks.proofs.has_fault.Tie as tie
 

@@ -2,7 +2,7 @@
 use mathlib.Core.Path.{refl, ap}
 use borrow.Author.Needs.{needs}
 use Rattle.answers.specs.Judgement.{reported}
-use Rattle.export_counts.specs.Handed.{hands-judgement-as}
+use Rattle.export_counts.specs.HandedLaws.{hands-judgement-as}
 use Rattle.export_counts.proofs.hand_judgement.Statement.{statement}
 use Rattle.export_counts.proofs.hand_judgement.Tie as tie
 

@@ -4,7 +4,8 @@ use mathlib.Core.Path.{refl, ap}
 use native.Mathlib.Omega.{arith}
 use borrow.Author.Needs.{needs}
 use Rattle.answers.specs.Decoded.{reported}
-use Rattle.export_counts.specs.Handed.{price-and-length, hands-as}
+use Rattle.export_counts.specs.Handed.{price-and-length}
+use Rattle.export_counts.specs.HandedLaws.{hands-as}
 use Rattle.export_paths.proofs.hand_decoded.Statement.{statement}
 use Rattle.export_paths.proofs.hand_decoded.Tie as tie
 

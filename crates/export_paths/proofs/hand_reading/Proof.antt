@@ -4,7 +4,8 @@ use mathlib.Core.Path.{refl, ap}
 use native.Mathlib.Omega.{arith}
 use borrow.Author.Needs.{needs}
 use Rattle.answers.specs.Reading.{reported}
-use Rattle.export_counts.specs.Handed.{price-and-lengths, hands-as}
+use Rattle.export_counts.specs.Handed.{price-and-lengths}
+use Rattle.export_counts.specs.HandedLaws.{hands-as}
 use Rattle.export_paths.proofs.hand_reading.Statement.{statement}
 use Rattle.export_paths.proofs.hand_reading.Tie as tie
 

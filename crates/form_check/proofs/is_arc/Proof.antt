@@ -2,7 +2,7 @@
 use mathlib.Core.Path.{sym, ap, ap₂, _∙_}
 use mathlib.Core.Bool.{_&&_}
 use borrow.Author.Tests.{eq-eqb, ne-eqb, not-true, not-false}
-use Rattle.lists.specs.Ranges.{in-range}
+use Rattle.lists.specs.Lists.{in-range}
 use Rattle.automaton.specs.Form.{arcWord, source, target}
 use borrow.Author.Needs.{needs}
 use Rattle.form_check.proofs.is_arc.Statement.{statement}

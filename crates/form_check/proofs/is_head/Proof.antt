@@ -3,7 +3,7 @@ use mathlib.Core.Path.{_≡_, sym, ap, ap₂, _∙_}
 use mathlib.Core.Bool.{true, _&&_}
 use lib.Dec.{eqb}
 use borrow.Author.Tests.{eq-eqb, ne-eqb, not-true, not-false}
-use Rattle.lists.specs.Ranges.{in-range}
+use Rattle.lists.specs.Lists.{in-range}
 use Rattle.automaton.specs.Form.{headWord, byte0, byte2, bit8}
 use Rattle.form_check.specs.Checks.{head-sum}
 use borrow.Author.Needs.{needs}

@@ -2,7 +2,7 @@
 use mathlib.Core.Path.{sym, ap, _∙_}
 use mathlib.Core.Bool.{_&&_}
 use borrow.Author.Tests.{eq-eqb, ne-eqb}
-use Rattle.lists.specs.Ranges.{in-range}
+use Rattle.lists.specs.Lists.{in-range}
 use Rattle.automaton.specs.Form.{letterWord, byte0, bit8, bit9}
 use Rattle.form_check.specs.Checks.{letter-sum}
 use borrow.Author.Needs.{needs}

@@ -9,10 +9,11 @@ use borrow.Author.Needs.{needs}
 use borrow.Author.Tests.{lt-ltb, le-ltb}
 use denote.Ref.{now}
 use Rattle.refusal.specs.declared.Refusal.the-variants.{FormMemory}
-use Rattle.refusal.specs.Verdict.{unless-holds, unless-fails, unless-none}
-use Rattle.refusal.specs.Report.{fills-refused, fills-wrote}
+use Rattle.refusal.specs.VerdictLaws.{unless-holds, unless-fails, unless-none}
+use Rattle.refusal.specs.ReportLaws.{fills-refused, fills-wrote}
 use Rattle.automaton.specs.Form.{encode}
-use Rattle.form_encode.specs.Arrays.{arrayed, form-call}
+use Rattle.form_encode.specs.Call.{form-call}
+use Rattle.automaton.specs.Arrays.{arrayed}
 use Rattle.form_encode.specs.Whole.{length-words}
 use Rattle.form_encode.proofs.write_form.Statement.{statement}
 use Rattle.form_encode.proofs.write_form.Tie as tie

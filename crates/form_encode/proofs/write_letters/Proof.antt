@@ -7,9 +7,10 @@ use native.Mathlib.Omega.{arith}
 use lib.ListN.{length, take}
 use borrow.Author.Needs.{needs}
 use denote.Ref.{now}
-use Rattle.lists.specs.Written.{Filling, filling-from, filling-more, filling-room, filling-length, filling-stored-all}
-use Rattle.form_encode.specs.Parts.{letterBy, lettersBy, letters-first}
-use Rattle.lists.specs.Remaining.{from, map-here, map-past}
+use Rattle.lists.specs.FillingLoops.{Filling, filling-from, filling-more, filling-room, filling-length, filling-stored-all}
+use Rattle.form_encode.specs.Parts.{letterBy, lettersBy}
+use Rattle.form_encode.specs.PartsLaws.{letters-first}
+use Rattle.lists.specs.RemainingLoops.{from, map-here, map-past}
 use Rattle.form_encode.proofs.write_letters.Statement.{statement}
 use Rattle.form_encode.proofs.write_letters.Tie as tie
 

@@ -7,8 +7,9 @@ use borrow.Author.Needs.{needs}
 use denote.Ref.{now}
 use Rattle.automaton.specs.Form.{encode}
 use Rattle.form_encode_arcs.specs.Rows.{arcsBy}
-use Rattle.form_encode.specs.Arrays.{arrayed}
-use Rattle.form_encode.specs.Parts.{lettersBy, arrayed-words}
+use Rattle.automaton.specs.Arrays.{arrayed}
+use Rattle.form_encode.specs.Parts.{lettersBy}
+use Rattle.form_encode.specs.PartsLaws.{arrayed-words}
 use Rattle.form_encode.specs.Whole.{length-words, letters-room, arcs-room, all-written}
 use Rattle.form_encode.proofs.write_words.Statement.{statement}
 use Rattle.form_encode.proofs.write_words.Tie as tie

@@ -6,8 +6,8 @@ use native.Mathlib.Omega.{arith}
 use lib.ListN.{length}
 use denote.Ref.{now}
 use Rattle.form_encode_arcs.specs.Rows.{rowAt, arcsBy}
-use Rattle.lists.specs.Remaining.{from}
-use Rattle.form_encode_arcs.specs.Turns.{arcs-first, count-row-here, count-row-past}
+use Rattle.lists.specs.RemainingLoops.{from}
+use Rattle.form_encode_arcs.specs.Loops.{arcs-first, count-row-here, count-row-past}
 use Rattle.form_encode_arcs.proofs.count_arcs.Statement.{statement}
 use Rattle.form_encode_arcs.proofs.count_arcs.Tie as tie
 

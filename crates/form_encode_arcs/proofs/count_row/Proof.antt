@@ -5,11 +5,10 @@ use native.Mathlib.Omega.{arith}
 use lib.ListN.{length}
 use borrow.Author.Needs.{needs}
 use denote.Ref.{now}
-use Rattle.lists.specs.Among.{keep}
-use Rattle.lists.specs.Ascending.{numbers}
-use Rattle.form_encode_arcs.specs.Rows.{has}
-use Rattle.lists.specs.Remaining.{from, from-first}
-use Rattle.form_encode_arcs.specs.Turns.{count-here, count-past}
+use Rattle.lists.specs.Lists.{keep, numbers}
+use Rattle.automaton.specs.Arrays.{has}
+use Rattle.lists.specs.RemainingLoops.{from, from-first}
+use Rattle.form_encode_arcs.specs.Loops.{count-here, count-past}
 use Rattle.form_encode_arcs.proofs.count_row.Statement.{statement}
 use Rattle.form_encode_arcs.proofs.count_row.Tie as tie
 

@@ -3,7 +3,7 @@ use native.Mathlib.Omega.{arith}
 use borrow.Author.Needs.{needs}
 use denote.Ref.{now}
 use Rattle.automaton.specs.Form.{arcWord}
-use Rattle.form_encode_arcs.specs.Turns.{arc-stored, arc-absent, arc-room}
+use Rattle.lists.specs.KeptLaws.{arc-stored, arc-absent, arc-room}
 use Rattle.form_encode_arcs.proofs.put_arc.Statement.{statement}
 use Rattle.form_encode_arcs.proofs.put_arc.Tie as tie
 

@@ -6,10 +6,10 @@ use mathlib.Core.List.{_++_, flatMap}
 use native.Mathlib.Omega.{arith}
 use lib.ListN.{take}
 use denote.Ref.{now}
-use Rattle.lists.specs.Written.{Filling, filling-from, filling-stored, filling-room, filling-length, filling-stored-all}
+use Rattle.lists.specs.FillingLoops.{Filling, filling-from, filling-stored, filling-room, filling-length, filling-stored-all}
 use Rattle.form_encode_arcs.specs.Rows.{rowAt, arcsBy}
-use Rattle.lists.specs.Remaining.{from, flat-here, flat-past}
-use Rattle.form_encode_arcs.specs.Turns.{arcs-first}
+use Rattle.lists.specs.RemainingLoops.{from, flat-here, flat-past}
+use Rattle.form_encode_arcs.specs.Loops.{arcs-first}
 use Rattle.form_encode_arcs.proofs.write_arcs.Statement.{statement}
 use Rattle.form_encode_arcs.proofs.write_arcs.Tie as tie
 

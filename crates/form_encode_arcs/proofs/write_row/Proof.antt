@@ -6,12 +6,13 @@ use mathlib.Core.List.{[], _++_, map}
 use native.Mathlib.Omega.{arith}
 use lib.ListN.{take}
 use denote.Ref.{now}
-use Rattle.lists.specs.Among.{keep, keeping}
-use Rattle.lists.specs.Written.{Filling, filling-from, filling-stored, filling-room, filling-length, filling-stored-all}
+use Rattle.lists.specs.Lists.{keep, keeping}
+use Rattle.lists.specs.FillingLoops.{Filling, filling-from, filling-stored, filling-room, filling-length, filling-stored-all}
 use Rattle.automaton.specs.Form.{arcWord}
-use Rattle.form_encode_arcs.specs.Rows.{has, rowBy}
-use Rattle.lists.specs.Remaining.{from}
-use Rattle.form_encode_arcs.specs.Turns.{row-first, row-here, row-past}
+use Rattle.form_encode_arcs.specs.Rows.{rowBy}
+use Rattle.automaton.specs.Arrays.{has}
+use Rattle.lists.specs.RemainingLoops.{from}
+use Rattle.form_encode_arcs.specs.Loops.{row-first, row-here, row-past}
 use Rattle.form_encode_arcs.proofs.write_row.Statement.{statement}
 use Rattle.form_encode_arcs.proofs.write_row.Tie as tie
 

@@ -6,9 +6,10 @@ use mathlib.Core.Logic.{⊎-elim}
 use native.Mathlib.Omega.{arith}
 use lib.ListN.{replicate}
 use denote.Ref.{now}
-use Rattle.lists.specs.Marks.{Marks, Turns, turns-none, turns-more}
+use Rattle.lists.specs.MarksLaws.{turns-none, turns-more}
+use Rattle.lists.specs.Marks.{Marks, Turns}
 use Rattle.automaton.specs.Form.{lettersOf}
-use Rattle.form_sets.specs.Sets.{Left, left-behind, left-out, all-left}
+use Rattle.form_sets.specs.Loops.{Left, left-behind, left-out, all-left}
 use Rattle.form_sets.proofs.advance.Statement.{statement}
 use Rattle.form_sets.proofs.advance.Tie as tie
 

@@ -2,7 +2,7 @@
 use mathlib.Core.Path.{sym, _∙_}
 use native.Mathlib.Omega.{arith}
 use denote.Ref.{now}
-use Rattle.form_sets.specs.Sets.{mark-label, mark-other}
+use Rattle.form_sets.specs.Loops.{mark-label, mark-other}
 use borrow.Author.Needs.{needs}
 use Rattle.form_sets.proofs.mark.Statement.{statement}
 use Rattle.form_sets.proofs.mark.Tie as tie

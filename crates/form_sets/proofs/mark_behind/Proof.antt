@@ -5,8 +5,9 @@ use native.Mathlib.Omega.{arith}
 use denote.Ref.{now}
 use Rattle.lists.specs.Marks.{Marks}
 use Rattle.automaton.specs.Form.{view}
-use Rattle.form_starts.specs.Starts.{range-rises}
-use Rattle.form_sets.specs.Sets.{Enters, all-reached}
+use Rattle.form_starts.specs.Loops.{range-rises}
+use Rattle.form_sets.specs.Sets.{Enters}
+use Rattle.form_sets.specs.Loops.{all-reached}
 use borrow.Author.Needs.{needs}
 use Rattle.form_sets.proofs.mark_behind.Statement.{statement}
 use Rattle.form_sets.proofs.mark_behind.Tie as tie

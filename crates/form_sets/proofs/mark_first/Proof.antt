@@ -1,7 +1,7 @@
 -- `form_sets::mark_first` meets its contract, by its two arms. Assumes nothing.
 use mathlib.Core.Path.{sym, _∙_}
 use denote.Ref.{now}
-use Rattle.form_sets.specs.Sets.{begun-first, begun-other}
+use Rattle.form_sets.specs.Loops.{begun-first, begun-other}
 use borrow.Author.Needs.{needs}
 use Rattle.form_sets.proofs.mark_first.Statement.{statement}
 use Rattle.form_sets.proofs.mark_first.Tie as tie

@@ -3,9 +3,11 @@ use Prim.Native.Nat.{_≤_, _+_, _-_}
 use mathlib.Core.Path.{_≡_, _∙_}
 use native.Mathlib.Omega.{arith}
 use denote.Ref.{now}
-use Rattle.lists.specs.Marks.{Marks, Turns, turns-none, turns-more}
+use Rattle.lists.specs.MarksLaws.{turns-none, turns-more}
+use Rattle.lists.specs.Marks.{Marks, Turns}
 use Rattle.automaton.specs.Form.{lettersOf}
-use Rattle.form_sets.specs.Sets.{Begun, all-begun}
+use Rattle.form_sets.specs.Sets.{Begun}
+use Rattle.form_sets.specs.Loops.{all-begun}
 use Rattle.form_sets.proofs.mark_firsts.Statement.{statement}
 use Rattle.form_sets.proofs.mark_firsts.Tie as tie
 

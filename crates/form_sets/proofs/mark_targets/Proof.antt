@@ -3,7 +3,8 @@ use Prim.Native.Nat.{_≤_, _-_}
 use mathlib.Core.Path.{_≡_, subst, _∙_}
 use native.Mathlib.Omega.{arith}
 use denote.Ref.{now}
-use Rattle.lists.specs.Marks.{Marks, Turns, turns-none, turns-more}
+use Rattle.lists.specs.MarksLaws.{turns-none, turns-more}
+use Rattle.lists.specs.Marks.{Marks, Turns}
 use Rattle.form_sets.specs.Sets.{Labelled, Reached}
 use Rattle.form_sets.proofs.mark_targets.Statement.{statement}
 use Rattle.form_sets.proofs.mark_targets.Tie as tie

@@ -6,10 +6,10 @@ use mathlib.Core.Logic.{⊎-elim}
 use native.Mathlib.Omega.{arith}
 use lib.ListN.{getD}
 use denote.Ref.{now}
-use Rattle.lists.specs.Order.{not-both}
+use Rattle.lists.specs.OrderLaws.{not-both}
 use Rattle.lists.specs.Marks.{Has}
 use Rattle.automaton.specs.Form.{lettersOf, endsOf}
-use Rattle.automaton.specs.Valid.{ends-letter}
+use Rattle.automaton.specs.ValidLaws.{ends-letter}
 use borrow.Author.Count.{below-more}
 use Rattle.form_sets.proofs.some_may_end.Statement.{statement}
 use Rattle.form_sets.proofs.some_may_end.Tie as tie

@@ -5,7 +5,7 @@ use native.Mathlib.Omega.{arith}
 use lib.ListN.{length, getD}
 use denote.Ref.{now}
 use Rattle.automaton.specs.Form.{source}
-use Rattle.form_starts.specs.Starts.{below-more}
+use Rattle.form_starts.specs.Loops.{below-more}
 use Rattle.form_starts.proofs.skip_below.Statement.{statement}
 use Rattle.form_starts.proofs.skip_below.Tie as tie
 

@@ -4,7 +4,8 @@ use mathlib.Core.Path.{_≡_, refl, _∙_}
 use native.Mathlib.Omega.{arith}
 use lib.ListN.{length, getD, length-set}
 use denote.Ref.{now}
-use Rattle.form_starts.specs.Starts.{Begins, Passed, skipped-begins, begins-passed, begins-more}
+use Rattle.form_starts.specs.Starts.{Begins}
+use Rattle.form_starts.specs.Loops.{Passed, skipped-begins, begins-passed, begins-more}
 use Rattle.form_starts.proofs.starts.Statement.{statement}
 use Rattle.form_starts.proofs.starts.Tie as tie
 

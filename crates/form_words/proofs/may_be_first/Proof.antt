@@ -2,7 +2,7 @@
 use mathlib.Core.Path.{sym}
 use borrow.Author.Needs.{needs}
 use denote.Ref.{now}
-use Rattle.automaton.specs.Valid.{may-be-first}
+use Rattle.automaton.specs.ValidLaws.{may-be-first}
 use Rattle.form_words.proofs.may_be_first.Statement.{statement}
 use Rattle.form_words.proofs.may_be_first.Tie as tie
 

@@ -5,7 +5,7 @@ use native.Mathlib.Omega.{arith}
 use borrow.Author.Needs.{needs}
 use denote.Ref.{now}
 use Rattle.automaton.specs.Form.{endsOf}
-use Rattle.automaton.specs.Valid.{may-be-last, accepts-empty}
+use Rattle.automaton.specs.ValidLaws.{may-be-last, accepts-empty}
 use Rattle.form_words.proofs.may_end.Statement.{statement}
 use Rattle.form_words.proofs.may_end.Tie as tie
 

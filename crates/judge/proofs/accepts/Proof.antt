@@ -8,8 +8,9 @@ use denote.Ref.{now}
 use borrow.Author.Needs.{needs}
 use Rattle.automaton.specs.Automaton.{Accepts}
 use Rattle.automaton.specs.Form.{view, alphabetOf}
-use Rattle.automaton.specs.Valid.{valid-at, view-proper}
-use Rattle.form_sets.specs.Sets.{Advanced, SpellsFrom, begin, set-more, set-end}
+use Rattle.automaton.specs.ValidLaws.{valid-at, view-proper}
+use Rattle.form_sets.specs.Sets.{Advanced}
+use Rattle.form_sets.specs.Loops.{SpellsFrom, begin, set-more, set-end}
 use Rattle.judge.proofs.accepts.Statement.{statement}
 use Rattle.judge.proofs.accepts.Tie as tie
 

@@ -8,8 +8,9 @@ use Rattle.refusal.specs.Verdict.{passed}
 use Rattle.answers.specs.Judgement.{Judgement, report}
 use Rattle.ctc_labels.specs.Calls.{label-fault}
 use Rattle.automaton.specs.Form.{validForm}
-use Rattle.automaton.specs.Valid.{valid-at}
-use Rattle.judge.specs.Judge.{judged, judged-invalid, judged-no-word, judged-word}
+use Rattle.automaton.specs.ValidLaws.{valid-at}
+use Rattle.judge.specs.Judge.{judged}
+use Rattle.judge.specs.JudgeLaws.{judged-invalid, judged-no-word, judged-word}
 use borrow.Author.Needs.{needs}
 use Rattle.judge.proofs.judge.Statement.{statement}
 use Rattle.judge.proofs.judge.Tie as tie

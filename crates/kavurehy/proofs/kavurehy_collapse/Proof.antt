@@ -1,6 +1,6 @@
 -- `kavurehy::kavurehy_collapse` meets its contract. Assumes nothing.
 use borrow.Author.Needs.{needs}
-use Rattle.kavurehy.specs.Handed.{fills-counted}
+use Rattle.kavurehy.specs.HandedLaws.{fills-counted}
 use Rattle.kavurehy.specs.Bounds.{collapse-fits}
 use Rattle.kavurehy.proofs.kavurehy_collapse.Statement.{statement}
 use Rattle.kavurehy.proofs.kavurehy_collapse.Tie as tie

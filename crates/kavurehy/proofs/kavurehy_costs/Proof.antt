@@ -1,6 +1,6 @@
 -- `kavurehy::kavurehy_costs` meets its contract. Assumes nothing.
 use borrow.Author.Needs.{needs}
-use Rattle.kavurehy.specs.Handed.{fills-plain}
+use Rattle.kavurehy.specs.HandedLaws.{fills-plain}
 use Rattle.kavurehy.proofs.kavurehy_costs.Statement.{statement}
 use Rattle.kavurehy.proofs.kavurehy_costs.Tie as tie
 

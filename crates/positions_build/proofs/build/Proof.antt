@@ -1,7 +1,7 @@
 -- `positions_build::build` meets its contract. Assumes nothing.
 use borrow.Author.Needs.{needs}
 use denote.Ref.{now}
-use Rattle.positions_build.specs.Whole.{text-found, text-room, build-returns}
+use Rattle.positions_build.specs.WholeLaws.{text-found, text-room, build-returns}
 use Rattle.positions_build.proofs.build.Statement.{statement}
 use Rattle.positions_build.proofs.build.Tie as tie
 

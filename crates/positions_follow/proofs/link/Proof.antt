@@ -5,8 +5,8 @@ use mathlib.Core.List.{[]}
 use native.Mathlib.Omega.{arith}
 use lib.ListN.{length}
 use denote.Ref.{now}
-use Rattle.lists.specs.Upto.{Upto, upto-none}
-use Rattle.positions_follow.specs.Turns.{Arcs, link-turn, link-pass, link-all}
+use Rattle.lists.specs.UptoLoops.{Upto, upto-none}
+use Rattle.positions_follow.specs.Loops.{Arcs, link-turn, link-pass, link-all}
 use Rattle.positions_follow.proofs.link.Statement.{statement}
 use Rattle.positions_follow.proofs.link.Tie as tie
 

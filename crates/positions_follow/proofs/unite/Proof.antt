@@ -5,8 +5,8 @@ use native.Mathlib.Omega.{arith}
 use lib.ListN.{length}
 use borrow.Author.Needs.{needs}
 use denote.Ref.{now}
-use Rattle.lists.specs.Upto.{Upto, upto-none}
-use Rattle.positions_follow.specs.Turns.{Either, unite-turn, unite-all}
+use Rattle.lists.specs.UptoLoops.{Upto, upto-none}
+use Rattle.positions_follow.specs.Loops.{Either, unite-turn, unite-all}
 use Rattle.positions_follow.proofs.unite.Statement.{statement}
 use Rattle.positions_follow.proofs.unite.Tie as tie
 

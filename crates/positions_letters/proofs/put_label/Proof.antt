@@ -2,7 +2,7 @@
 use borrow.Author.Needs.{needs}
 use denote.Ref.{now}
 use mathlib.Core.Path.{refl}
-use Rattle.form_encode_arcs.specs.Turns.{arc-stored, arc-absent, arc-room}
+use Rattle.lists.specs.KeptLaws.{arc-stored, arc-absent, arc-room}
 use Rattle.positions_letters.proofs.put_label.Statement.{statement}
 use Rattle.positions_letters.proofs.put_label.Tie as tie
 

@@ -3,7 +3,8 @@ use Prim.Native.Nat.{_≤_, _-_}
 use native.Mathlib.Omega.{arith}
 use mathlib.Core.Path.{_≡_, refl, subst}
 use lib.ListN.{length, length-set}
-use Rattle.positions_letters.specs.Letters.{Ranged, range-none, range-more}
+use Rattle.positions_letters.specs.Letters.{Ranged}
+use Rattle.positions_letters.specs.LettersLaws.{range-none, range-more}
 use Rattle.positions_letters.proofs.range.Statement.{statement}
 use Rattle.positions_letters.proofs.range.Tie as tie
 

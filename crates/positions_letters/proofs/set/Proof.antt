@@ -3,7 +3,7 @@ use borrow.Author.Needs.{needs}
 use denote.Ref.{now}
 use Rattle.positions.specs.Opened.{labelsIn}
 use Rattle.regex_set.specs.Answers.{setAt}
-use Rattle.positions_letters.specs.Letters.{set-builds}
+use Rattle.positions_letters.specs.LettersLaws.{set-builds}
 use Rattle.positions_letters.proofs.set.Statement.{statement}
 use Rattle.positions_letters.proofs.set.Tie as tie
 

@@ -6,11 +6,11 @@ use mathlib.Core.List.{[], _++_}
 use native.Mathlib.Omega.{arith}
 use lib.ListN.{length, take}
 use denote.Ref.{now}
-use Rattle.lists.specs.Among.{keeping}
-use Rattle.lists.specs.Written.{Filling, filling-from, filling-stored, filling-room, filling-length, filling-stored-all}
+use Rattle.lists.specs.Lists.{keeping}
+use Rattle.lists.specs.FillingLoops.{Filling, filling-from, filling-stored, filling-room, filling-length, filling-stored-all}
 use Rattle.positions.specs.Opened.{labelsIn}
 use Rattle.regex_set.specs.Answers.{setAt}
-use Rattle.positions_letters.specs.Letters.{passes, labelsFrom, labels-first, labels-here, labels-past}
+use Rattle.positions_letters.specs.LettersLaws.{passes, labelsFrom, labels-first, labels-here, labels-past}
 use Rattle.positions_letters.proofs.write_labels.Statement.{statement}
 use Rattle.positions_letters.proofs.write_labels.Tie as tie
 

@@ -1,7 +1,7 @@
 -- `positions_parts::again` meets its contract. Assumes nothing.
 use native.Mathlib.Omega.{arith}
 use borrow.Author.Needs.{needs}
-use Rattle.positions_parts.specs.Together.{looped-on, looped-off}
+use Rattle.positions_parts.specs.TogetherLaws.{looped-on, looped-off}
 use Rattle.positions_parts.proofs.again.Statement.{statement}
 use Rattle.positions_parts.proofs.again.Tie as tie
 

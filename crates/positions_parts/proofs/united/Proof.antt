@@ -1,6 +1,6 @@
 -- `positions_parts::united` meets its contract. Assumes nothing.
 use borrow.Author.Needs.{needs}
-use Rattle.positions_parts.specs.Together.{united-on, united-off}
+use Rattle.positions_parts.specs.TogetherLaws.{united-on, united-off}
 use Rattle.positions_parts.proofs.united.Statement.{statement}
 use Rattle.positions_parts.proofs.united.Tie as tie
 

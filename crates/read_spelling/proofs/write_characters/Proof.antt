@@ -6,7 +6,7 @@ use native.Mathlib.Omega.{arith}
 use lib.ListN.{getD, set}
 use borrow.Author.Needs.{needs}
 use denote.Ref.{now}
-use Rattle.read_spelling.specs.Spelling.{Spelling, spelling-none, spelling-length, label-there, label-fits, spelling-more, spelling-all}
+use Rattle.read_spelling.specs.Loops.{Spelling, spelling-none, spelling-length, label-there, label-fits, spelling-more, spelling-all}
 use Rattle.read_spelling.proofs.write_characters.Statement.{statement}
 use Rattle.read_spelling.proofs.write_characters.Tie as tie
 

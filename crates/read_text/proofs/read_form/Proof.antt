@@ -6,9 +6,11 @@ use Rattle.refusal.specs.Verdict.{first-refusal}
 use Rattle.automaton.specs.Form.{lettersOf}
 use Rattle.matrix.specs.Matrix.{Matrix, matrix}
 use Rattle.decode_checks.specs.Checks.{matrix-checks}
-use Rattle.decode_checks.specs.Passing.{Fits, fits}
-use Rattle.decode_valid.specs.Answers.{Lent, rooms, checks-refused, checks-passed}
-use Rattle.read_valid.specs.Words.{ReadsAccepted}
+use Rattle.decode_checks.specs.Passing.{Fits}
+use Rattle.decode_checks.specs.PassingLaws.{fits}
+use Rattle.decode_valid.specs.Answers.{Lent, rooms}
+use Rattle.decode_valid.specs.AnswersLaws.{checks-refused, checks-passed}
+use Rattle.read_valid.specs.Accepted.{ReadsAccepted}
 use borrow.Author.Needs.{needs}
 use Rattle.read_text.proofs.read_form.Statement.{statement}
 use Rattle.read_text.proofs.read_form.Tie as tie

@@ -6,7 +6,7 @@ use lib.ListN.{length}
 use lib.Seq.{length-take-le}
 use denote.Ref.{now}
 use Rattle.refusal.specs.Report.{reported as counted, Fills}
-use Rattle.automaton.specs.Valid.{valid-at}
+use Rattle.automaton.specs.ValidLaws.{valid-at}
 use Rattle.matrix.specs.Matrix.{Matrix, matrix}
 use Rattle.compile.specs.Call.{compile-call}
 use Rattle.decode_valid.specs.Answers.{Lent}

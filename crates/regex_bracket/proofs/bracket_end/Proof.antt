@@ -3,7 +3,7 @@ use borrow.Author.Needs.{needs}
 use native.Mathlib.Omega.{arith}
 use denote.Ref.{now}
 use mathlib.Core.Path.{sym, _∙_}
-use Rattle.regex_bracket.specs.Brackets.{Bracket, bracket-order, bracket-unclosed, bracket-spoilt, bracket-ends, opened-within}
+use Rattle.regex_bracket.specs.BracketLaws.{Bracket, bracket-order, bracket-unclosed, bracket-spoilt, bracket-ends, opened-within}
 use Rattle.regex_bracket.proofs.bracket_end.Statement.{statement}
 use Rattle.regex_bracket.proofs.bracket_end.Tie as tie
 

@@ -4,7 +4,7 @@ use native.Mathlib.Omega.{arith}
 use denote.Ref.{now}
 use mathlib.Core.Path.{ap, _∙_}
 use mathlib.Core.Bool.{not}
-use Rattle.regex_bracket.specs.Brackets.{
+use Rattle.regex_bracket.specs.BracketLaws.{
   Bracket,
   bracket-order,
   bracket-closed,

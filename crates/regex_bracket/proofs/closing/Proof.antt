@@ -2,7 +2,7 @@
 use borrow.Author.Needs.{needs}
 use denote.Ref.{now}
 use mathlib.Core.Path.{sym, _∙_}
-use Rattle.regex_bracket.specs.Brackets.{closing-first, closing-other}
+use Rattle.regex_bracket.specs.BracketLaws.{closing-first, closing-other}
 use Rattle.regex_bracket.proofs.closing.Statement.{statement}
 use Rattle.regex_bracket.proofs.closing.Tie as tie
 

@@ -2,7 +2,7 @@
 use borrow.Author.Needs.{needs}
 use denote.Ref.{now}
 use mathlib.Core.Path.{sym, _∙_}
-use Rattle.regex_bracket.specs.Brackets.{opened-except, opened-only}
+use Rattle.regex_bracket.specs.BracketLaws.{opened-except, opened-only}
 use Rattle.regex_bracket.proofs.opening.Statement.{statement}
 use Rattle.regex_bracket.proofs.opening.Tie as tie
 

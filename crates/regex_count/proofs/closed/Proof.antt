@@ -3,8 +3,9 @@ use borrow.Author.Needs.{needs}
 use native.Mathlib.Omega.{arith}
 use denote.Ref.{now}
 use mathlib.Core.Path.{ap, sym, _∙_}
-use Rattle.text.specs.Place.{byte-is}
-use Rattle.regex_count.specs.Parts.{closed, closed-is, closed-not}
+use Rattle.text.specs.TextLaws.{byte-is}
+use Rattle.regex_count.specs.Parts.{closed}
+use Rattle.regex_count.specs.PartsLaws.{closed-is, closed-not}
 use Rattle.regex_count.proofs.closed.Statement.{statement}
 use Rattle.regex_count.proofs.closed.Tie as tie
 

@@ -2,7 +2,7 @@
 use borrow.Author.Needs.{needs}
 use denote.Ref.{now}
 use mathlib.Core.Path.{_∙_}
-use Rattle.regex_count.specs.Parts.{ends-none, ends-by}
+use Rattle.regex_count.specs.PartsLaws.{ends-none, ends-by}
 use Rattle.regex_count.proofs.is_end.Statement.{statement}
 use Rattle.regex_count.proofs.is_end.Tie as tie
 

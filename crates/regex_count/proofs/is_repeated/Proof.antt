@@ -4,7 +4,7 @@ use denote.Ref.{now}
 use mathlib.Core.Path.{refl, ap, sym, _∙_}
 use Rattle.text.specs.Bytes.{bytes}
 use Rattle.text.specs.Text.{one-of}
-use Rattle.text.specs.Place.{next-of-at}
+use Rattle.text.specs.TextLaws.{next-of-at}
 use Rattle.regex_count.proofs.is_repeated.Statement.{statement}
 use Rattle.regex_count.proofs.is_repeated.Tie as tie
 

@@ -2,7 +2,7 @@
 use borrow.Author.Needs.{needs}
 use mathlib.Core.Path.{ap, sym, _∙_}
 use Prim.Native.Nat.{_*_}
-use Rattle.regex.specs.Sense.{few}
+use Rattle.regex.specs.Few.{few}
 use Rattle.regex_set.specs.declared.Part.the-variants as part
 use Rattle.regex_count.specs.Parts.{repeated}
 use Rattle.regex_count.proofs.repeated.Statement.{statement}

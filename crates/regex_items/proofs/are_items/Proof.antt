@@ -5,7 +5,8 @@ use Prim.Native.Nat.{_≤_, _-_}
 use mathlib.Core.Path.{_≡_, refl, sym, _∙_}
 use lib.ListN.{length}
 use borrow.Author.Tests.{not-true, not-false}
-use Rattle.regex_items.specs.Items.{is-some, left, width-bounds, left-spoilt, left-more, some-end}
+use Rattle.regex_items.specs.Items.{is-some, left}
+use Rattle.regex_items.specs.ItemsLaws.{width-bounds, left-spoilt, left-more, some-end}
 use Rattle.regex_items.proofs.are_items.Statement.{statement}
 use Rattle.regex_items.proofs.are_items.Tie as tie
 

@@ -2,7 +2,8 @@
 use borrow.Author.Needs.{needs}
 use denote.Ref.{now}
 use mathlib.Core.Path.{sym, ap, _∙_}
-use Rattle.regex_items.specs.Items.{is-some, members-reserved, members-left}
+use Rattle.regex_items.specs.Items.{is-some}
+use Rattle.regex_items.specs.ItemsLaws.{members-reserved, members-left}
 use Rattle.regex_items.proofs.are_members.Statement.{statement}
 use Rattle.regex_items.proofs.are_members.Tie as tie
 

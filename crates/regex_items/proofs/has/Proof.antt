@@ -7,7 +7,8 @@ use mathlib.Core.Bool.{true}
 use lib.ListN.{length}
 use Rattle.regex.specs.Tree.{among}
 use Rattle.regex.specs.Sets.{members}
-use Rattle.regex_items.specs.Items.{is-some, listed, left, width-bounds, members-left, unreserved, some-more, among-here, among-past, among-end}
+use Rattle.regex_items.specs.Items.{is-some, listed, left}
+use Rattle.regex_items.specs.ItemsLaws.{width-bounds, members-left, unreserved, some-more, among-here, among-past, among-end}
 use Rattle.regex_items.proofs.has.Statement.{statement}
 use Rattle.regex_items.proofs.has.Tie as tie
 

@@ -1,7 +1,7 @@
 -- `regex_items::is_range` meets its contract. Assumes nothing.
 use borrow.Author.Needs.{needs}
 use denote.Ref.{now}
-use Rattle.regex_items.specs.Items.{ranges-short, ranges-by}
+use Rattle.regex_items.specs.ItemsLaws.{ranges-short, ranges-by}
 use Rattle.regex_items.proofs.is_range.Statement.{statement}
 use Rattle.regex_items.proofs.is_range.Tie as tie
 

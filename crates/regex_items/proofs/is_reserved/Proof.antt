@@ -5,7 +5,7 @@ use Prim.Native.Nat.{_≤_, _-_}
 use mathlib.Core.Path.{_≡_, refl, sym, _∙_}
 use lib.ListN.{length, drop}
 use Rattle.regex.specs.Sets.{reserved}
-use Rattle.regex_items.specs.Items.{reserved-here, reserved-more, reserved-end}
+use Rattle.regex_items.specs.ItemsLaws.{reserved-here, reserved-more, reserved-end}
 use Rattle.regex_items.proofs.is_reserved.Statement.{statement}
 use Rattle.regex_items.proofs.is_reserved.Tie as tie
 

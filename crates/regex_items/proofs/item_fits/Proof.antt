@@ -5,7 +5,7 @@ use mathlib.Core.Path.{sym, ap, _∙_}
 use lib.ListN.{getD}
 use lib.Dec.{eqb, leb}
 use borrow.Author.Tests.{not-true, not-false}
-use Rattle.regex_items.specs.Items.{fits-last, fits-not, fits-by}
+use Rattle.regex_items.specs.ItemsLaws.{fits-last, fits-not, fits-by}
 use Rattle.regex_items.proofs.item_fits.Statement.{statement}
 use Rattle.regex_items.proofs.item_fits.Tie as tie
 

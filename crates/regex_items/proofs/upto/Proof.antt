@@ -2,7 +2,7 @@
 use borrow.Author.Needs.{needs}
 use denote.Ref.{now}
 use mathlib.Core.Path.{sym, _∙_}
-use Rattle.regex_items.specs.Items.{upto-range, upto-single}
+use Rattle.regex_items.specs.ItemsLaws.{upto-range, upto-single}
 use Rattle.regex_items.proofs.upto.Statement.{statement}
 use Rattle.regex_items.proofs.upto.Tie as tie
 

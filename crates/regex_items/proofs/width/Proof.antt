@@ -2,7 +2,7 @@
 use borrow.Author.Needs.{needs}
 use denote.Ref.{now}
 use mathlib.Core.Path.{sym, _∙_}
-use Rattle.regex_items.specs.Items.{width-range, width-single}
+use Rattle.regex_items.specs.ItemsLaws.{width-range, width-single}
 use Rattle.regex_items.proofs.width.Statement.{statement}
 use Rattle.regex_items.proofs.width.Tie as tie
 

@@ -3,8 +3,8 @@ use borrow.Author.Needs.{needs}
 use native.Mathlib.Omega.{arith}
 use denote.Ref.{now}
 use mathlib.Core.Path.{sym, _∙_}
-use Rattle.text.specs.Place.{byte-is}
-use Rattle.regex_repetition.specs.Signs.{modified-is, modified-not}
+use Rattle.text.specs.TextLaws.{byte-is}
+use Rattle.regex_repetition.specs.SignLaws.{modified-is, modified-not}
 use Rattle.regex_repetition.proofs.behind_modifier.Statement.{statement}
 use Rattle.regex_repetition.proofs.behind_modifier.Tie as tie
 

@@ -2,7 +2,7 @@
 use borrow.Author.Needs.{needs}
 use denote.Ref.{now}
 use mathlib.Core.Path.{_∙_}
-use Rattle.regex_repetition.specs.Signs.{braces-unclosed, braces-closed}
+use Rattle.regex_repetition.specs.SignLaws.{braces-unclosed, braces-closed}
 use Rattle.regex_repetition.proofs.braces.Statement.{statement}
 use Rattle.regex_repetition.proofs.braces.Tie as tie
 

@@ -5,8 +5,8 @@ use denote.Ref.{now}
 use Prim.Native.Nat.{_+_}
 use mathlib.Core.Path.{sym, _∙_}
 use lib.Seq.{length-take-le}
-use Rattle.text.specs.Place.{part-rest}
-use Rattle.regex_repetition.specs.Counts.{counts-one, counts-two, counts-onward, counts-bad}
+use Rattle.text.specs.TextLaws.{part-rest}
+use Rattle.regex_repetition.specs.CountLaws.{counts-one, counts-two, counts-onward, counts-bad}
 use Rattle.regex_repetition.proofs.counts.Statement.{statement}
 use Rattle.regex_repetition.proofs.counts.Tie as tie
 

@@ -3,7 +3,7 @@ use native.Mathlib.Omega.{arith}
 use denote.Ref.{now}
 use Prim.Native.Nat.{_-_}
 use lib.ListN.{length}
-use Rattle.regex_repetition.specs.Counts.{
+use Rattle.regex_repetition.specs.CountLaws.{
   Digits,
   digits-none,
   digits-more,

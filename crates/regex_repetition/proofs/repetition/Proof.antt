@@ -4,7 +4,7 @@ use denote.Ref.{now}
 use mathlib.Core.Path.{sym, ap, _∙_}
 use Rattle.regex.specs.Tree.{between, onward}
 use Rattle.regex_repetition.specs.Answers.{times}
-use Rattle.regex_repetition.specs.Signs.{repetition-refused, repetition-is}
+use Rattle.regex_repetition.specs.SignLaws.{repetition-refused, repetition-is}
 use Rattle.regex_repetition.proofs.repetition.Statement.{statement}
 use Rattle.regex_repetition.proofs.repetition.Tie as tie
 

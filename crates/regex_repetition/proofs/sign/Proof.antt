@@ -3,8 +3,8 @@ use borrow.Author.Needs.{needs}
 use native.Mathlib.Omega.{arith}
 use denote.Ref.{now}
 use mathlib.Core.Path.{sym, _∙_}
-use Rattle.text.specs.Place.{byte-is}
-use Rattle.regex_repetition.specs.Signs.{sign-star, sign-plus, sign-optional, sign-braces, sign-none}
+use Rattle.text.specs.TextLaws.{byte-is}
+use Rattle.regex_repetition.specs.SignLaws.{sign-star, sign-plus, sign-optional, sign-braces, sign-none}
 use Rattle.regex_repetition.proofs.sign.Statement.{statement}
 use Rattle.regex_repetition.proofs.sign.Tie as tie
 

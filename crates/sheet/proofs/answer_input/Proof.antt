@@ -3,8 +3,9 @@ use mathlib.Core.Path.{refl, sym, subst}
 use mathlib.Core.List.{[]}
 use denote.Ref.{now}
 use borrow.Author.Needs.{needs}
-use Rattle.lists.specs.Written.{written-none}
-use Rattle.sheet_read.specs.Promise.{Answers, answers}
+use Rattle.lists.specs.WrittenLaws.{written-none}
+use Rattle.sheet_read.specs.Promise.{Answers}
+use Rattle.sheet_read.specs.PromiseLaws.{answers}
 use Rattle.sheet.specs.declared.Input.the-variants as input
 use Rattle.sheet.specs.Inputs.{Arrived, PrintsInput}
 use Rattle.sheet.proofs.answer_input.Statement.{statement}

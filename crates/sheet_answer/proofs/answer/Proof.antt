@@ -14,7 +14,7 @@ use Rattle.sheet_scan.specs.Answers.{Scans}
 use Rattle.sheet_lines.specs.Lines.{refusal-line}
 use Rattle.sheet_lines.specs.Lengths.{refusal-short}
 use Rattle.sheet_read.specs.Answer.{PrintsReading}
-use Rattle.sheet_read.specs.Promise.{answers, answers-as}
+use Rattle.sheet_read.specs.PromiseLaws.{answers, answers-as}
 use Rattle.sheet_answer.specs.Answer.{Prints}
 use Rattle.sheet_answer.specs.Sheets.{Laid, laid-out, no-sheet}
 use Rattle.sheet_answer.proofs.answer.Statement.{statement}

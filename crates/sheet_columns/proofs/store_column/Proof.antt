@@ -7,11 +7,13 @@ use native.Mathlib.Omega.{arith}
 use borrow.Author.Needs.{needs}
 use lib.ListN.{length, set, length-set}
 use denote.Ref.{now}
-use Rattle.sheet_number.specs.Digits.{ReadCost, cost-begins}
+use Rattle.sheet_number.specs.Digits.{ReadCost}
+use Rattle.sheet_number.specs.DigitsLaws.{cost-begins}
 use Rattle.sheet_number.specs.declared.Cost.the-variants.{Is}
 use Rattle.sheet_columns.specs.declared.Column.{Column}
 use Rattle.sheet_columns.specs.declared.Column.the-variants.{Ends, Bad}
-use Rattle.sheet_columns.specs.Storing.{StoredColumn, column-bad, column-full, column-last, column-more}
+use Rattle.sheet_columns.specs.Storing.{StoredColumn}
+use Rattle.sheet_columns.specs.Loops.{column-bad, column-full, column-last, column-more}
 use Rattle.sheet_columns.proofs.store_column.Statement.{statement}
 use Rattle.sheet_columns.proofs.store_column.Tie as tie
 

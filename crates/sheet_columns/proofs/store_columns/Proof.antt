@@ -10,7 +10,8 @@ use denote.Ref.{now}
 use Rattle.sheet_columns.specs.declared.Column.the-variants.{Ends}
 use Rattle.sheet_columns.specs.declared.Columns.{Columns}
 use Rattle.sheet_columns.specs.declared.Columns.the-variants.{Count, Bad}
-use Rattle.sheet_columns.specs.Storing.{StoredColumn, StoredColumns, columns-end, columns-bad, columns-unequal, columns-more}
+use Rattle.sheet_columns.specs.Storing.{StoredColumn, StoredColumns}
+use Rattle.sheet_columns.specs.Loops.{columns-end, columns-bad, columns-unequal, columns-more}
 use Rattle.sheet_columns.proofs.store_columns.Statement.{statement}
 use Rattle.sheet_columns.proofs.store_columns.Tie as tie
 

@@ -5,7 +5,7 @@ use borrow.Author.Needs.{needs}
 use denote.Ref.{now}
 use Rattle.sheet_columns.specs.declared.Column.the-variants.{Ends}
 use Rattle.sheet_columns.specs.Storing.{StoredColumn, StoredColumns}
-use Rattle.sheet_columns.specs.Matrices.{matrix-none, matrix-bad, matrix-unequal, matrix-is}
+use Rattle.sheet_columns.specs.MatricesLaws.{matrix-none, matrix-bad, matrix-unequal, matrix-is}
 use Rattle.sheet_columns.proofs.store_matrix.Statement.{statement}
 use Rattle.sheet_columns.proofs.store_matrix.Tie as tie
 

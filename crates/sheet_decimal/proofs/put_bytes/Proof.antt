@@ -5,8 +5,8 @@ use mathlib.Core.List.{[], _∷_, _++_}
 use native.Mathlib.Omega.{arith}
 use lib.ListN.{length, getD, take, drop}
 use denote.Ref.{now}
-use Rattle.lists.specs.Each.{drop-here, drop-all}
-use Rattle.lists.specs.Written.{Filling, filling-from, filling-stored, filling-room, filling-length, filling-stored-all}
+use Rattle.lists.specs.EachLaws.{drop-here, drop-all}
+use Rattle.lists.specs.FillingLoops.{Filling, filling-from, filling-stored, filling-room, filling-length, filling-stored-all}
 use Rattle.sheet_decimal.proofs.put_bytes.Statement.{statement}
 use Rattle.sheet_decimal.proofs.put_bytes.Tie as tie
 

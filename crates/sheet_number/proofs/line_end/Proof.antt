@@ -1,7 +1,7 @@
 -- `sheet_number::line_end` meets its contract: the first newline is the line's end. Assumes nothing.
 use denote.Ref.{now}
 use borrow.Author.Needs.{needs}
-use Rattle.sheet_number.specs.Places.{line-found}
+use Rattle.sheet_number.specs.PlacesLaws.{line-found}
 use Rattle.sheet_number.proofs.line_end.Statement.{statement}
 use Rattle.sheet_number.proofs.line_end.Tie as tie
 

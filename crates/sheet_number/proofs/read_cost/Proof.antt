@@ -4,7 +4,7 @@ use borrow.Author.Needs.{needs}
 use borrow.Author.Tests.{not-true, not-false}
 use native.Mathlib.Omega.{arith}
 use denote.Ref.{now}
-use Rattle.sheet_number.specs.Digits.{cost-open, cost-unread, cost-missing, cost-padded, cost-read}
+use Rattle.sheet_number.specs.DigitsLaws.{cost-open, cost-unread, cost-missing, cost-padded, cost-read}
 use Rattle.sheet_number.proofs.read_cost.Statement.{statement}
 use Rattle.sheet_number.proofs.read_cost.Tie as tie
 

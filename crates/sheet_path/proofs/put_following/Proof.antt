@@ -5,10 +5,10 @@ use mathlib.Core.List.{_∷_, _++_}
 use native.Mathlib.Omega.{arith}
 use lib.ListN.{length, getD, take, drop}
 use denote.Ref.{now}
-use Rattle.lists.specs.Written.{Filling, filling-from, filling-stored, filling-room, filling-length, filling-stored-all}
+use Rattle.lists.specs.FillingLoops.{Filling, filling-from, filling-stored, filling-room, filling-length, filling-stored-all}
 use Rattle.sheet_decimal.specs.Numerals.{decimal}
 use Rattle.sheet_path.specs.Labels.{following}
-use Rattle.sheet_path.specs.Turns.{following-here, following-end}
+use Rattle.sheet_path.specs.Loops.{following-here, following-end}
 use Rattle.sheet_path.proofs.put_following.Statement.{statement}
 use Rattle.sheet_path.proofs.put_following.Tie as tie
 

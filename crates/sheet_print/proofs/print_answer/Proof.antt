@@ -6,7 +6,7 @@ use lib.ListN.{length}
 use lib.Seq.{length-take-le}
 use denote.Ref.{now}
 use borrow.Author.Needs.{needs}
-use Rattle.lists.specs.Written.{Wrote}
+use Rattle.lists.specs.Memory.{Wrote}
 use Rattle.sheet_print.specs.Printed.{Shown, answer-lines}
 use Rattle.sheet_print.proofs.print_answer.Statement.{statement}
 use Rattle.sheet_print.proofs.print_answer.Tie as tie

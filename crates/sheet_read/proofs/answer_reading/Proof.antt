@@ -12,7 +12,7 @@ use Rattle.matrix.specs.Matrix.{Matrix, matrix}
 use Rattle.decode_valid.specs.Answers.{Lent}
 use Rattle.sheet_print.specs.Printed.{answer-lines}
 use Rattle.sheet_read.specs.Answer.{PrintsReading}
-use Rattle.sheet_read.specs.Promise.{answers}
+use Rattle.sheet_read.specs.PromiseLaws.{answers}
 use Rattle.sheet_read.specs.Longest.{reading-bound}
 use Rattle.sheet_read.specs.Steps.{Sized, Said, said, said-shown, said-lines}
 use Rattle.sheet_read.proofs.answer_reading.Statement.{statement}

@@ -5,7 +5,7 @@ use Prim.Native.Nat.{_≤_, _-_}
 use mathlib.Core.Path.{_≡_, refl, sym, _∙_}
 use lib.ListN.{length, drop}
 use Rattle.text.specs.Text.{one-of}
-use Rattle.text.specs.Place.{one-here, one-past, one-end}
+use Rattle.text.specs.TextLaws.{one-here, one-past, one-end}
 use Rattle.text.proofs.one_of.Statement.{statement}
 use Rattle.text.proofs.one_of.Tie as tie
 

@@ -3,7 +3,7 @@ use Prim.Native.Nat.{_≤_}
 use native.Mathlib.Omega.{arith}
 use denote.Ref.{now}
 use Rattle.automaton.specs.Form.{alphabetOf}
-use Rattle.trellis_column.specs.Column.{Nearby, near-within, lowest-label, lowest-paid, taken}
+use Rattle.trellis_column.specs.Loops.{Nearby, near-within, lowest-label, lowest-paid, taken}
 use Rattle.trellis_column.proofs.advance.Statement.{statement}
 use Rattle.trellis_column.proofs.advance.Tie as tie
 

@@ -4,9 +4,11 @@ use mathlib.Core.Path.{_≡_, sym, subst}
 use native.Mathlib.Omega.{arith}
 use denote.Ref.{now}
 use borrow.Author.Needs.{needs}
-use Rattle.lists.specs.Least.{Least, Among, least-start, least-more}
+use Rattle.lists.specs.LeastLaws.{least-start, least-more}
+use Rattle.lists.specs.Least.{Least, Among}
 use Rattle.automaton.specs.Form.{lettersOf, view}
-use Rattle.trellis_column.specs.Column.{NONE, Offers, offered-all}
+use Rattle.trellis_column.specs.Column.{NONE, Offers}
+use Rattle.trellis_column.specs.Loops.{offered-all}
 use Rattle.trellis_column.proofs.lowest.Statement.{statement}
 use Rattle.trellis_column.proofs.lowest.Tie as tie
 

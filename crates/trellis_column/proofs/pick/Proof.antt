@@ -3,7 +3,7 @@ use native.Mathlib.Omega.{arith}
 use denote.Ref.{now}
 use borrow.Author.Needs.{needs}
 use Rattle.automaton.specs.Form.{view}
-use Rattle.trellis_column.specs.Column.{pick-marked, pick-not}
+use Rattle.trellis_column.specs.Loops.{pick-marked, pick-not}
 use Rattle.trellis_column.proofs.pick.Statement.{statement}
 use Rattle.trellis_column.proofs.pick.Tie as tie
 

@@ -6,9 +6,11 @@ use native.Mathlib.Omega.{arith}
 use lib.ListN.{replicate}
 use denote.Ref.{now}
 use borrow.Author.Needs.{needs}
-use Rattle.lists.specs.Marks.{Marks, Turns, turns-none, turns-more}
+use Rattle.lists.specs.MarksLaws.{turns-none, turns-more}
+use Rattle.lists.specs.Marks.{Marks, Turns}
 use Rattle.automaton.specs.Form.{lettersOf, view}
-use Rattle.trellis_column.specs.Column.{Picks, picked-all}
+use Rattle.trellis_column.specs.Column.{Picks}
+use Rattle.trellis_column.specs.Loops.{picked-all}
 use Rattle.trellis_column.proofs.picked.Statement.{statement}
 use Rattle.trellis_column.proofs.picked.Tie as tie
 

@@ -4,7 +4,7 @@ use native.Mathlib.Omega.{arith}
 use borrow.Author.Needs.{needs}
 use denote.Ref.{now}
 use Rattle.automaton.specs.Form.{lettersOf}
-use Rattle.trellis_offers.specs.Offers.{Sofar, sofar-start, arc-inside, arc-target, sofar-more, sofar-end}
+use Rattle.trellis_offers.specs.OffersLoops.{Sofar, sofar-start, arc-inside, arc-target, sofar-more, sofar-end}
 use Rattle.trellis_offers.proofs.along_arcs.Statement.{statement}
 use Rattle.trellis_offers.proofs.along_arcs.Tie as tie
 

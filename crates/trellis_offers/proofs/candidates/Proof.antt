@@ -4,7 +4,8 @@ use mathlib.Core.Path.{_≡_, subst}
 use native.Mathlib.Omega.{arith}
 use denote.Ref.{now}
 use Rattle.automaton.specs.Form.{lettersOf}
-use Rattle.trellis_offers.specs.Column.{CandidatesBelow, candidates-none, candidates-more}
+use Rattle.trellis_offers.specs.Column.{CandidatesBelow}
+use Rattle.trellis_offers.specs.ColumnLoops.{candidates-none, candidates-more}
 use Rattle.trellis_offers.proofs.candidates.Statement.{statement}
 use Rattle.trellis_offers.proofs.candidates.Tie as tie
 

@@ -7,7 +7,7 @@ use denote.Ref.{now}
 use Rattle.lists.specs.Least.{Least, Among}
 use Rattle.automaton.specs.Form.{lettersOf}
 use Rattle.trellis.specs.Impossible.{TOP}
-use Rattle.trellis_offers.specs.Offers.{ToFirst, first-start, first-more, first-end}
+use Rattle.trellis_offers.specs.OffersLoops.{ToFirst, first-start, first-more, first-end}
 use Rattle.trellis_offers.proofs.to_first.Statement.{statement}
 use Rattle.trellis_offers.proofs.to_first.Tie as tie
 

@@ -5,7 +5,7 @@ use native.Mathlib.Omega.{arith}
 use lib.ListN.{length-set}
 use borrow.Author.Needs.{needs}
 use denote.Ref.{now}
-use Rattle.trellis_row.specs.Letters.{ready-inside, letter-filled}
+use Rattle.trellis_row.specs.LettersLoops.{ready-inside, letter-filled}
 use Rattle.trellis_row.proofs.fill_letter.Statement.{statement}
 use Rattle.trellis_row.proofs.fill_letter.Tie as tie
 

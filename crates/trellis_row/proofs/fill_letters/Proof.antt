@@ -4,7 +4,8 @@ use mathlib.Core.Path.{_≡_, subst}
 use native.Mathlib.Omega.{arith}
 use denote.Ref.{now}
 use Rattle.automaton.specs.Form.{lettersOf}
-use Rattle.trellis_row.specs.Letters.{LettersFilled, letters-none, letters-more, bounded-kept}
+use Rattle.trellis_row.specs.Letters.{LettersFilled}
+use Rattle.trellis_row.specs.LettersLoops.{letters-none, letters-more, bounded-kept}
 use Rattle.trellis_row.proofs.fill_letters.Statement.{statement}
 use Rattle.trellis_row.proofs.fill_letters.Tie as tie
 

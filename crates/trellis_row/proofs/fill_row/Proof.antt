@@ -6,7 +6,7 @@ use lib.ListN.{getD}
 use borrow.Author.Needs.{needs}
 use denote.Ref.{now}
 use Rattle.trellis.specs.Impossible.{TOP}
-use Rattle.trellis_row.specs.Rows.{start-inside, row-filled}
+use Rattle.trellis_row.specs.RowsLaws.{start-inside, row-filled}
 use Rattle.trellis_row.proofs.fill_row.Statement.{statement}
 use Rattle.trellis_row.proofs.fill_row.Tie as tie
 

@@ -5,7 +5,7 @@ use native.Mathlib.Omega.{arith}
 use denote.Ref.{now}
 use borrow.Author.Needs.{needs}
 use Rattle.automaton.specs.Form.{view}
-use Rattle.trellis.specs.Reached.{entering-blanks, entering-letter}
+use Rattle.trellis.specs.ReachedLaws.{entering-blanks, entering-letter}
 use Rattle.trellis_steps.proofs.entering.Statement.{statement}
 use Rattle.trellis_steps.proofs.entering.Tie as tie
 

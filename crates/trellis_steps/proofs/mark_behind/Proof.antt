@@ -4,8 +4,9 @@ use mathlib.Core.Path.{sym, subst}
 use denote.Ref.{now}
 use Rattle.lists.specs.Marks.{Marks}
 use Rattle.automaton.specs.Form.{view}
-use Rattle.form_starts.specs.Starts.{range-rises}
-use Rattle.trellis_steps.specs.Steps.{Behind, targets-marked}
+use Rattle.form_starts.specs.Loops.{range-rises}
+use Rattle.trellis_steps.specs.Steps.{Behind}
+use Rattle.trellis_steps.specs.Loops.{targets-marked}
 use Rattle.trellis_steps.proofs.mark_behind.Statement.{statement}
 use Rattle.trellis_steps.proofs.mark_behind.Tie as tie
 

@@ -3,7 +3,7 @@ use mathlib.Core.Path.{sym, _∙_}
 use denote.Ref.{now}
 use borrow.Author.Needs.{needs}
 use Rattle.automaton.specs.Form.{view}
-use Rattle.trellis_steps.specs.Steps.{led-marked, led-not}
+use Rattle.trellis_steps.specs.Loops.{led-marked, led-not}
 use Rattle.trellis_steps.proofs.mark_first.Statement.{statement}
 use Rattle.trellis_steps.proofs.mark_first.Tie as tie
 

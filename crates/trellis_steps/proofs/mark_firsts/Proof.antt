@@ -3,9 +3,11 @@ use Prim.Native.Nat.{_≤_, _+_, _-_}
 use mathlib.Core.Path.{_≡_, subst, _∙_}
 use native.Mathlib.Omega.{arith}
 use denote.Ref.{now}
-use Rattle.lists.specs.Marks.{Marks, Turns, turns-none, turns-more}
+use Rattle.lists.specs.MarksLaws.{turns-none, turns-more}
+use Rattle.lists.specs.Marks.{Marks, Turns}
 use Rattle.automaton.specs.Form.{lettersOf, view}
-use Rattle.trellis_steps.specs.Steps.{Led, firsts-marked}
+use Rattle.trellis_steps.specs.Steps.{Led}
+use Rattle.trellis_steps.specs.Loops.{firsts-marked}
 use Rattle.trellis_steps.proofs.mark_firsts.Statement.{statement}
 use Rattle.trellis_steps.proofs.mark_firsts.Tie as tie
 

@@ -2,7 +2,7 @@
 use denote.Ref.{now}
 use borrow.Author.Needs.{needs}
 use Rattle.automaton.specs.Form.{view}
-use Rattle.trellis_steps.specs.Steps.{from-marked, from-not}
+use Rattle.trellis_steps.specs.Loops.{from-marked, from-not}
 use Rattle.trellis_steps.proofs.mark_from.Statement.{statement}
 use Rattle.trellis_steps.proofs.mark_from.Tie as tie
 

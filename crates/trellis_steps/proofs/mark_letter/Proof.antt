@@ -4,7 +4,7 @@ use native.Mathlib.Omega.{arith}
 use denote.Ref.{now}
 use borrow.Author.Needs.{needs}
 use Rattle.automaton.specs.Form.{view}
-use Rattle.trellis_steps.specs.Steps.{letter-marked, letter-equal}
+use Rattle.trellis_steps.specs.Loops.{letter-marked, letter-equal}
 use Rattle.trellis_steps.proofs.mark_letter.Statement.{statement}
 use Rattle.trellis_steps.proofs.mark_letter.Tie as tie
 

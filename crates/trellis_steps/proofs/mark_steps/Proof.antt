@@ -9,8 +9,9 @@ use borrow.Author.Needs.{needs}
 use Rattle.lists.specs.Marks.{Marks}
 use Rattle.automaton.specs.Form.{view}
 use Rattle.trellis.specs.Reached.{entering}
-use Rattle.trellis.specs.Extended.{at-letter}
-use Rattle.trellis_steps.specs.Steps.{Behind, steps-marked}
+use Rattle.trellis.specs.ExtendedLaws.{at-letter}
+use Rattle.trellis_steps.specs.Steps.{Behind}
+use Rattle.trellis_steps.specs.Loops.{steps-marked}
 use Rattle.trellis_steps.proofs.mark_steps.Statement.{statement}
 use Rattle.trellis_steps.proofs.mark_steps.Tie as tie
 

@@ -3,7 +3,8 @@ use Prim.Native.Nat.{_≤_, _-_}
 use mathlib.Core.Path.{_≡_, subst, _∙_}
 use native.Mathlib.Omega.{arith}
 use denote.Ref.{now}
-use Rattle.lists.specs.Marks.{Marks, Turns, turns-none, turns-more}
+use Rattle.lists.specs.MarksLaws.{turns-none, turns-more}
+use Rattle.lists.specs.Marks.{Marks, Turns}
 use Rattle.automaton.specs.Form.{view}
 use Rattle.trellis_steps.specs.Steps.{OtherLetter, TargetOf}
 use Rattle.trellis_steps.proofs.mark_targets.Statement.{statement}

@@ -6,9 +6,11 @@ use native.Mathlib.Omega.{arith}
 use lib.ListN.{replicate}
 use denote.Ref.{now}
 use borrow.Author.Needs.{needs}
-use Rattle.lists.specs.Marks.{Marks, Turns, turns-none, turns-more}
+use Rattle.lists.specs.MarksLaws.{turns-none, turns-more}
+use Rattle.lists.specs.Marks.{Marks, Turns}
 use Rattle.automaton.specs.Form.{lettersOf, view}
-use Rattle.trellis_steps.specs.Steps.{From, reached-marked}
+use Rattle.trellis_steps.specs.Steps.{From}
+use Rattle.trellis_steps.specs.Loops.{reached-marked}
 use Rattle.trellis_steps.proofs.reached.Statement.{statement}
 use Rattle.trellis_steps.proofs.reached.Tie as tie
 

@@ -3,7 +3,7 @@ use native.Mathlib.Omega.{arith}
 use borrow.Author.Needs.{needs}
 use denote.Ref.{now}
 use Rattle.matrix.specs.Matrix.{matrix}
-use Rattle.trellis_table.specs.Fill.{filled}
+use Rattle.trellis_table.specs.FillLoops.{filled}
 use Rattle.trellis_table.proofs.fill.Statement.{statement}
 use Rattle.trellis_table.proofs.fill.Tie as tie
 

@@ -6,7 +6,8 @@ use lib.ListN.{length}
 use denote.Ref.{now}
 use Rattle.automaton.specs.Form.{alphabetOf}
 use Rattle.matrix.specs.Matrix.{matrix}
-use Rattle.trellis_table.specs.Fill.{RowsFilled, rows-last, cost-inside, row-inside, next-bounded, rows-more}
+use Rattle.trellis_table.specs.Fill.{RowsFilled}
+use Rattle.trellis_table.specs.FillLoops.{rows-last, cost-inside, row-inside, next-bounded, rows-more}
 use Rattle.trellis_table.proofs.fill_rows.Statement.{statement}
 use Rattle.trellis_table.proofs.fill_rows.Tie as tie
 

@@ -6,8 +6,7 @@ use lib.ListN.{length}
 use denote.Ref.{now}
 use borrow.Author.Needs.{needs}
 use Rattle.matrix.specs.Matrix.{matrix}
-use Rattle.trellis_trace.specs.Traced.{Standing, standing-none, standing-all, standing-length, standing-sized, standing-kept, standing-more}
-use Rattle.trellis_trace.specs.Traced.{column-inside, row-inside, parts-of}
+use Rattle.trellis_trace.specs.Loops.{Standing, standing-none, standing-all, standing-length, standing-sized, standing-kept, standing-more, column-inside, row-inside, parts-of}
 use Rattle.trellis_trace.proofs.trace.Statement.{statement}
 use Rattle.trellis_trace.proofs.trace.Tie as tie
 

@@ -4,8 +4,8 @@ use Prim.Native.Nat.{_-_, _≤_}
 use native.Mathlib.Omega.{arith}
 use denote.Ref.{now}
 use lib.ListN.{length, drop}
-use Rattle.vectors_fields.specs.Fields.{counts}
-use Rattle.vectors_fields.specs.Numbers.{coming, Read, read-none, read-length, read-within, read-more, read-empty, read-last}
+use Rattle.vectors_fields.specs.FieldsLaws.{counts}
+use Rattle.vectors_fields.specs.NumbersLoops.{coming, Read, read-none, read-length, read-within, read-more, read-empty, read-last}
 use Rattle.vectors_fields.proofs.numbers.Statement.{statement}
 use Rattle.vectors_fields.proofs.numbers.Tie as tie
 

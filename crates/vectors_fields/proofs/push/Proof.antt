@@ -3,7 +3,7 @@ use native.Mathlib.Omega.{arith}
 use denote.Ref.{now}
 use lib.ListN.{length-set}
 use borrow.Author.Needs.{needs}
-use Rattle.vectors_fields.specs.Numbers.{pushed-not, pushed-full, pushed-one}
+use Rattle.vectors_fields.specs.NumbersLoops.{pushed-not, pushed-full, pushed-one}
 use Rattle.vectors_fields.proofs.push.Statement.{statement}
 use Rattle.vectors_fields.proofs.push.Tie as tie
 

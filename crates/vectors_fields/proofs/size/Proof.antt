@@ -6,7 +6,7 @@ use denote.Ref.{now}
 use lib.ListN.{getD}
 use borrow.Author.Tests.{eq-eqb, ne-eqb}
 use Rattle.vectors_fields.specs.Fields.{numbersOf}
-use Rattle.vectors_fields.specs.Numbers.{first-number}
+use Rattle.vectors_fields.specs.NumbersLoops.{first-number}
 use Rattle.vectors_fields.proofs.size.Statement.{statement}
 use Rattle.vectors_fields.proofs.size.Tie as tie
 

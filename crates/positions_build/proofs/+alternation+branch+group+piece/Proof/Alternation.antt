@@ -5,9 +5,9 @@ use lib.ListN.{getD}
 use denote.Ref.{now}
 use borrow.Author.Needs.{needs}
 use Rattle.regex.specs.Read.{m-branch}
-use Rattle.text.specs.Place.{byte-is}
+use Rattle.text.specs.TextLaws.{byte-is}
 use Rattle.positions_build.specs.Made.{reading, branch-found}
-use Rattle.positions_build.specs.BranchTurns.{branch-room, alternation-found, alternation-room, alternation-returns-branch, alternation-returns-choice}
+use Rattle.positions_build.specs.BranchCalls.{branch-room, alternation-found, alternation-room, alternation-returns-branch, alternation-returns-choice}
 use Prim.Native.Nat.{ℕ}
 use Rattle.positions_build.proofs.alternation.Reads as alternation
 use Rattle.positions_build.proofs.+alternation+branch+group+piece.Lts-alternation as alternation-lts

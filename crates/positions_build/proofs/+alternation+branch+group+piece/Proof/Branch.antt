@@ -5,7 +5,7 @@ use denote.Ref.{now}
 use borrow.Author.Needs.{needs}
 use Rattle.regex.specs.Read.{m-piece}
 use Rattle.positions_build.specs.Made.{reading, piece-found}
-use Rattle.positions_build.specs.BranchTurns.{first-copy, piece-room, next-found, next-room, branch-returns-piece, branch-returns-joint}
+use Rattle.positions_build.specs.BranchCalls.{first-copy, piece-room, next-found, next-room, branch-returns-piece, branch-returns-joint}
 use Prim.Native.Nat.{ℕ}
 use Rattle.positions_build.proofs.branch.Reads as branch
 use Rattle.positions_build.proofs.+alternation+branch+group+piece.Lts-branch as branch-lts

@@ -5,7 +5,7 @@ use native.Mathlib.Omega.{arith}
 use denote.Ref.{now}
 use borrow.Author.Needs.{needs}
 use Rattle.regex.specs.Read.{m-branch}
-use Rattle.text.specs.Place.{byte-is}
+use Rattle.text.specs.TextLaws.{byte-is}
 use Rattle.regex_count.specs.Parts.{add}
 use Rattle.regex_parse.specs.Parts.{Found, part-found}
 use Rattle.regex_parse.specs.Cycle.{alternation-refused, alternation-alone, alternation-more}

@@ -4,7 +4,7 @@ use Prim.Native.Nat.{ℕ}
 use native.Mathlib.Omega.{arith}
 use denote.Ref.{now}
 use borrow.Author.Needs.{needs}
-use Rattle.text.specs.Place.{byte-is}
+use Rattle.text.specs.TextLaws.{byte-is}
 use Rattle.regex_count.specs.Parts.{closed}
 use Rattle.regex_parse.specs.Cycle.{group-set, group-deep, group-closed}
 use Rattle.regex_parse.proofs.group.Reads as group

@@ -1,0 +1,14 @@
+-- A text that compiles over an alphabet.
+use Prim.Native.Nat.{ℕ, _≤_}
+use mathlib.Core.Path.{_≡_}
+use mathlib.Core.Bool.{true}
+use mathlib.Core.List.{List}
+use Rattle.regex.specs.Letters.{letterCount}
+use Rattle.regex.specs.Read.{expressionOf}
+use Rattle.regex_bracket.specs.Answers.{is-found}
+use Rattle.positions_build.specs.Whole.{treeOfText}
+
+-- a text that reads, with few letters
+pub record Compilable (A s : List ℕ) : Type 0 where
+  pub reads : is-found (expressionOf A s) ≡ true
+  pub within : letterCount A (treeOfText A s) ≤ 127

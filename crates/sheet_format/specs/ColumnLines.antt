@@ -1,0 +1,21 @@
+-- The column lines of a sheet, from a place on.
+use mathlib.Core.Path.{_≡_}
+use mathlib.Core.Option.{Option, some, none}
+use mathlib.Core.List.{List}
+use Prim.Native.Nat.{ℕ}
+use Rattle.lists.specs.Lists.{Each}
+use Rattle.sheet_format.specs.Sheet.{every, linesOf, columnOf}
+
+-- no byte is the separator c
+abbrev pub Free : ℕ → List ℕ → Type 0
+Free c p = Each (λ b. b ≡ c → ⊥) p
+
+-- Columns.
+
+unfoldable pub columnsOf : Option (List (List ℕ)) → Option (List (List ℕ))
+columnsOf none = none
+columnsOf (some ls) = every columnOf ls
+
+-- the columns of a sheet's rest
+abbrev pub rows : List ℕ → Option (List (List ℕ))
+rows s = columnsOf (linesOf s)

@@ -1,0 +1,209 @@
+-- The path, a column at a time.
+use Prim.Native.Nat.{ℕ, _+_, _*_, _-_, _≤_, _<_}
+use mathlib.Core.Path.{_≡_, refl, sym, ap, ap₂, _∙_, subst}
+use mathlib.Core.Bool.{true, false}
+use mathlib.Core.List.{List, [], _∷_, _++_}
+use mathlib.Core.Logic.{_⊎_, inl, inr}
+use native.Mathlib.Nat.{mul-le-mul-right}
+use native.Mathlib.Omega.{arith}
+use lib.ListN.{length, getD, take, drop, set as put, replicate, length-append, length-drop}
+use lib.Seq.{getD-take, getD-drop, length-take-le, take-at}
+use Rattle.lists.specs.WrittenLaws.{written-none, written-more, length-written}
+use Rattle.lists.specs.Memory.{written}
+use Rattle.lists.specs.MarksLaws.{has-none, marks-one}
+use Rattle.lists.specs.Marks.{Has}
+use Rattle.automaton.specs.Automaton.{Automaton}
+use Rattle.automaton.specs.Form.{lettersOf, alphabetOf, view}
+use Rattle.automaton.specs.ValidLaws.{valid-proper}
+use Rattle.matrix.specs.Matrix.{Matrix, cost}
+use Rattle.trellis.specs.Impossible.{plus}
+use Rattle.trellis.specs.CostToGo.{CostToGo}
+use Rattle.trellis.specs.Trace.{Tracing, tracing-start, tracing-more, tracing-all}
+use Rattle.trellis.specs.Extended.{extended}
+use Rattle.trellis.specs.ExtendedLaws.{step-within}
+use Rattle.trellis.specs.Reached.{entering, Reached}
+use Rattle.trellis.specs.ReachedLaws.{Kept, Picked, picked-chosen, next-row, some-kept}
+use Rattle.trellis_steps.specs.Steps.{Within}
+use Rattle.trellis_steps.specs.Loops.{entering-high}
+use Rattle.trellis_column.specs.declared.Front.{Front}
+use Rattle.trellis_column.specs.Column.{Sized, KeptOf, SomeKept, Taken}
+use Rattle.trellis_trace.specs.Traced.{Ready, Traced}
+
+-- the path stands in front
+pub traced-front : {A : Automaton} {M : Matrix} {before after : List ℕ} (t : Traced A M before after) → take (M .count) after ≡ t .path
+unfolding written
+traced-front {M = M} {before = before} t =
+    ap (take (M .count)) (t .memory) ∙ take-at (t .path) (drop (length (t .path)) before) (M .count) (t .best .qualifies .long)
+
+-- before column t: the labels written, and the front that they lead to
+pub record Standing (f : List ℕ) (M : Matrix) (before : List ℕ) (t : ℕ) (front : Front) (after : List ℕ) : Type 0 where
+  pub so-far : t ≤ M .count
+  pub done : List ℕ
+  pub long : length done ≡ t
+  pub memory : after ≡ written done before
+  pub within : Within f (front .set)
+  pub tracing : Tracing (extended (view f)) M 0 (M .count) t (M .count - t) (Has (front .set)) (front .left) done
+
+pub standing-length :
+    {f : List ℕ} {M : Matrix} {before after : List ℕ} {t : ℕ} {front : Front} → M .count ≤ length before → Standing f M before t front after
+    → length after ≡ length before
+standing-length {before = before} h s =
+    let l = s .long in
+    let m = s .so-far in
+    ap length (s .memory) ∙ length-written (s .done) before (omega arith)
+
+-- column t of the matrix, and the next row of the table, as lists of their own
+pub record PartsOf (f : List ℕ) (M : Matrix) (work : List ℕ) (base stride t : ℕ) (column row : List ℕ) : Type 0 where
+  pub same-column : (x : ℕ) → x ≤ alphabetOf f → getD column x 0 ≡ cost M t x
+  pub same-row : (u : ℕ) → u ≤ 2 * lettersOf f → getD row u 0 ≡ getD work (base + (t + 1) * stride + u) 0
+  pub wide : alphabetOf f < length column
+  pub long : 2 * lettersOf f < length row
+
+-- a part of a list, element by element
+part-at : (xs : List ℕ) (a e i : ℕ) → a + i < e → getD (take (e - a) (drop a xs)) i 0 ≡ getD xs (a + i) 0
+part-at xs a e i h = getD-take (e - a) (drop a xs) i 0 (omega arith) ∙ getD-drop a xs i 0
+
+part-length : (xs : List ℕ) (a e : ℕ) → e ≤ length xs → length (take (e - a) (drop a xs)) ≡ e - a
+part-length xs a e h = length-take-le (e - a) (drop a xs) (omega (arith, length-drop a xs))
+
+module _ {f : List ℕ} {M : Matrix} {work : List ℕ} {base stride : ℕ} (ready : Ready f M work base stride) where
+  -- no label is written yet
+  pub standing-none :
+      (before : List ℕ) (label : ℕ)
+      → Standing f M before 0 (record { label = label; left = getD work base 0; set = put (replicate 255 false) 0 true }) before
+  standing-none before label =
+      let start = marks-one 0 (replicate 255 false) (omega arith) in
+      let only : (s : ℕ) → Has (put (replicate 255 false) 0 true) s → s ≡ 0 = λ s h. by s (start .only s h) in
+      let togo : CostToGo (extended (view f)) M 0 (M .count) 0 (getD work (base + 0 * stride + 0) 0) = ready .table 0 (M .count) (omega arith) 0 (omega arith) in
+      let at : base + 0 * stride + 0 ≡ base = omega arith in
+      let none : M .count ≡ M .count - 0 = omega arith in
+      record {
+        so-far = omega arith;
+        done = [];
+        long = refl;
+        memory = sym (written-none before);
+        within = λ s h. let e = only s h in omega arith;
+        tracing =
+            subst (λ n. Tracing (extended (view f)) M 0 (M .count) 0 n (Has (put (replicate 255 false) 0 true)) (getD work base 0) []) none
+            (tracing-start (extended (view f)) M 0 (M .count) (getD work base 0) (Has (put (replicate 255 false) 0 true)) (start .marked 0 refl) only
+            (subst (λ n. CostToGo (extended (view f)) M 0 (M .count) 0 (getD work n 0)) at togo) (ready .below));
+      }
+    where
+      by : (s : ℕ) → Has (replicate 255 false) s ⊎ (s ≡ 0) → s ≡ 0
+      by s (inl h) = absurd (has-none 255 s h)
+      by s (inr e) = e
+
+  -- every column is done
+  pub standing-all : {before after : List ℕ} {front : Front} {t : ℕ} → M .count ≤ t → Standing f M before t front after → Traced (view f) M before after
+  standing-all {front = front} {t = t} h s =
+      let l = s .so-far in
+      let none : M .count - t ≡ 0 = omega arith in
+      record {
+        path = s .done;
+        memory = s .memory;
+        best =
+            tracing-all (extended (view f)) M
+            (subst (λ n. Tracing (extended (view f)) M 0 (M .count) t n (Has (front .set)) (front .left) (s .done)) none (s .tracing));
+      }
+
+  -- Column t, which is there, and the next row.
+  module _ (t : ℕ) (there : t < M .count) where
+    pub column-inside : t * M .width + M .width ≤ length (M .costs)
+    column-inside = let h = mul-le-mul-right (M .width) there in let s = ready .size in omega arith
+
+    pub row-inside : base + (t + 1) * stride + (2 * lettersOf f + 1) ≤ length work
+    row-inside = let h = mul-le-mul-right stride there in let r = ready .room in omega arith
+
+    pub parts-of :
+        (a e r p : ℕ) → a ≡ t * M .width → e ≡ a + M .width → r ≡ base + (t + 1) * stride → p ≡ r + (2 * lettersOf f + 1)
+        → PartsOf f M work base stride t (take (e - a) (drop a (M .costs))) (take (p - r) (drop r work))
+    parts-of a e r p ea ee er ep =
+        let c = column-inside in
+        let i = row-inside in
+        let w = ready .wide in
+        record {
+          same-column = λ x h. part-at (M .costs) a e x (omega arith) ∙ ap (λ n. getD (M .costs) (n + x) 0) ea;
+          same-row = λ u h. part-at work r p u (omega arith) ∙ ap (λ n. getD work (n + u) 0) er;
+          wide = let l = part-length (M .costs) a e (omega arith) in omega arith;
+          long = let l = part-length work r p (omega arith) in omega arith;
+        }
+
+    module _ {column row before after : List ℕ} {front : Front} (parts : PartsOf f M work base stride t column row)
+        (stands : Standing f M before t front after) where
+      abbrev next : ℕ → ℕ
+      next u = getD work (base + (t + 1) * stride + u) 0
+
+      abbrev rest : ℕ
+      rest = M .count - (t + 1)
+
+      -- what is kept by the two parts is kept by the matrix and the table
+      keeps-same :
+          (u : ℕ) → Reached (view f) (Has (front .set)) u
+          → plus (getD column (entering (view f) u) 0) (getD row u 0) ≡ plus (cost M t (entering (view f) u)) (next u)
+      keeps-same u r =
+          let h = step-within (valid-proper f (ready .valid)) (r .0) (entering (view f) u) u (r .2) (stands .within (r .0) (r .1)) in
+          ap₂ plus (parts .same-column (entering (view f) u) (entering-high f (ready .valid) u h)) (parts .same-row u h)
+
+      there-kept : (u : ℕ) → KeptOf (view f) column row (front .left) (front .set) u → Kept (view f) M t next (Has (front .set)) (front .left) u
+      there-kept u k = (k .0, sym (keeps-same u (k .0)) ∙ k .1)
+
+      back-kept : (u : ℕ) → Kept (view f) M t next (Has (front .set)) (front .left) u → KeptOf (view f) column row (front .left) (front .set) u
+      back-kept u k = (k .0, keeps-same u (k .0) ∙ k .1)
+
+      tracing-now : Tracing (extended (view f)) M 0 (M .count) t (rest + 1) (Has (front .set)) (front .left) (stands .done)
+      tracing-now =
+          subst (λ n. Tracing (extended (view f)) M 0 (M .count) t n (Has (front .set)) (front .left) (stands .done)) (omega arith) (stands .tracing)
+
+      table-next : (s : ℕ) → s ≤ 2 * lettersOf f → CostToGo (extended (view f)) M (t + 1) rest s (next s)
+      table-next = ready .table (t + 1) (M .count - (t + 1)) (omega arith)
+
+      pub standing-sized : Sized f column row (front .left)
+      standing-sized = record { valid = ready .valid; wide = parts .wide; long = parts .long; below = stands .tracing .shared .below }
+
+      pub standing-kept : SomeKept (view f) column row (front .left) (front .set)
+      standing-kept =
+          let k = some-kept (valid-proper f (ready .valid)) M t (front .left) next (Has (front .set)) (stands .within) rest table-next (tracing-now .shared) in
+          (k .0, back-kept (k .0) (k .2))
+
+      -- one column more
+      module _ {onward : Front} (taken : Taken (view f) column row front onward) where
+        picked : Picked (view f) M t next (Has (front .set)) (front .left) (onward .label) (Has (onward .set))
+        picked =
+            record {
+              lowest = λ u h k. taken .lowest u (back-kept u k);
+              one = taken .one;
+              kept = there-kept (taken .one) (taken .kept);
+              by-x = taken .by-label;
+              hit = λ u h. let k = taken .hit u h in (there-kept u (k .0), k .1);
+              all = λ u h k e. taken .all u (back-kept u k) e;
+            }
+
+        pub standing-more : M .count ≤ length before → Standing f M before (t + 1) onward (put after t (onward .label))
+        standing-more room =
+            let proper = valid-proper f (ready .valid) in
+            let G = extended (view f) in
+            let o = taken .one in
+            let r = taken .kept .0 in
+            let within : (s : ℕ) → Has (onward .set) s → s ≤ 2 * lettersOf f =
+            λ s h.
+            let k = taken .hit s h .0 .0 in
+            step-within proper (k .0) (entering (view f) s) s (k .2) (stands .within (k .0) (k .1)) in
+            let high : onward .label ≤ alphabetOf f =
+            let e = taken .by-label in
+            let h = entering-high f (ready .valid) o (step-within proper (r .0) (entering (view f) o) o (r .2) (stands .within (r .0) (r .1))) in
+            omega arith in
+            let left : front .left - cost M t (onward .label) ≡ onward .left =
+            ap (λ n. front .left - n) (sym (parts .same-column (onward .label) high)) ∙ sym (taken .left) in
+            let l = stands .long in
+            record {
+              so-far = omega arith;
+              done = stands .done ++ (onward .label ∷ []);
+              long = simp length-append (omega arith);
+              memory = ap (λ m. put m t (onward .label)) (stands .memory) ∙ written-more (stands .done) before t (onward .label) l (omega arith);
+              within = within;
+              tracing =
+                  subst (λ v. Tracing G M 0 (M .count) (t + 1) (M .count - (t + 1)) (Has (onward .set)) v (stands .done ++ (onward .label ∷ []))) left
+                  (tracing-more G M rest next (tracing-now .shared)
+                  (next-row proper M t (front .left) next (Has (front .set)) (stands .within) rest table-next)
+                  (picked-chosen proper M t (front .left) next (Has (front .set)) (stands .within) picked) tracing-now);
+            }
