@@ -1,6 +1,5 @@
 -- What an alphabet is, and what is checked of an alphabet and a text before the text is read (document 01, "What is turned away", rows 1 to
--- 3). Assumes nothing.
--- Used by the contracts, the proofs, Examples, Tests and Turns; in compile, sheet_answer and read.
+-- 3).
 use Prim.Native.Nat.{ℕ}
 use mathlib.Core.Bool.{Bool, true, not, _&&_}
 use mathlib.Core.List.{List, [], _∷_}

@@ -1,5 +1,4 @@
--- Rows 1 to 3 at their limits, and their order, computed. Assumes nothing.
--- Computed examples: nothing uses them.
+-- Rows 1 to 3 at their limits, and their order, computed.
 use Prim.Native.Nat.{ℕ}
 use mathlib.Core.Path.{_≡_, refl}
 use mathlib.Core.Bool.{true, false}

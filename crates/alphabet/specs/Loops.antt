@@ -1,5 +1,4 @@
--- The alphabet's test for equal bytes, turn by turn, and the checks of the text one by one. Assumes nothing.
--- Used by the proofs.
+-- The alphabet's test for equal bytes, turn by turn, and the checks of the text one by one.
 use Prim.Native.Nat.{ℕ, _+_, _<_, _≤_}
 use mathlib.Core.Path.{_≡_, ap, _∙_}
 use mathlib.Core.Bool.{true, false, not, _&&_, _||_}

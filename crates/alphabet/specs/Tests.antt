@@ -1,5 +1,4 @@
--- Rows 1, 2 and 3, test by test. Assumes nothing.
--- Used by the proofs; in compile.
+-- Rows 1, 2 and 3, test by test.
 use Prim.Native.Nat.{ℕ, _<_, _≤_}
 use mathlib.Core.Path.{_≡_, sym, ap, _∙_}
 use mathlib.Core.Bool.{true, false, not, _&&_, and-false}

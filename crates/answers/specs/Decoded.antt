@@ -1,5 +1,4 @@
--- What Decode's answer reports. Assumes nothing.
--- Used by Examples and Reading; in 7 other crates.
+-- What Decode's answer reports.
 use Prim.Native.Nat.{ℕ}
 use Rattle.refusal.specs.Report.{Report, turned-away}
 use Rattle.answers.specs.declared.Decoded.{Decoded}

@@ -1,5 +1,4 @@
--- What each answer reports, computed. Assumes nothing.
--- Computed examples: nothing uses them.
+-- What each answer reports, computed.
 use mathlib.Core.Path.{_≡_, refl}
 use mathlib.Core.Bool.{true, false}
 use Rattle.refusal.specs.declared.Refusal.the-variants.{Work}

@@ -1,5 +1,4 @@
--- What Judge reports: of its answer, and of the verdict on a form and a word. Assumes nothing.
--- Used by Examples; in export_counts, judge and kavurehy.
+-- What Judge reports: of its answer, and of the verdict on a form and a word.
 use Prim.Native.Nat.{ℕ}
 use mathlib.Core.Bool.{Bool, true, false}
 use Rattle.refusal.specs.Number.{numberOf}

@@ -1,5 +1,4 @@
--- What Read's answer reports. Assumes nothing.
--- Used by Examples; in export_paths, sheet_read, read_text, read_valid and read.
+-- What Read's answer reports.
 use Rattle.refusal.specs.Report.{Report, turned-away}
 use Rattle.answers.specs.Decoded.{read}
 use Rattle.answers.specs.declared.Reading.{Reading}

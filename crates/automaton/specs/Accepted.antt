@@ -1,6 +1,5 @@
 -- The accepted words of an automaton, decided: a search over its letters. Two automata that agree on their letters accept the same
--- words. Assumes nothing.
--- Used by Encode and Examples; in judge, kavurehy, form_sets and read.
+-- words.
 use Prim.Native.Nat.{ℕ}
 use mathlib.Core.Bool.{Bool, _&&_}
 use mathlib.Core.List.{List, [], _∷_}

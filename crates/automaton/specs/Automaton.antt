@@ -1,6 +1,5 @@
 -- An automaton by its parts, its walks, and the words that it accepts (document 01, "Opening and the compiled form").
--- Letters are numbered from 1; 0 stands for 'no letter yet'. Assumes nothing.
--- Used by 6 files of specs/; in 15 other crates.
+-- Letters are numbered from 1; 0 stands for 'no letter yet'.
 use Prim.Native.Nat.{ℕ}
 use mathlib.Core.Path.{_≡_}
 use mathlib.Core.Bool.{Bool, true}

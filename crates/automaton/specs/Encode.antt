@@ -1,6 +1,5 @@
 -- The round trip between forms and automata: the form of a proper automaton is valid and stands for it, and a valid form is the form of
--- the automaton that it stands for. Assumes nothing.
--- Used in kavurehy and positions.
+-- the automaton that it stands for.
 use Prim.Native.Nat.{ℕ, zero, suc, _+_, _-_, _<_, _≤_}
 use mathlib.Core.Path.{_≡_, refl, sym, ap, ap₂, subst, _∙_}
 use mathlib.Core.Bool.{true}

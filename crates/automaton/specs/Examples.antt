@@ -1,5 +1,4 @@
--- Compiled forms, computed: encoded, valid, read back; and lists that are no forms. Assumes nothing.
--- Computed examples: nothing uses them.
+-- Compiled forms, computed: encoded, valid, read back; and lists that are no forms.
 use Prim.Native.Nat.{ℕ}
 use mathlib.Core.Path.{_≡_, refl}
 use mathlib.Core.Bool.{true, false, _&&_, _||_}

@@ -1,6 +1,5 @@
 -- The compiled form, a list of 32-bit words (document 01, "Opening and the compiled form"): its words by their fields, which lists are
--- valid forms, the automaton that a form stands for, and the form of an automaton. Assumes nothing.
--- Used by 5 files of specs/; in 25 other crates.
+-- valid forms, the automaton that a form stands for, and the form of an automaton.
 use Prim.Native.Nat.{ℕ, zero, suc, _+_, _*_, _/_, _%_, _^_}
 use mathlib.Core.Bool.{Bool, true, cond, _&&_, _||_}
 use mathlib.Core.List.{List, [], _∷_, _++_, map, flatMap}

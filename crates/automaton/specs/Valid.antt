@@ -1,5 +1,4 @@
--- What a valid form says of its words, index by index, and of its automaton. Assumes nothing.
--- Used by Encode and FormAccepts; in 18 other crates.
+-- What a valid form says of its words, index by index, and of its automaton.
 use Prim.Native.Nat.{ℕ, _<_, _≤_}
 use mathlib.Core.List.{List}
 use lib.ListN.{length, getD}

@@ -1,6 +1,5 @@
 -- The words of a form: what the test of each kind says, the order of arcs as that of numbers, and the fields of a word that was made
--- of fields. Assumes nothing.
--- Used by Encode, FormAccepts and Valid; in form_starts and form_check.
+-- of fields.
 use Prim.Native.Nat.{ℕ, _/_, _%_, _<_, _≤_}
 use mathlib.Core.Path.{_≡_}
 use mathlib.Core.Bool.{Bool, true, false}

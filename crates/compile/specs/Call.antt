@@ -1,6 +1,5 @@
 -- What Compile makes of an alphabet and a text: the form of its expression, or the refusal that applies (document 01, "What is turned
--- away", rows 1 to 10). Assumes nothing.
--- Used by the contracts, the proofs, Examples, Meaning and Steps; in kavurehy, sheet_answer, sheet_read, read_text and read.
+-- away", rows 1 to 10).
 use Prim.Native.Nat.{ℕ}
 use mathlib.Core.List.{List, [], _∷_}
 use lib.ListN.{length}
@@ -8,9 +7,9 @@ use lib.Dec.{ltb}
 use Rattle.refusal.specs.declared.Refusal.the-variants.{Letters, FormMemory}
 use Rattle.refusal.specs.Verdict.{Verdict, refused, check, unless, if-passed}
 use Rattle.regex.specs.Tree.{Tree}
-use Rattle.regex.specs.Text.{Reads, found, fault}
+use Rattle.regex.specs.Parsing.{Parsing, found, fault}
 use Rattle.regex.specs.Letters.{letterCount}
-use Rattle.regex.specs.Read.{expressionOf}
+use Rattle.regex.specs.Parse.{expressionOf}
 use Rattle.positions.specs.Compiled.{formOf}
 use Rattle.alphabet.specs.Alphabet.{text-checks}
 
@@ -19,7 +18,7 @@ abbrev pub formed : List ℕ → ℕ → Tree → Verdict (List ℕ)
 formed A room t = unless (check (ltb 127 (letterCount A t)) Letters ∷ (check (ltb room (length (formOf A t))) FormMemory ∷ [])) (formOf A t)
 
 -- rows 4 to 8 are those of the reading, the leftmost fault's
-abbrev pub read-form : List ℕ → ℕ → Reads Tree → Verdict (List ℕ)
+abbrev pub read-form : List ℕ → ℕ → Parsing Tree → Verdict (List ℕ)
 read-form A room (found t rest) = formed A room t
 read-form A room (fault n rest) = refused n
 

@@ -4,7 +4,7 @@ use mathlib.Core.Path.{_≡_}
 use mathlib.Core.Bool.{true}
 use mathlib.Core.List.{List}
 use Rattle.regex.specs.Letters.{letterCount}
-use Rattle.regex.specs.Read.{expressionOf}
+use Rattle.regex.specs.Parse.{expressionOf}
 use Rattle.regex_bracket.specs.Answers.{is-found}
 use Rattle.positions_build.specs.Whole.{treeOfText}
 

@@ -1,5 +1,4 @@
--- Document 01's compile lines, and ties of refusals, computed from the definitions. Assumes nothing.
--- Computed examples: nothing uses them.
+-- Document 01's compile lines, and ties of refusals, computed from the definitions.
 use Prim.Native.Nat.{ℕ}
 use Prim.Native.String.{String}
 use mathlib.Core.Path.{_≡_, refl}
@@ -15,12 +14,12 @@ use Rattle.automaton.specs.Form.{encode}
 use Rattle.text.specs.Bytes.{bytes}
 use Rattle.regex.specs.Tree.{between, set, times}
 use Rattle.regex.specs.Letters.{labelsOf, letterCount}
-use Rattle.regex.specs.Text.{then, enclosed}
+use Rattle.regex.specs.Parsing.{then, enclosed}
 use Rattle.text.specs.Text.{split}
 use Rattle.lists.specs.Cases.{first-of, provided}
 use Rattle.regex.specs.Sets.{closed, reserved, items, members, inside, bracket, alone, escaped, a-set, labelled-set}
 use Rattle.regex.specs.Repetition.{number, from-on, from-to, comma, counts, sign, repetition}
-use Rattle.regex.specs.Read.{grouped, step, go, read, whole, expressionOf}
+use Rattle.regex.specs.Parse.{grouped, step, go, parse, whole, expressionOf}
 use Rattle.positions.specs.Opened.{anyOf, copies, nested, repeated, opened, labels}
 use Rattle.positions.specs.Numbered.{numbered, positionAutomaton}
 use Rattle.positions.specs.Compiled.{formOf}
@@ -52,7 +51,7 @@ rows =
     ∷ []
 
 computed : failing rows ≡ []
-unfolding failing meets said rows compile-call distinct if-passed unless all any keep numbers flatMap encode labelsOf letterCount then first-of split enclosed provided closed reserved items members inside bracket escaped a-set labelled-set number from-on from-to comma counts sign repetition grouped step go read whole expressionOf anyOf copies nested repeated opened labels numbered positionAutomaton
+unfolding failing meets said rows compile-call distinct if-passed unless all any keep numbers flatMap encode labelsOf letterCount then first-of split enclosed provided closed reserved items members inside bracket escaped a-set labelled-set number from-on from-to comma counts sign repetition grouped step go parse whole expressionOf anyOf copies nested repeated opened labels numbered positionAutomaton
 computed = refl
 
 -- "`a{127}` compiles, `a{128}` is 9": of 127 letters nothing but row 10 can be said. Their form is not computed.
@@ -60,5 +59,5 @@ abbrev longest : List ℕ
 longest = formOf (bytes "ab") (times (set (alone 97)) (between 127 127))
 
 most-letters : (room : ℕ) → compile-call (bytes "ab") (bytes "a{127}") room ≡ unless (check (ltb room (length longest)) FormMemory ∷ []) longest
-unfolding compile-call distinct if-passed unless all any labelsOf letterCount then first-of split enclosed provided a-set labelled-set number from-to counts sign repetition step go read whole expressionOf
+unfolding compile-call distinct if-passed unless all any labelsOf letterCount then first-of split enclosed provided a-set labelled-set number from-to counts sign repetition step go parse whole expressionOf
 most-letters room = refl

@@ -1,6 +1,5 @@
 -- Demand 2, stated at Compile: the form that it writes is valid, and accepts a word exactly if the expression's set of words, by its
--- text, has it. Assumes nothing.
--- Used in kavurehy, sheet_read, read_text and read.
+-- text, has it.
 use Prim.Native.Nat.{ℕ, _≤_}
 use mathlib.Core.Path.{_≡_, refl, sym, ap, _∙_, subst}
 use mathlib.Core.Bool.{Bool, true, false, not, _&&_}
@@ -20,9 +19,9 @@ use Rattle.refusal.specs.declared.Checked.the-variants.{Passed}
 use Rattle.automaton.specs.Automaton.{Accepts}
 use Rattle.automaton.specs.Form.{validForm, view, lettersOf, alphabetOf}
 use Rattle.regex.specs.Tree.{Tree}
-use Rattle.regex.specs.Text.{Reads, found, fault}
+use Rattle.regex.specs.Parsing.{Parsing, found, fault}
 use Rattle.regex.specs.Letters.{letterCount}
-use Rattle.regex.specs.Read.{expressionOf}
+use Rattle.regex.specs.Parse.{expressionOf}
 use Rattle.regex.specs.Grammar.{TextOf, WordsOf}
 use Rattle.regex.specs.Exact.{exact, words-of-text, expression-whole}
 use Rattle.regex.specs.Sense.{sensible}
@@ -51,7 +50,7 @@ unfolding unless
 unless-same a b e = cc
 
 module _ (A s : List ℕ) (room : ℕ) (f : List ℕ) where
-  tree : (low : 1 ≤ length A) (high : length A ≤ 95) (y : Reads Tree) → expressionOf A s ≡ y → read-form A room y ≡ passed f → Means A s f
+  tree : (low : 1 ≤ length A) (high : length A ≤ 95) (y : Parsing Tree) → expressionOf A s ≡ y → read-form A room y ≡ passed f → Means A s f
   tree low high (fault n rest) e h = let z : _≡_ {A = ℕ} 0 1 = cc in absurd (omega arith)
   tree low high (found t rest) e h =
       let a = unless-passed (ltb 127 (letterCount A t)) Letters (check (ltb room (length (formOf A t))) FormMemory ∷ []) (formOf A t) f h in

@@ -1,5 +1,4 @@
--- Past rows 1 to 3: what the checking parser's answer says of the text, and what is then left to fill. Assumes nothing.
--- Used by the contracts and the proofs.
+-- Past rows 1 to 3: what the checking parser's answer says of the text, and what is then left to fill.
 use Prim.Native.Nat.{ℕ, _≤_, _<_}
 use mathlib.Core.Path.{_≡_, refl, sym, ap, _∙_}
 use mathlib.Core.Bool.{Bool, true, false}
@@ -9,17 +8,17 @@ use lib.ListN.{length, replicate, length-replicate}
 use lib.Dec.{ltb}
 use borrow.Author.Tests.{lt-ltb, le-ltb}
 use Rattle.refusal.specs.declared.Refusal.{Refusal}
-use Rattle.refusal.specs.declared.Refusal.the-variants as row
+use Rattle.refusal.specs.declared.Refusal.the-variants as refusal
 use Rattle.refusal.specs.Verdict.{refused, check, unless, if-passed, first-refusal}
 use Rattle.refusal.specs.VerdictLaws.{unless-holds, unless-fails, first-refused, first-all}
 use Rattle.refusal.specs.declared.Checked.the-variants as checks
 use Rattle.regex.specs.Tree.{Tree}
-use Rattle.regex.specs.Text.{Reads, found, fault}
+use Rattle.regex.specs.Parsing.{Parsing, found, fault}
 use Rattle.regex.specs.Letters.{letterCount}
 use Rattle.regex.specs.Sense.{sensible}
 use Rattle.regex.specs.Few.{few}
 use Rattle.regex.specs.Exact.{exact, expression-whole}
-use Rattle.regex.specs.Read.{expressionOf}
+use Rattle.regex.specs.Parse.{expressionOf}
 use Rattle.positions.specs.Numbered.{automatonOf}
 use Rattle.automaton.specs.Form.{encode}
 use Rattle.positions.specs.Compiled.{formOf}
@@ -44,27 +43,27 @@ module _ (A s : List ℕ) (room : ℕ) where
   unfolding parsed
   text-refused x e = by (expressionOf A s) e
     where
-      by : (y : Reads Tree) → Refused x ≡ parsedOf A y → read-form A room y ≡ refused x
+      by : (y : Parsing Tree) → Refused x ≡ parsedOf A y → read-form A room y ≡ refused x
       by (found t r) e = let z : _≡_ {A = ℕ} 0 1 = cc in absurd (omega arith)
       by (fault n r) e = let q : n ≡ x = cc in ap refused q
 
   -- too many letters
-  pub text-many : (n : ℕ) → Letters n ≡ parsed A s → 127 < n → read-form A room (expressionOf A s) ≡ refused row.Letters
+  pub text-many : (n : ℕ) → Letters n ≡ parsed A s → 127 < n → read-form A room (expressionOf A s) ≡ refused refusal.Letters
   unfolding parsed
   text-many n e h = by (expressionOf A s) e
     where
-      by : (y : Reads Tree) → Letters n ≡ parsedOf A y → read-form A room y ≡ refused row.Letters
+      by : (y : Parsing Tree) → Letters n ≡ parsedOf A y → read-form A room y ≡ refused refusal.Letters
       by (fault m r) e = let z : _≡_ {A = ℕ} 0 1 = cc in absurd (omega arith)
       by (found t r) e =
           let q : n ≡ few (letterCount A t) = cc in
-          unless-holds (formOf A t) (ltb 127 (letterCount A t)) row.Letters (check (ltb room (length (formOf A t))) row.FormMemory ∷ []) (lt-ltb 127 (letterCount A t) (omega arith))
+          unless-holds (formOf A t) (ltb 127 (letterCount A t)) refusal.Letters (check (ltb room (length (formOf A t))) refusal.FormMemory ∷ []) (lt-ltb 127 (letterCount A t) (omega arith))
 
   -- few enough
   pub text-compilable : (n : ℕ) → Letters n ≡ parsed A s → n ≤ 127 → Compilable A s
   unfolding parsed
   text-compilable n e h = by (expressionOf A s) refl e
     where
-      by : (y : Reads Tree) → expressionOf A s ≡ y → Letters n ≡ parsedOf A y → Compilable A s
+      by : (y : Parsing Tree) → expressionOf A s ≡ y → Letters n ≡ parsedOf A y → Compilable A s
       by (fault m r) g e = let z : _≡_ {A = ℕ} 0 1 = cc in absurd (omega arith)
       by (found t r) g e =
           let q : n ≡ few (letterCount A t) = cc in
@@ -76,10 +75,10 @@ module _ (A s : List ℕ) (room : ℕ) where
   unfolding form-call
   text-form c = by (expressionOf A s) (c .reads) (c .within)
     where
-      by : (y : Reads Tree) → is-found y ≡ true → letterCount A (treeOf y) ≤ 127 → read-form A room y ≡ form-call (length A) (automatonOf A (treeOf y)) room
+      by : (y : Parsing Tree) → is-found y ≡ true → letterCount A (treeOf y) ≤ 127 → read-form A room y ≡ form-call (length A) (automatonOf A (treeOf y)) room
       by (fault m r) e h = let z : _≡_ {A = ℕ} 0 1 = cc in absurd (omega arith)
       by (found t r) e h =
-          unless-fails (formOf A t) (ltb 127 (letterCount A t)) row.Letters (check (ltb room (length (formOf A t))) row.FormMemory ∷ []) (le-ltb 127 (letterCount A t) h)
+          unless-fails (formOf A t) (ltb 127 (letterCount A t)) refusal.Letters (check (ltb room (length (formOf A t))) refusal.FormMemory ∷ []) (le-ltb 127 (letterCount A t) h)
 
   -- rows 1 to 3
   pub call-refused : (n : Refusal) → checks.Refused n ≡ first-refusal (text-checks A s) → compile-call A s room ≡ refused n
@@ -107,7 +106,7 @@ module _ (A s : List ℕ) (c : Compilable A s) where
   tree : (r : List ℕ) × (expressionOf A s ≡ found (treeOfText A s) r)
   tree = by (expressionOf A s) (c .reads) refl
     where
-      by : (y : Reads Tree) → is-found y ≡ true → expressionOf A s ≡ y → (r : List ℕ) × (expressionOf A s ≡ found (treeOfText A s) r)
+      by : (y : Parsing Tree) → is-found y ≡ true → expressionOf A s ≡ y → (r : List ℕ) × (expressionOf A s ≡ found (treeOfText A s) r)
       by (fault n r) e g = let z : _≡_ {A = ℕ} 0 1 = cc in absurd (omega arith)
       by (found t r) e g = (r, g ∙ ap (λ x. found x r) (sym (ap treeOf g)))
 
@@ -123,6 +122,6 @@ module _ (A s : List ℕ) (c : Compilable A s) where
       → form-call (length A) (arrayed (x .letters) (x .nullable) new (x .first) (x .last) follow) room ≡ form-call (length A) (automatonOf A (treeOfText A s)) room
   unfolding form-call
   told-call room {old} {new} {follow} {x} b =
-      ap (λ f. unless (check (ltb room (length f)) row.FormMemory ∷ []) f)
+      ap (λ f. unless (check (ltb room (length f)) refusal.FormMemory ∷ []) f)
       (ap (λ n. encode (length A) (arrayed n (x .nullable) new (x .first) (x .last) follow)) (b .counts ∙ sym letters)
       ∙ told-form (x .nullable) new (x .first) (x .last) follow (length A) (automatonOf A (treeOfText A s)) (b .tells))

@@ -7,7 +7,7 @@ ghost use Prim.Native.Nat.{_≤_};
 ghost use lib.ListN.{length};
 ghost use Rattle.lists.specs.Memory.{old, new};
 ghost use Rattle.refusal.specs.Report.{reported, Fills};
-ghost use Rattle.regex.specs.Read.{expressionOf};
+ghost use Rattle.regex.specs.Parse.{expressionOf};
 ghost use Rattle.positions.specs.Numbered.{automatonOf};
 ghost use Rattle.form_encode.specs.Call.{form-call};
 ghost use Rattle.positions_build.specs.Whole.{treeOfText};
@@ -18,7 +18,9 @@ ghost use Rattle.compile.specs.Compilable.{Compilable};
 // written.
 fn write(alphabet: &[u8], text: &[u8], form: &mut [u32]) -> Counted
     requires { ⌜ (length (now alphabet) ≤ 95) × Compilable (now alphabet) (now text) ⌝ }
-    ensures { λ r. ⌜ Fills (form-call (length (old alphabet)) (automatonOf (old alphabet) (treeOfText (old alphabet) (old text))) (length (old form))) (reported r) (old form) (new form) ⌝ }
+    ensures { λ r. ⌜ Fills
+        (form-call (length (old alphabet)) (automatonOf (old alphabet) (treeOfText (old alphabet) (old text))) (length (old form)))
+        (reported r) (old form) (new form) ⌝ }
 {
     let mut labels = [0u8; 127];
     let mut follow = [[false; 127]; 127];
@@ -40,7 +42,8 @@ fn write(alphabet: &[u8], text: &[u8], form: &mut [u32]) -> Counted
 // Past rows 1 to 3.
 fn compile_text(alphabet: &[u8], text: &[u8], form: &mut [u32]) -> Counted
     requires { ⌜ length (now alphabet) ≤ 95 ⌝ }
-    ensures { λ r. ⌜ Fills (read-form (old alphabet) (length (old form)) (expressionOf (old alphabet) (old text))) (reported r) (old form) (new form) ⌝ }
+    ensures { λ r. ⌜ Fills (read-form (old alphabet) (length (old form)) (expressionOf (old alphabet) (old text))) (reported r) (old form)
+        (new form) ⌝ }
 {
     match regex_parse::expression(alphabet, text) {
         regex_parse::Parsed::Refused(r) => Counted::Refused(r),

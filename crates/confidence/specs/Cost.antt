@@ -1,6 +1,4 @@
 -- The cost of a confidence byte (document 01, "Confidences and the sheet program"), and what the call on a list of them fills.
--- Assumes nothing.
--- Used by the contracts, the proofs, Rule and Turns; in kavurehy.
 use Prim.Native.Nat.{ℕ, zero, suc, _*_, _^_}
 use mathlib.Core.Bool.{Bool, true, false}
 use mathlib.Core.List.{List, [], _∷_, map}

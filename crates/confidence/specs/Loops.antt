@@ -1,5 +1,4 @@
--- What the code's steps compute, over plain numbers and lists. Assumes nothing.
--- Used by the proofs.
+-- What the code's steps compute, over plain numbers and lists.
 use Prim.Native.Nat.{ℕ, zero, suc, _+_, _*_, _-_, _^_, _≤_, _<_}
 use mathlib.Core.Path.{_≡_, refl, sym, ap, ap₂, _∙_}
 use mathlib.Core.List.{List, [], _∷_, map}

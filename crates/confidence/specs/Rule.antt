@@ -1,4 +1,4 @@
--- The cost is what document 01's sentence says: the largest whole n with 2ⁿ × c⁸ ≤ 2⁶⁴. Assumes nothing.
+-- The cost is what document 01's sentence says: the largest whole n with 2ⁿ × c⁸ ≤ 2⁶⁴.
 -- For the reader: nothing uses it.
 use Prim.Native.Nat.{ℕ, zero, suc, _*_, _^_, _≤_, _<_}
 use mathlib.Core.Path.{_≡_, refl, ap, _∙_}

@@ -1,6 +1,5 @@
 -- Collapse (document 01, "Alphabet, labels, paths"): first each run of equal neighbours becomes one, then the blanks go. Label 0 is
--- the blank. Assumes nothing.
--- Used by Spread; in 9 other crates.
+-- the blank.
 use Prim.Native.Nat.{ℕ}
 use mathlib.Core.Bool.{Bool, true, false}
 use mathlib.Core.List.{List, [], _∷_}

@@ -1,6 +1,5 @@
 -- Spread (document 01, "Alphabet, labels, paths"): one blank between each two equal neighbours and nowhere else. It undoes collapse
--- with the fewest labels. Assumes nothing.
--- Used in kavurehy, read and ctc_spread.
+-- with the fewest labels.
 use Prim.Native.Nat.{ℕ, _+_, _≤_}
 use mathlib.Core.Path.{_≡_}
 use mathlib.Core.Bool.{Bool, true, false, cond}

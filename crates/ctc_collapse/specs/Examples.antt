@@ -1,5 +1,4 @@
--- The call Collapse at its limits, and the order of its checks, computed. Assumes nothing.
--- Computed examples: nothing uses them.
+-- The call Collapse at its limits, and the order of its checks, computed.
 use Prim.Native.Nat.{ℕ}
 use mathlib.Core.Path.{_≡_, refl}
 use mathlib.Core.List.{List, [], _∷_}

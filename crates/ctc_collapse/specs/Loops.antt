@@ -1,5 +1,4 @@
--- What one turn of the loop of this crate does, over plain lists. Assumes nothing.
--- Used by the proofs.
+-- What one turn of the loop of this crate does, over plain lists.
 use Prim.Native.Nat.{ℕ, _+_, _<_, _≤_}
 use mathlib.Core.Path.{_≡_, refl, ap, _∙_}
 use mathlib.Core.Bool.{or-true, Bool, true, false, _||_}

@@ -1,5 +1,4 @@
--- Which lists of labels the calls turn away (document 01, "What is turned away", row 17). Assumes nothing.
--- Used by the contracts, Examples and Faults; in ctc_collapse, judge, kavurehy and ctc_spread.
+-- Which lists of labels the calls turn away (document 01, "What is turned away", row 17).
 use Prim.Native.Nat.{ℕ}
 use mathlib.Core.Bool.{Bool, not, _||_}
 use mathlib.Core.List.{List}

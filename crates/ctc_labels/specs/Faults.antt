@@ -1,5 +1,4 @@
--- When a list of labels is turned away by refusal 17, test by test. Assumes nothing.
--- Used by the proofs; in judge and ctc_spread.
+-- When a list of labels is turned away by refusal 17, test by test.
 use Prim.Native.Nat.{ℕ, _<_, _≤_}
 use mathlib.Core.Path.{_≡_}
 use mathlib.Core.Bool.{true, false, not, _||_}

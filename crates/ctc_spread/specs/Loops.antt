@@ -1,5 +1,4 @@
--- What one turn of each loop of this crate does, over plain lists. Assumes nothing.
--- Used by the proofs; in kavurehy.
+-- What one turn of each loop of this crate does, over plain lists.
 use Prim.Native.Nat.{ℕ, _+_, _<_, _≤_}
 use mathlib.Core.Path.{_≡_, refl, sym, ap, _∙_}
 use mathlib.Core.Bool.{Bool, true, false, cond}

@@ -1,6 +1,6 @@
 -- Demands 1 and 3, as theorems on what Decode promises, by the definitions that Read's are stated by too; a word is here what the form
 -- accepts. Past the checks with memory enough means: no refusal but 16 applies, so the form is valid and the checks of the matrix and the
--- memory pass. Assumes nothing.
+-- memory pass.
 -- For the reader: nothing uses it.
 use Prim.Native.Nat.{ℕ}
 use mathlib.Core.Path.{_≡_, refl}

@@ -1,5 +1,4 @@
--- What Decode promises (demand 3, of every valid form): the first check that holds, or the answer past them. Assumes nothing.
--- Used by the contracts, the proofs and Demands; in kavurehy.
+-- What Decode promises (demand 3, of every valid form): the first check that holds, or the answer past them.
 use mathlib.Core.List.{List}
 use Prim.Native.Nat.{ℕ}
 use Rattle.refusal.specs.Verdict.{first-refusal}

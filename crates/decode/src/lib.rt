@@ -14,6 +14,7 @@ ghost use Rattle.lists.specs.Memory.{old, new};
 ghost use Rattle.answers.specs.Decoded.{reported};
 ghost use Rattle.matrix.specs.Matrix.{matrix};
 ghost use Rattle.matrix.specs.View.{value};
+ghost use Rattle.decode_valid.specs.Answers.{lent};
 ghost use Rattle.decode.specs.Promise.{Decodes};
 
 // The work of Decode: the first check that holds, or what is read past them.
@@ -26,7 +27,8 @@ fn decode_parts(
     word: &mut [u8],
     work: &mut [u32],
 ) -> Decoded
-    ensures { λ r. ⌜ Decodes (old form) (matrix (old costs) width count) (record { path = old path; word = old word; work = old work }) (record { path = new path; word = new word; work = new work }) (reported r) ⌝ }
+    ensures { λ r. ⌜ Decodes (old form) (matrix (old costs) width count) (lent (old path) (old word) (old work))
+        (lent (new path) (new word) (new work)) (reported r) ⌝ }
 {
     if !valid(form) {
         return Decoded::Refused(Refusal::BadForm);
@@ -56,7 +58,8 @@ pub fn decode_matrix(
     word: &mut [u8],
     work: &mut [u32],
 ) -> Decoded
-    ensures { λ r. ⌜ Decodes (old form) (value (matrix .entry)) (record { path = old path; word = old word; work = old work }) (record { path = new path; word = new word; work = new work }) (reported r) ⌝ }
+    ensures { λ r. ⌜ Decodes (old form) (value (matrix .entry)) (lent (old path) (old word) (old work))
+        (lent (new path) (new word) (new work)) (reported r) ⌝ }
 {
     decode_parts(
         form,
@@ -79,7 +82,8 @@ pub fn decode(
     word: &mut [u8],
     work: &mut [u32],
 ) -> Decoded
-    ensures { λ r. ⌜ Decodes (old form) (matrix (old costs) width count) (record { path = old path; word = old word; work = old work }) (record { path = new path; word = new word; work = new work }) (reported r) ⌝ }
+    ensures { λ r. ⌜ Decodes (old form) (matrix (old costs) width count) (lent (old path) (old word) (old work))
+        (lent (new path) (new word) (new work)) (reported r) ⌝ }
 {
     decode_matrix(form, matrix_of(costs, width, count), path, word, work)
 }

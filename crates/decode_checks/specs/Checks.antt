@@ -1,6 +1,4 @@
 -- The checks of Decode, in their order (document 01, "What is turned away", rows 11 to 15), and what each means where it does not hold.
--- Assumes nothing.
--- Used by the contracts, the proofs, Examples and Passing; in 7 other crates.
 use Prim.Native.Nat.{ℕ, _+_, _*_}
 use mathlib.Core.Bool.{Bool, not, _||_}
 use mathlib.Core.List.{List, [], _∷_}

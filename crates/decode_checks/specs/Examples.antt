@@ -1,5 +1,4 @@
--- Rows 11 to 15 at their limits, and their order, computed on the form of `ab*`, where L is 2 and K is 2. Assumes nothing.
--- Computed examples: nothing uses them.
+-- Rows 11 to 15 at their limits, and their order, computed on the form of `ab*`, where L is 2 and K is 2.
 use Prim.Native.Nat.{ℕ, _*_}
 use mathlib.Core.Path.{_≡_, refl}
 use mathlib.Core.List.{List, [], _∷_, map}

@@ -1,5 +1,4 @@
--- The checks one by one: which refusal is given, and what is known of an input that passes them all. Assumes nothing.
--- Used by the proofs; in decode, decode_valid, kavurehy, sheet_read, read_text and read_valid.
+-- The checks one by one: which refusal is given, and what is known of an input that passes them all.
 use Prim.Native.Nat.{ℕ, _+_, _*_, _≤_}
 use mathlib.Core.Path.{_≡_}
 use lib.ListN.{length}

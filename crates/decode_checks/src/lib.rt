@@ -50,7 +50,8 @@ pub fn check_matrix(
     work: usize,
 ) -> Checked
     requires { ⌜ (k ≤ 95) × (l ≤ 127) ⌝ }
-    ensures { λ r. ⌜ r ≡ first-refusal (matrix-checks k l (matrix (old costs) width count) (record { path = path; word = word; work = work })) ⌝ }
+    ensures { λ r. ⌜ r ≡ first-refusal
+        (matrix-checks k l (matrix (old costs) width count) (record { path = path; word = word; work = work })) ⌝ }
 {
     if has_fault(k, costs, width, count) {
         return Checked::Refused(Refusal::Matrix);

@@ -1,5 +1,4 @@
--- What Decode and Read answer past their checks (demand 3), for any set of words, and what a refusal by the checks leaves. Assumes nothing.
--- Used by the contracts, the proofs, Demand and Phases; in decode, kavurehy, sheet_read, read_text, read_valid and read.
+-- What Decode and Read answer past their checks (demand 3), for any set of words, and what a refusal by the checks leaves.
 use Prim.Native.Nat.{ℕ}
 use mathlib.Core.Path.{_≡_}
 use mathlib.Core.Option.{Option, some, none}
@@ -23,6 +22,9 @@ pub record Lent : Type 0 where
   pub path : List ℕ
   pub word : List ℕ
   pub work : List ℕ
+
+abbrev pub lent : (path word work : List ℕ) → Lent
+lent path word work = record { path = path; word = word; work = work }
 
 abbrev pub rooms : Lent → Rooms
 rooms m = record { path = length (m .path); word = length (m .word); work = length (m .work) }

@@ -1,6 +1,5 @@
 -- Demands 1 and 3 of Decode and Read past their checks, for any set of words: what document 01 asks, and that `Answers` says this and
--- nothing else. Past the checks with memory enough means: rows 12 to 15 pass. Assumes nothing.
--- Used in decode and read.
+-- nothing else. Past the checks with memory enough means: rows 12 to 15 pass.
 use Prim.Native.Nat.{ℕ, _+_, _<_, _≤_}
 use mathlib.Core.Path.{_≡_, sym, ap, _∙_}
 use mathlib.Core.Logic.{_⊎_, inl, inr, _↔_}

@@ -1,5 +1,4 @@
--- From the two phases, the table of costs to go and the trace through it, to Decode's answer. Assumes nothing.
--- Used by the proofs.
+-- From the two phases, the table of costs to go and the trace through it, to Decode's answer.
 use Prim.Native.Nat.{ℕ, _+_, _*_, _≤_, _<_}
 use mathlib.Core.Path.{_≡_, refl, sym, ap, ap₂, _∙_}
 use mathlib.Core.Option.{some, none}

@@ -8,7 +8,7 @@ ghost use Rattle.automaton.specs.Form.{alphabetOf, lettersOf};
 ghost use Rattle.automaton.specs.Valid.{Valid};
 ghost use Rattle.matrix.specs.Matrix.{matrix};
 ghost use Rattle.decode_checks.specs.Passing.{Fits};
-ghost use Rattle.decode_valid.specs.Answers.{rooms, DecodeAnswers};
+ghost use Rattle.decode_valid.specs.Answers.{lent, rooms, DecodeAnswers};
 
 // Fills the table of costs to go and traces the best path through it; a price of TOP says that there is none.
 pub fn decode_valid(
@@ -20,8 +20,10 @@ pub fn decode_valid(
     word: &mut [u8],
     work: &mut [u32],
 ) -> Decoded
-    requires { ⌜ Valid (now form) × Fits (alphabetOf (now form)) (lettersOf (now form)) (matrix (now costs) width count) (rooms (record { path = now path; word = now word; work = now work })) ⌝ }
-    ensures { λ r. ⌜ DecodeAnswers (old form) (matrix (old costs) width count) (record { path = old path; word = old word; work = old work }) (record { path = new path; word = new word; work = new work }) (reported r) ⌝ }
+    requires { ⌜ Valid (now form) × Fits (alphabetOf (now form)) (lettersOf (now form)) (matrix (now costs) width count)
+        (rooms (lent (now path) (now word) (now work))) ⌝ }
+    ensures { λ r. ⌜ DecodeAnswers (old form) (matrix (old costs) width count) (lent (old path) (old word) (old work))
+        (lent (new path) (new word) (new work)) (reported r) ⌝ }
 {
     let stride = 2 * letters(form) + 1;
     let price = trellis_table::fill(form, costs, width, count, work);

@@ -1,5 +1,4 @@
--- What is handed back of a report and of a judgement, in which order, computed. Assumes nothing.
--- Computed examples: nothing uses them.
+-- What is handed back of a report and of a judgement, in which order, computed.
 use Prim.Native.Nat.{ℕ}
 use mathlib.Core.Path.{_≡_, refl}
 use mathlib.Core.Bool.{true, false}

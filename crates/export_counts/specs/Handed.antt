@@ -1,5 +1,4 @@
--- An answer handed back as a number and a list of counts. Assumes nothing.
--- Used by the contracts, the proofs and Examples; in export_paths and kavurehy.
+-- An answer handed back as a number and a list of counts.
 use Prim.Native.Nat.{ℕ}
 use mathlib.Core.Path.{_≡_}
 use mathlib.Core.Bool.{cond}

@@ -1,6 +1,5 @@
 -- The check of a form as it goes through the list: a word put together again from its fields, the arcs each compared with the last,
--- and the five tests one behind another. Assumes nothing.
--- Used by the proofs.
+-- and the five tests one behind another.
 use Prim.Native.Nat.{ℕ, suc, _+_, _-_, _*_, _/_, _%_, _<_, _≤_}
 use mathlib.Core.Path.{_≡_, refl, sym, ap, ap₂, _∙_}
 use mathlib.Core.Bool.{Bool, true, false, _&&_}

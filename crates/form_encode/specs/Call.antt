@@ -1,6 +1,5 @@
 -- The automaton that arrays stand for, and what writing its form makes of the lent memory (document 01, "Opening and the compiled form",
--- and row 10 of its table). Assumes nothing.
--- Used by the contracts, the proofs, Parts and Whole; in compile.
+-- and row 10 of its table).
 use Prim.Native.Nat.{ℕ}
 use mathlib.Core.List.{List, [], _∷_}
 use lib.ListN.{length}

@@ -1,5 +1,4 @@
--- The form of an automaton that is given by arrays, part by part as it is counted and written. Assumes nothing.
--- Used by the contracts, the proofs and Whole; in positions_build and compile.
+-- The form of an automaton that is given by arrays, part by part as it is counted and written.
 use Prim.Native.Nat.{ℕ, _-_}
 use mathlib.Core.Bool.{Bool}
 use mathlib.Core.List.{List, map}

@@ -1,6 +1,4 @@
 -- The whole form, written in three parts: the head, the letters from place 1 on, and the arcs behind them. And how long it is.
--- Assumes nothing.
--- Used by the proofs.
 use Prim.Native.Nat.{ℕ, _+_, _≤_}
 use mathlib.Core.Path.{_≡_, ap, subst, _∙_}
 use mathlib.Core.Bool.{Bool}

@@ -82,7 +82,8 @@ pub fn write_form(
     form: &mut [u32],
 ) -> Counted
     requires { ⌜ Sized k letters (now labels) (now first) (now last) (now follow) ⌝ }
-    ensures { λ r. ⌜ Fills (form-call k (arrayed letters empty (old labels) (old first) (old last) (old follow)) (length (old form))) (reported r) (old form) (new form) ⌝ }
+    ensures { λ r. ⌜ Fills (form-call k (arrayed letters empty (old labels) (old first) (old last) (old follow)) (length (old form)))
+        (reported r) (old form) (new form) ⌝ }
 {
     if form.len() < 1 + letters + count_arcs(letters, follow) {
         return Counted::Refused(Refusal::FormMemory);

@@ -1,5 +1,4 @@
--- What is still to be counted or written at one of the letters, and what its turn takes from that. Assumes nothing.
--- Used by the proofs; in positions_letters.
+-- What is still to be counted or written at one of the letters, and what its turn takes from that.
 use Prim.Native.Nat.{ℕ, _+_, _-_, _<_, _≤_}
 use mathlib.Core.Path.{_≡_, sym, ap, _∙_}
 use mathlib.Core.Bool.{Bool}

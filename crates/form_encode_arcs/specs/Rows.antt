@@ -1,5 +1,4 @@
--- A set of letters as a row of bools, the follow relation as a list of such rows, and the words of its arcs, row by row. Assumes nothing.
--- Used by the contracts, the proofs and Turns; in positions_build and form_encode.
+-- A set of letters as a row of bools, the follow relation as a list of such rows, and the words of its arcs, row by row.
 use Prim.Native.Nat.{ℕ, _-_}
 use mathlib.Core.Bool.{Bool}
 use mathlib.Core.List.{List, [], map, flatMap}

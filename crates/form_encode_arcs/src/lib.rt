@@ -62,7 +62,8 @@ fn put_arc(form: &mut [u32], n: usize, source: usize, target: usize, there: bool
 
 // Writes the arcs of one letter from place n on; the next place.
 fn write_row(letters: usize, row: &[bool], source: usize, form: &mut [u32], n: usize) -> usize
-    requires { ⌜ (source ≤ 127) × (letters ≤ 127) × (letters ≤ length (now row)) × (n + length (rowBy letters (now row) source) ≤ length (now form)) ⌝ }
+    requires { ⌜ (source ≤ 127) × (letters ≤ 127) × (letters ≤ length (now row)) ×
+        (n + length (rowBy letters (now row) source) ≤ length (now form)) ⌝ }
     ensures { λ r. ⌜ Stored (rowBy letters (old row) source) n (old form) (new form) r ⌝ }
 {
     let mut m = n;

@@ -17,7 +17,7 @@ use Rattle.automaton.specs.AcceptedLaws.{accepts-decides, spells-letter, letter
 use Rattle.automaton.specs.Form.{lettersOf, labelOf, followOf, view}
 use Rattle.automaton.specs.Valid.{Valid}
 use Rattle.automaton.specs.ValidLaws.{follow-arc, arc-follow, first-letter, follow-source}
-use Rattle.form_starts.specs.Starts.{Begins}
+use Rattle.form_starts.specs.Starts.{StartsAt}
 use Rattle.form_starts.specs.Loops.{range-source, source-range}
 use Rattle.form_sets.specs.Sets.{Enters, Advanced, EndsIn, noLetter, Labelled, Begun, Reached}
 
@@ -90,7 +90,7 @@ module _ (f : List ℕ) (x : ℕ) where
       m
 
   pub all-reached :
-      (s t : List Bool) (i b e : ℕ) → 1 ≤ i → Begins f i b → Begins f (i + 1) e → Marks (Turns (Reached f x) b e) s t → Marks (Enters (view f) x i) s t
+      (s t : List Bool) (i b e : ℕ) → 1 ≤ i → StartsAt f i b → StartsAt f (i + 1) e → Marks (Turns (Reached f x) b e) s t → Marks (Enters (view f) x i) s t
   all-reached s t i b e l first next m =
       marks-same (Turns (Reached f x) b e) (Enters (view f) x i) s t
       (λ k (n, low, high, q).

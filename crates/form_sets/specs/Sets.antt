@@ -1,6 +1,4 @@
 -- Sets of letters, 0 for 'no letter yet': what it means to take a set on by one label, and how this decides which words are accepted.
--- Assumes nothing.
--- Used by the contracts and the proofs; in judge.
 use Prim.Native.Nat.{ℕ}
 use mathlib.Core.Path.{_≡_}
 use mathlib.Core.Bool.{Bool, true, false}

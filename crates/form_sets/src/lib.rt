@@ -13,7 +13,7 @@ ghost use Rattle.lists.specs.Memory.{old, new};
 ghost use Rattle.lists.specs.Marks.{Marks, Turns};
 ghost use Rattle.automaton.specs.Form.{lettersOf, view};
 ghost use Rattle.automaton.specs.Valid.{Valid};
-ghost use Rattle.form_starts.specs.Starts.{Begins, ArcStarts};
+ghost use Rattle.form_starts.specs.Starts.{StartsAt, ArcStarts};
 ghost use Rattle.form_sets.specs.Sets.{Labelled, Begun, Reached, Enters, Advanced, EndsIn, noLetter};
 
 // Marks letter j if its label is x.
@@ -63,7 +63,7 @@ fn mark_targets(form: &[u32], x: usize, b: usize, e: usize, set: &mut [bool; 128
 
 // Marks the letters of label x that may stand behind i, whose arcs stand from b up to e.
 fn mark_behind(form: &[u32], x: usize, i: usize, b: usize, e: usize, set: &mut [bool; 128])
-    requires { ⌜ Valid (now form) × (length (now set) ≡ 128) × Begins (now form) i b × Begins (now form) (i + 1) e ⌝ }
+    requires { ⌜ Valid (now form) × (length (now set) ≡ 128) × StartsAt (now form) i b × StartsAt (now form) (i + 1) e ⌝ }
     ensures { λ _. ⌜ Marks (Enters (view (old form)) x i) (old set) (new set) ⌝ }
 {
     if i == 0 {
@@ -74,8 +74,8 @@ fn mark_behind(form: &[u32], x: usize, i: usize, b: usize, e: usize, set: &mut [
 }
 
 // The letters of label x that may stand behind one of the set.
-pub fn advance(form: &[u32], begins: &[usize], set: [bool; 128], x: usize) -> [bool; 128]
-    requires { ⌜ Valid (now form) × ArcStarts (now form) (now begins) ⌝ }
+pub fn advance(form: &[u32], starts: &[usize], set: [bool; 128], x: usize) -> [bool; 128]
+    requires { ⌜ Valid (now form) × ArcStarts (now form) (now starts) ⌝ }
     ensures { λ r. ⌜ Advanced (view (old form)) x set r ⌝ }
 {
     let l = letters(form);
@@ -83,7 +83,7 @@ pub fn advance(form: &[u32], begins: &[usize], set: [bool; 128], x: usize) -> [b
     let mut i = 0;
     while i <= l {
         if set[i] {
-            mark_behind(form, x, i, begins[i], begins[i + 1], &mut next);
+            mark_behind(form, x, i, starts[i], starts[i + 1], &mut next);
         }
         i += 1;
     }

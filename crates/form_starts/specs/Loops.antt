@@ -10,7 +10,7 @@ use Rattle.lists.specs.OrderLaws.{lt-or-le, eq-or-ne}
 use Rattle.automaton.specs.Form.{lettersOf, source}
 use Rattle.automaton.specs.Words.{Arc}
 use Rattle.automaton.specs.Valid.{Valid}
-use Rattle.form_starts.specs.Starts.{Skipped, Begins}
+use Rattle.form_starts.specs.Starts.{Skipped, StartsAt}
 
 -- one more source below i
 pub below-more :
@@ -23,7 +23,7 @@ below-more f n i m old new k l h = by (eq-or-ne k m)
     by (inr d) = old k l (omega arith)
 
 -- the arcs of letter i stand where its own begin, up to where the next letter's begin
-module _ (f : List ℕ) (i b e : ℕ) (first : Begins f i b) (next : Begins f (i + 1) e) where
+module _ (f : List ℕ) (i b e : ℕ) (first : StartsAt f i b) (next : StartsAt f (i + 1) e) where
   pub range-source : (n : ℕ) → b ≤ n → n < e → source (getD f n 0) ≡ i
   range-source n l h =
       let p = first .past in
@@ -64,8 +64,8 @@ abbrev pub Passed : List ℕ → ℕ → ℕ → Type 0
 Passed f i n = (lettersOf f < n) × (n ≤ length f) × ((m : ℕ) → lettersOf f < m → m < n → source (getD f m 0) < i)
 
 module _ (f : List ℕ) (valid : Valid f) (i : ℕ) where
-  pub skipped-begins : (n r : ℕ) → Passed f i n → Skipped f n i r → Begins f i r
-  skipped-begins n r p s =
+  pub skipped-starts : (n r : ℕ) → Passed f i n → Skipped f n i r → StartsAt f i r
+  skipped-starts n r p s =
       let p0 = p .0 in
       let s0 = s .from in
       let inside = s .inside in
@@ -90,15 +90,15 @@ module _ (f : List ℕ) (valid : Valid f) (i : ℕ) where
           (valid .arc r (omega arith) (omega arith)) (valid .arc m (omega arith) h) (valid .ascends r m (omega arith) (omega arith) h) in
           omega arith
 
-  pub begins-passed : (r : ℕ) → Begins f i r → Passed f (i + 1) r
-  begins-passed r b = (b .past, b .inside, λ m l h. let q = b .below m l h in omega arith)
+  pub starts-passed : (r : ℕ) → StartsAt f i r → Passed f (i + 1) r
+  starts-passed r b = (b .past, b .inside, λ m l h. let q = b .below m l h in omega arith)
 
 -- one more start noted
-pub begins-more :
-    (f s : List ℕ) (i b : ℕ) → length s ≡ 129 → i < 129 → ((j : ℕ) → j < i → Begins f j (getD s j 0)) → Begins f i b
-    → (j : ℕ) → j < i + 1 → Begins f j (getD (set s i b) j 0)
-begins-more f s i b size l old new j h = by (eq-or-ne j i)
+pub starts-more :
+    (f s : List ℕ) (i b : ℕ) → length s ≡ 129 → i < 129 → ((j : ℕ) → j < i → StartsAt f j (getD s j 0)) → StartsAt f i b
+    → (j : ℕ) → j < i + 1 → StartsAt f j (getD (set s i b) j 0)
+starts-more f s i b size l old new j h = by (eq-or-ne j i)
   where
-    by : (j ≡ i) ⊎ (j ≡ i → ⊥) → Begins f j (getD (set s i b) j 0)
-    by (inl e) = subst (λ k. Begins f k (getD (set s i b) k 0)) (sym e) (subst (Begins f i) (sym (getD-set-same s i b 0 (omega arith))) new)
-    by (inr d) = subst (Begins f j) (sym (getD-set-other s i j b 0 d)) (old j (omega arith))
+    by : (j ≡ i) ⊎ (j ≡ i → ⊥) → StartsAt f j (getD (set s i b) j 0)
+    by (inl e) = subst (λ k. StartsAt f k (getD (set s i b) k 0)) (sym e) (subst (StartsAt f i) (sym (getD-set-same s i b 0 (omega arith))) new)
+    by (inr d) = subst (StartsAt f j) (sym (getD-set-other s i j b 0 d)) (old j (omega arith))

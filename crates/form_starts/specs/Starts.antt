@@ -1,6 +1,5 @@
 -- Where each letter's arcs begin: the arcs stand in the order of their sources, so one index tells those below a letter from the
--- others. Assumes nothing.
--- Used by the contracts and the proofs; in trellis_column, form_sets, trellis_offers, trellis_row and trellis_steps.
+-- others.
 use Prim.Native.Nat.{ℕ, _<_, _≤_}
 use mathlib.Core.Path.{_≡_}
 use mathlib.Core.List.{List}
@@ -15,7 +14,7 @@ pub record Skipped (f : List ℕ) (n i r : ℕ) : Type 0 where
   pub stops : r < length f → i ≤ source (getD f r 0)
 
 -- the arcs in front of b have sources below i, the others have not
-pub record Begins (f : List ℕ) (i b : ℕ) : Type 0 where
+pub record StartsAt (f : List ℕ) (i b : ℕ) : Type 0 where
   pub past : lettersOf f < b
   pub inside : b ≤ length f
   pub below : (n : ℕ) → lettersOf f < n → n < b → source (getD f n 0) < i
@@ -24,4 +23,4 @@ pub record Begins (f : List ℕ) (i b : ℕ) : Type 0 where
 -- for each letter, and for 128 behind the last
 pub record ArcStarts (f s : List ℕ) : Type 0 where
   pub size : length s ≡ 129
-  pub begins : (i : ℕ) → i < 129 → Begins f i (getD s i 0)
+  pub starts : (i : ℕ) → i < 129 → StartsAt f i (getD s i 0)

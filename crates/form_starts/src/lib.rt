@@ -23,7 +23,7 @@ fn skip_below(form: &[u32], n: usize, i: usize) -> usize
 }
 
 // Where each letter's arcs begin.
-pub fn starts(form: &[u32]) -> [usize; 129]
+pub fn arc_starts(form: &[u32]) -> [usize; 129]
     requires { ⌜ Valid (now form) ⌝ }
     ensures { λ r. ⌜ ArcStarts (old form) r ⌝ }
 {

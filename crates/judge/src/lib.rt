@@ -4,7 +4,7 @@ use form_check::valid;
 use form_sets::advance;
 use form_sets::no_letter;
 use form_sets::some_may_end;
-use form_starts::starts;
+use form_starts::arc_starts;
 use form_words::alphabet;
 use numbers::wide;
 use refusal::Refusal;
@@ -21,11 +21,11 @@ fn accepts(form: &[u32], word: &[u8]) -> bool
     requires { ⌜ validForm (now form) ≡ true ⌝ }
     ensures { λ r. ⌜ r ≡ acceptsOf (view (old form)) (old word) ⌝ }
 {
-    let begins = starts(form);
+    let starts = arc_starts(form);
     let mut set = no_letter();
     let mut n = 0;
     while n < word.len() {
-        let next = advance(form, &begins, set, wide(word[n]));
+        let next = advance(form, &starts, set, wide(word[n]));
         set = next;
         n += 1;
     }

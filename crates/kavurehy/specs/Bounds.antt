@@ -1,5 +1,4 @@
--- The lengths that the calls report fit 32 bits. Assumes nothing.
--- Used by the proofs.
+-- The lengths that the calls report fit 32 bits.
 use Prim.Native.Nat.{ℕ, _*_, _^_, _<_, _≤_}
 use mathlib.Core.Path.{_≡_, refl, ap}
 use mathlib.Core.Bool.{Bool, true, false, not, _||_}

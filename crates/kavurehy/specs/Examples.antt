@@ -1,6 +1,4 @@
 -- What the exported calls hand back, and what is in lent memory then: a list filled, a refusal, and `ab*` through Judge, Decode and Read.
--- Assumes nothing.
--- Computed examples: nothing uses them.
 use Prim.Native.Nat.{ℕ}
 use mathlib.Core.Path.{_≡_, refl, ap, _∙_}
 use mathlib.Core.Option.{some}

@@ -1,6 +1,5 @@
 -- What the exported calls promise: what the call inside promises of its answer and of each lent list, the answer handed back as a number
--- and a list of counts. Assumes nothing.
--- Used by the contracts, the proofs and Examples.
+-- and a list of counts.
 use Prim.Native.Nat.{ℕ}
 use mathlib.Core.Path.{_≡_}
 use mathlib.Core.List.{List}

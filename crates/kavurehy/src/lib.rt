@@ -12,6 +12,7 @@ ghost use Rattle.ctc_spread.specs.Calls.{spread-call};
 ghost use Rattle.confidence.specs.Cost.{costs-call};
 ghost use Rattle.matrix.specs.Matrix.{matrix};
 ghost use Rattle.compile.specs.Call.{compile-call};
+ghost use Rattle.decode_valid.specs.Answers.{lent};
 ghost use Rattle.kavurehy.specs.Handed.{FillsCounted, FillsPlain, Judges, DecodesCounted, ReadsCounted};
 
 // The form of an expression over an alphabet; its length in `counts`.
@@ -73,7 +74,8 @@ pub extern "C" fn kavurehy_decode(
     work: &mut [u32],
     counts: &mut [u32; 2],
 ) -> u32
-    ensures { λ r. ⌜ DecodesCounted (old form) (matrix (old costs) width columns) (record { path = old path; word = old word; work = old work }) (record { path = new path; word = new word; work = new work }) (new counts) r ⌝ }
+    ensures { λ r. ⌜ DecodesCounted (old form) (matrix (old costs) width columns) (lent (old path) (old word) (old work))
+        (lent (new path) (new word) (new work)) (new counts) r ⌝ }
 {
     hand_decoded(
         decode::decode(form, costs, width, columns, path, word, work),
@@ -96,7 +98,8 @@ pub extern "C" fn kavurehy_read(
     work: &mut [u32],
     counts: &mut [u32; 3],
 ) -> u32
-    ensures { λ r. ⌜ ReadsCounted (old alphabet) (old text) (matrix (old costs) width columns) (old form) (new form) (record { path = old path; word = old word; work = old work }) (record { path = new path; word = new word; work = new work }) (new counts) r ⌝ }
+    ensures { λ r. ⌜ ReadsCounted (old alphabet) (old text) (matrix (old costs) width columns) (old form) (new form)
+        (lent (old path) (old word) (old work)) (lent (new path) (new word) (new work)) (new counts) r ⌝ }
 {
     hand_reading(
         read::read(

@@ -1,6 +1,4 @@
 -- Which elements a list has: as a fact, as a test, and after a map, a choice or a joining.
--- Assumes nothing.
--- Used by Ascending, Examples and Remaining; in 13 other crates.
 use Prim.Native.Nat.{ℕ, zero, suc, _+_, _*_, _<_, _≤_}
 use mathlib.Core.Path.{_≡_, refl, sym, ap, ap₂, subst, _∙_}
 use mathlib.Core.Bool.{Bool, true, false, cond, _||_}

@@ -1,6 +1,4 @@
 -- Lists of numbers in ascending order: the numbers from one on, what keeps the order, and that a list is known by its elements.
--- Assumes nothing.
--- Used by Examples and Remaining; in 14 other crates.
 use Prim.Native.Nat.{ℕ, zero, suc, _+_, _-_, _<_, _≤_}
 use mathlib.Core.Path.{_≡_, refl, sym, ap, ap₂, _∙_}
 use mathlib.Core.Bool.{Bool, true, false}

@@ -1,6 +1,4 @@
 -- What holds of each element of a list, as a test that computes and as a fact, and what an index loop over the list says of it.
--- Assumes nothing.
--- Used by Among, Ascending and Examples; in 37 other crates.
 use Prim.Native.Nat.{ℕ, zero, suc, _+_, _<_, _≤_}
 use mathlib.Core.Path.{_≡_, refl, sym, ap, _∙_}
 use mathlib.Core.Bool.{Bool, true, false, _&&_}

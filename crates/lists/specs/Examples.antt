@@ -1,5 +1,4 @@
--- The words on lists that promises use, on small lists. Assumes nothing.
--- Computed examples: nothing uses them.
+-- The words on lists that promises use, on small lists.
 use Prim.Native.Nat.{ℕ}
 use mathlib.Core.Path.{_≡_, refl}
 use mathlib.Core.Bool.{true, false}

@@ -1,6 +1,4 @@
 -- The least of all that is offered, and of a top that stands for 'nothing below is offered'; how a loop over an index finds it.
--- Assumes nothing.
--- Used in trellis_column, trellis_offers, trellis_row and trellis.
 use Prim.Native.Nat.{ℕ, _+_, _<_, _≤_, min}
 use mathlib.Core.Path.{_≡_, refl, subst}
 use mathlib.Core.Logic.{_⊎_, inl, inr, ⊎-elim}

@@ -1,5 +1,4 @@
--- Two numbers compared, and two truth values: the case distinctions that proofs make. Assumes nothing.
--- Used by 6 files of specs/; in 33 other crates.
+-- Two numbers compared, and two truth values: the case distinctions that proofs make.
 use Prim.Native.Nat.{ℕ, _<_, _≤_}
 use mathlib.Core.Path.{_≡_, refl, sym}
 use mathlib.Core.Bool.{Bool, true, false, _&&_, _||_, or-true}

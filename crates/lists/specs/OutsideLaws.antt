@@ -1,6 +1,4 @@
 -- Lent memory of which a part was written, from one place up to another: what lies outside the part is as before.
--- Assumes nothing.
--- Used in trellis_row and trellis_table.
 use Prim.Native.Nat.{ℕ, _+_, _-_, _<_, _≤_}
 use mathlib.Core.Path.{_≡_, refl, sym, ap, _∙_}
 use mathlib.Core.List.{List}

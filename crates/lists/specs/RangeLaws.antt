@@ -1,5 +1,4 @@
--- A number from one to another. Assumes nothing.
--- Used by Examples; in 8 other crates.
+-- A number from one to another.
 use Prim.Native.Nat.{ℕ, _<_, _≤_}
 use mathlib.Core.Path.{_≡_}
 use mathlib.Core.Bool.{true, false, and-false}

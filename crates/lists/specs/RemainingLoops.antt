@@ -1,5 +1,4 @@
--- The numbers from j to l: what a loop over them still has before it, and what the turn at j takes from that. Assumes nothing.
--- Used in form_encode_arcs and form_encode.
+-- The numbers from j to l: what a loop over them still has before it, and what the turn at j takes from that.
 use Prim.Native.Nat.{ℕ, _+_, _-_, _<_, _≤_}
 use mathlib.Core.Path.{_≡_, refl, ap}
 use mathlib.Core.Bool.{Bool, true, false, cond}

@@ -1,5 +1,4 @@
--- A loop that goes through a list by its index and sets the element there, or leaves it. Assumes nothing.
--- Used in positions_follow.
+-- A loop that goes through a list by its index and sets the element there, or leaves it.
 use Prim.Native.Nat.{ℕ, _+_, _<_, _≤_}
 use mathlib.Core.Path.{_≡_, refl, sym, subst, _∙_}
 use mathlib.Core.List.{List}

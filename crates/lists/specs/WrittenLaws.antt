@@ -1,6 +1,4 @@
 -- Lent memory of which a beginning was written: what every promise says of a lent list, and the loop that writes it from the front.
--- Assumes nothing.
--- Used by Examples; in 25 other crates.
 use Prim.Native.Nat.{ℕ, suc, _+_, _-_, _<_, _≤_}
 use mathlib.Core.Path.{_≡_, refl, sym, ap, _∙_}
 use mathlib.Core.List.{List, [], _∷_, _++_, append-assoc}

@@ -1,6 +1,4 @@
 -- The matrix of costs as one thing, and the price of a path through it (document 01, "Extended states and decoding").
--- Assumes nothing.
--- Used by 5 files of specs/; in 14 other crates.
 use Prim.Native.Nat.{ℕ, _+_, _*_, _≤_, _<_}
 use mathlib.Core.Path.{_≡_}
 use mathlib.Core.List.{List, [], _∷_}

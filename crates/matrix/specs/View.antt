@@ -1,5 +1,4 @@
--- The matrix that a view lends: its costs, its column width and its column count. Assumes nothing.
--- Used by the contracts and the proofs; in read.
+-- The matrix that a view lends: its costs, its column width and its column count.
 use mathlib.Core.Path.{_≡_, refl}
 use denote.Ref.{now}
 use Rattle.matrix.specs.Matrix.{Matrix, matrix}

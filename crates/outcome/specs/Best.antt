@@ -1,5 +1,4 @@
--- The best of all that qualify: none costs less, and of those that cost the same it comes first. Assumes nothing.
--- Used by Choice and Reading; in trellis.
+-- The best of all that qualify: none costs less, and of those that cost the same it comes first.
 use Prim.Native.Nat.{ℕ, _≤_}
 use mathlib.Core.Path.{_≡_}
 

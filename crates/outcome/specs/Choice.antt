@@ -1,5 +1,4 @@
--- Of two outcomes the better one, and that it is the outcome of both sets together. Assumes nothing.
--- Used by Exhaustive; in kavurehy and read.
+-- Of two outcomes the better one, and that it is the outcome of both sets together.
 use Prim.Native.Nat.{ℕ, _≤_}
 use mathlib.Core.Path.{_≡_, refl, sym}
 use mathlib.Core.Bool.{Bool, true, false, _&&_, _||_}

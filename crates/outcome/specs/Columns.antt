@@ -1,4 +1,4 @@
--- One column's costs raised by the same amount throughout: the same path is best, and costs that much more. Assumes nothing.
+-- One column's costs raised by the same amount throughout: the same path is best, and costs that much more.
 -- For the reader: nothing uses it.
 use Prim.Native.Nat.{ℕ, _+_, _≤_, _<_}
 use mathlib.Core.Path.{_≡_, refl, sym, _∙_}

@@ -1,5 +1,4 @@
--- Costs, prices, paths and their order on document 01's first line to try, and the dearest cost that may be used. Assumes nothing.
--- Examples: nothing uses them.
+-- Costs, prices, paths and their order on document 01's first line to try, and the dearest cost that may be used.
 use mathlib.Core.Path.{_≡_, refl}
 use mathlib.Core.List.{[], _∷_}
 use mathlib.Core.Logic.{inl, inr}

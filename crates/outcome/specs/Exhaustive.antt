@@ -1,6 +1,4 @@
 -- The outcome of a small matrix by trying every list of labels. Where a test decides the words, this decides the reading.
--- Assumes nothing.
--- Used in kavurehy and read.
 use Prim.Native.Nat.{ℕ, zero, suc, _+_, _<_}
 use mathlib.Core.Path.{_≡_, refl, sym, ap, _∙_}
 use mathlib.Core.Bool.{Bool, true, false, _&&_}

@@ -1,5 +1,4 @@
--- The order of paths: by labels, from the first column. Assumes nothing.
--- Used by Choice, Examples and Reading; in decode_valid and trellis.
+-- The order of paths: by labels, from the first column.
 use Prim.Native.Nat.{ℕ, _<_}
 use mathlib.Core.Path.{_≡_}
 use mathlib.Core.List.{List, [], _∷_}

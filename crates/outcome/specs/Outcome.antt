@@ -1,6 +1,4 @@
 -- What is asked of a reading (demand 3), for any set of words: the best of all rivals, or none where there is no rival.
--- Assumes nothing.
--- Used by Choice, Columns and Exhaustive; in 7 other crates.
 use Prim.Native.Nat.{ℕ}
 use mathlib.Core.Option.{Option, some, none}
 use mathlib.Core.List.{List}

@@ -1,6 +1,5 @@
 -- The numbered letters part by part, as equations: for each shape, for a set of labels as a whole, and for a repetition copy by copy;
--- and what a repetition keeps. Assumes nothing.
--- Used by Exact, FirstLast and Marked; in positions_build and positions_letters.
+-- and what a repetition keeps.
 use Prim.Native.Nat.{ℕ, zero, suc, _+_, _-_, _≤_, _<_}
 use mathlib.Core.Path.{_≡_, refl, sym}
 use mathlib.Core.Logic.{_⊎_, inl, inr}

@@ -1,5 +1,4 @@
--- The automaton of a tree is proper, and accepts exactly the tree's words. Assumes nothing.
--- Used by Compiled, FirstLast and Marked.
+-- The automaton of a tree is proper, and accepts exactly the tree's words.
 use Prim.Native.Nat.{ℕ, zero, suc, _+_, _-_, _≤_, _<_}
 use mathlib.Core.Path.{_≡_, ap, subst, _∙_}
 use mathlib.Core.Logic.{_⊎_, inl, inr, _↔_, ⊎-elim, Iff·trans, Iff·symm}

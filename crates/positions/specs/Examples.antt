@@ -1,5 +1,4 @@
--- Some expressions with their letters, computed. Assumes nothing.
--- Computed examples: nothing uses them.
+-- Some expressions with their letters, computed.
 use Prim.Native.Nat.{ℕ}
 use Prim.Native.Char.{code}
 use mathlib.Core.Path.{_≡_, refl}

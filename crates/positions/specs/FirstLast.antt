@@ -1,5 +1,5 @@
 -- A letter may be first, or last, exactly if some word so begins, or ends, there (document 01, "Opening and the compiled form"), a word
--- being written by the numbers of its letters, and each set having a label. Assumes nothing.
+-- being written by the numbers of its letters, and each set having a label.
 -- For the reader: nothing uses it.
 use Prim.Native.Nat.{ℕ, zero, suc, _+_, _≤_}
 use mathlib.Core.Path.{_≡_, refl, sym, ap}

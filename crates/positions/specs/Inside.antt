@@ -1,6 +1,5 @@
 -- Where the letters of an opened expression lie, and so what a joining and an alternation do at a letter of each part: the letters of
--- the two parts are numbered apart. Assumes nothing.
--- Used by Exact, FirstLast and Walks.
+-- the two parts are numbered apart.
 use Prim.Native.Nat.{ℕ, zero, suc, _+_, _≤_, _<_}
 use mathlib.Core.Path.{_≡_, refl, sym, _∙_}
 use mathlib.Core.Logic.{⊎-elim}

@@ -1,5 +1,4 @@
--- A tree opens into as many letters as it counts (document 01, "Opening and the compiled form"). Assumes nothing.
--- Used by Compiled, Exact and FirstLast; in positions_build and positions_letters.
+-- A tree opens into as many letters as it counts (document 01, "Opening and the compiled form").
 use Prim.Native.Nat.{ℕ, zero, suc, _+_, _-_, _*_}
 use mathlib.Core.Path.{_≡_, refl, sym, ap, _∙_}
 use mathlib.Core.Bool.{cond}

@@ -1,5 +1,4 @@
--- An opened expression's words written by the numbers of their letters: they are the walks through its positions. Assumes nothing.
--- Used by FirstLast.
+-- An opened expression's words written by the numbers of their letters: they are the walks through its positions.
 use Prim.Native.Nat.{ℕ, _+_, _-_, _≤_, _<_}
 use mathlib.Core.Path.{_≡_, refl, sym, ap, ap₂, subst, _∙_}
 use mathlib.Core.Logic.{_⊎_, inl, inr}

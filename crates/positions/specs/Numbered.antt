@@ -1,6 +1,5 @@
 -- The letters of an opened expression numbered from left to right: which may be first, which last, and which arcs lead from letter to
--- letter; and the automaton that they make (document 01, "Opening and the compiled form"). Assumes nothing.
--- Used by 8 files of specs/; in positions_build, compile, sheet_answer, positions_letters and read.
+-- letter; and the automaton that they make (document 01, "Opening and the compiled form").
 use Prim.Native.Nat.{ℕ, zero, suc, _+_, _-_}
 use mathlib.Core.Bool.{Bool, true, false, _&&_, _||_}
 use mathlib.Core.List.{List}

@@ -1,6 +1,4 @@
 -- An opened expression, its set of words, and how the tree of an expression opens (document 01, "Opening and the compiled form").
--- Assumes nothing.
--- Used by 8 files of specs/; in positions_build, compile, sheet_answer, positions_letters and read.
 use Prim.Native.Nat.{ℕ, zero, suc, _-_}
 use mathlib.Core.List.{List, [], _∷_, _++_}
 use lib.ListN.{length, getD}

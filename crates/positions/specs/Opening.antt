@@ -1,5 +1,4 @@
--- Opening keeps the set of words. Assumes nothing.
--- Used by Exact.
+-- Opening keeps the set of words.
 use Prim.Native.Nat.{ℕ, zero, suc, _+_, _-_, _≤_}
 use mathlib.Core.Path.{_≡_, refl, ap}
 use mathlib.Core.Logic.{inl, inr, _↔_}

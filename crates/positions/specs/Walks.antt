@@ -1,6 +1,5 @@
 -- The words of a joining, an alternation, an optional and a repeated part, by the words of the parts: a walk is cut where it passes
--- from one part to the next. Assumes nothing.
--- Used by Exact and Marked.
+-- from one part to the next.
 use Prim.Native.Nat.{ℕ, zero, suc, _≤_, _<_}
 use mathlib.Core.Path.{_≡_, refl, sym, ap, _∙_}
 use mathlib.Core.Logic.{_⊎_, inl, inr, _↔_, ⊎-map, ⊎-elim}

@@ -1,6 +1,4 @@
 -- What each call in `alternation` and `branch` needs and what each return says, from the parts that were built before it.
--- Assumes nothing.
--- Used by the proofs.
 use mathlib.Core.Path.{_≡_, refl, ap, _∙_}
 use mathlib.Core.Logic.{_⊎_, inl, inr}
 use mathlib.Core.List.{List}
@@ -11,10 +9,10 @@ use native.Mathlib.Omega.{arith}
 use lib.ListN.{length, getD, drop}
 use Rattle.lists.specs.OrderLaws.{eq-or-ne, true-or-false}
 use Rattle.regex.specs.Tree.{Tree, join, either}
-use Rattle.regex.specs.Text.{Reads}
+use Rattle.regex.specs.Parsing.{Parsing}
 use Rattle.regex.specs.Letters.{copiesOf}
 use Rattle.regex.specs.Sense.{copies-some}
-use Rattle.regex.specs.Read.{m-alternation, m-branch, m-piece, m-group, ends, read}
+use Rattle.regex.specs.Parse.{m-alternation, m-branch, m-piece, m-group, ends, parse}
 use Rattle.positions.specs.Opened.{opened, repeated, labels}
 use Rattle.positions.specs.Equations.{letters-joining, letters-alternation}
 use Rattle.text.specs.Text.{place}
@@ -30,46 +28,46 @@ use Rattle.positions_build.specs.Pieces.{piece-counted}
 
 module _ (A text : List ℕ) where
   -- how many letters a part has that was read
-  abbrev many : Reads Tree → ℕ
+  abbrev many : Parsing Tree → ℕ
   many x = length (labels (opened A (treeOf x)))
 
   -- a part that was read, as it was built
-  abbrev BuildsRead : ℕ → Reads Tree → List (List Bool) → List (List Bool) → List ℕ → List ℕ → Built → Type 0
-  BuildsRead n x f g old new a = Builds n (opened A (treeOf x)) (place text (restOf x)) f g old new a
+  abbrev BuildsParsed : ℕ → Parsing Tree → List (List Bool) → List (List Bool) → List ℕ → List ℕ → Built → Type 0
+  BuildsParsed n x f g old new a = Builds n (opened A (treeOf x)) (place text (restOf x)) f g old new a
 
-  either-letters : (x y z : Reads Tree) → Two either x y z → many z ≡ many x + many y
+  either-letters : (x y z : Parsing Tree) → Two either x y z → many z ≡ many x + many y
   unfolding opened
   either-letters x y z w = ap (λ t. length (labels (opened A t))) (w .tree) ∙ letters-alternation (opened A (treeOf x)) (opened A (treeOf y))
 
-  join-letters : (x y z : Reads Tree) → Two join x y z → many z ≡ many x + many y
+  join-letters : (x y z : Parsing Tree) → Two join x y z → many z ≡ many x + many y
   unfolding opened
   join-letters x y z w = ap (λ t. length (labels (opened A t))) (w .tree) ∙ letters-joining (opened A (treeOf x)) (opened A (treeOf y))
 
-  module _ {n : ℕ} {f g : List (List Bool)} {old mid : List ℕ} {a : Built} (x y z : Reads Tree) (u : BuildsRead n x f g old mid a) where
+  module _ {n : ℕ} {f g : List (List Bool)} {old mid : List ℕ} {a : Built} (x y z : Parsing Tree) (u : BuildsParsed n x f g old mid a) where
     either-builds :
-        {h : List (List Bool)} {new : List ℕ} {b c : Built} → Two either x y z → BuildsRead (a .letters) y g h mid new b → Chosen a b c
-        → BuildsRead n z f h old new c
+        {h : List (List Bool)} {new : List ℕ} {b c : Built} → Two either x y z → BuildsParsed (a .letters) y g h mid new b → Chosen a b c
+        → BuildsParsed n z f h old new c
     unfolding opened
     either-builds w v o = rw (w .tree, w .behind) (builds-alternation u v o)
 
     join-builds :
-        {h k : List (List Bool)} {new : List ℕ} {b c : Built} → Two join x y z → BuildsRead (a .letters) y g h mid new b → Joined a b c h k
-        → BuildsRead n z f k old new c
+        {h k : List (List Bool)} {new : List ℕ} {b c : Built} → Two join x y z → BuildsParsed (a .letters) y g h mid new b → Joined a b c h k
+        → BuildsParsed n z f k old new c
     unfolding opened
     join-builds w v o = rw (w .tree, w .behind) (builds-joining u v o)
 
   -- Branches with `|` between them.
   module _ (d at : ℕ) (p : PartAt A text m-alternation d at) where
-    branch-letters : many (read A m-branch d (drop at text)) ≤ many (read A m-alternation d (drop at text))
+    branch-letters : many (parse A m-branch d (drop at text)) ≤ many (parse A m-alternation d (drop at text))
     branch-letters = by (eq-or-ne (getD text (endAt A text m-branch d at) 0) (code "|"))
       where
         by :
             (getD text (endAt A text m-branch d at) 0 ≡ code "|") ⊎ (getD text (endAt A text m-branch d at) 0 ≡ code "|" → ⊥)
-            → many (read A m-branch d (drop at text)) ≤ many (read A m-alternation d (drop at text))
+            → many (parse A m-branch d (drop at text)) ≤ many (parse A m-alternation d (drop at text))
         by (inl k) =
             let l =
-            either-letters (read A m-branch d (drop at text)) (read A m-alternation d (drop (endAt A text m-branch d at + 1) text))
-            (read A m-alternation d (drop at text)) (alternation-more A text d at p (endAt A text m-branch d at) refl k) in
+            either-letters (parse A m-branch d (drop at text)) (parse A m-alternation d (drop (endAt A text m-branch d at + 1) text))
+            (parse A m-alternation d (drop at text)) (alternation-more A text d at p (endAt A text m-branch d at) refl k) in
             omega arith
         by (inr k) = let l = ap many (alternation-alone A text d at p (endAt A text m-branch d at) refl k) in omega arith
 
@@ -89,7 +87,7 @@ module _ (A text : List ℕ) where
           pub alternation-room : Room A (openedAt A text m-alternation d (a .end + 1)) (a .letters) mid g
           alternation-room =
               room-next
-              (either-letters (read A m-branch d (drop at text)) (read A m-alternation d (drop (a .end + 1) text)) (read A m-alternation d (drop at text))
+              (either-letters (parse A m-branch d (drop at text)) (parse A m-alternation d (drop (a .end + 1) text)) (parse A m-alternation d (drop at text))
               (alternation-more A text d at p (a .end) (u .ends) k))
               o u
 
@@ -98,7 +96,7 @@ module _ (A text : List ℕ) where
               → Builds (a .letters) (openedAt A text m-alternation d (a .end + 1)) (endAt A text m-alternation d (a .end + 1)) g h mid new b
               → Chosen a b c → Builds n (openedAt A text m-alternation d at) (endAt A text m-alternation d at) f h old new c
           alternation-returns-choice v c =
-              either-builds (read A m-branch d (drop at text)) (read A m-alternation d (drop (a .end + 1) text)) (read A m-alternation d (drop at text)) u
+              either-builds (parse A m-branch d (drop at text)) (parse A m-alternation d (drop (a .end + 1) text)) (parse A m-alternation d (drop at text)) u
               (alternation-more A text d at p (a .end) (u .ends) k) v c
 
   -- A piece, of which no copy has been built.
@@ -114,17 +112,17 @@ module _ (A text : List ℕ) where
 
   -- Pieces joined.
   module _ (d at : ℕ) (p : PartAt A text m-branch d at) where
-    piece-letters : many (read A m-piece d (drop at text)) ≤ many (read A m-branch d (drop at text))
+    piece-letters : many (parse A m-piece d (drop at text)) ≤ many (parse A m-branch d (drop at text))
     piece-letters = by (true-or-false (ends (drop (endAt A text m-piece d at) text)))
       where
         by :
             (ends (drop (endAt A text m-piece d at) text) ≡ true) ⊎ (ends (drop (endAt A text m-piece d at) text) ≡ false)
-            → many (read A m-piece d (drop at text)) ≤ many (read A m-branch d (drop at text))
+            → many (parse A m-piece d (drop at text)) ≤ many (parse A m-branch d (drop at text))
         by (inl k) = let l = ap many (branch-last A text d at p (endAt A text m-piece d at) refl k) in omega arith
         by (inr k) =
             let l =
-            join-letters (read A m-piece d (drop at text)) (read A m-branch d (drop (endAt A text m-piece d at) text))
-            (read A m-branch d (drop at text)) (branch-more A text d at p (endAt A text m-piece d at) refl k) in
+            join-letters (parse A m-piece d (drop at text)) (parse A m-branch d (drop (endAt A text m-piece d at) text))
+            (parse A m-branch d (drop at text)) (branch-more A text d at p (endAt A text m-piece d at) refl k) in
             omega arith
 
     pub first-copy : 0 < copiesOf (countAt A text d at)
@@ -152,7 +150,7 @@ module _ (A text : List ℕ) where
           pub next-room : Room A (openedAt A text m-branch d (a .end)) (a .letters) mid g
           next-room =
               room-next
-              (join-letters (read A m-piece d (drop at text)) (read A m-branch d (drop (a .end) text)) (read A m-branch d (drop at text))
+              (join-letters (parse A m-piece d (drop at text)) (parse A m-branch d (drop (a .end) text)) (parse A m-branch d (drop at text))
               (branch-more A text d at p (a .end) (v .ends) k))
               o built
 
@@ -161,5 +159,5 @@ module _ (A text : List ℕ) where
               → Builds (a .letters) (openedAt A text m-branch d (a .end)) (endAt A text m-branch d (a .end)) g h mid new b
               → Joined a b c h i → Builds n (openedAt A text m-branch d at) (endAt A text m-branch d at) f i old new c
           branch-returns-joint w c =
-              join-builds (read A m-piece d (drop at text)) (read A m-branch d (drop (a .end) text)) (read A m-branch d (drop at text)) built
+              join-builds (parse A m-piece d (drop at text)) (parse A m-branch d (drop (a .end) text)) (parse A m-branch d (drop at text)) built
               (branch-more A text d at p (a .end) (v .ends) k) w c

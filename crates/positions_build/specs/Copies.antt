@@ -1,6 +1,5 @@
 -- A repetition copy by copy: what is left of it behind some copies, and what the next copy adds (document 01, "Opening and the compiled
--- form"). Assumes nothing.
--- Used by 5 files of specs/.
+-- form").
 use Prim.Native.Nat.{ℕ, zero, suc, _+_, _-_, _≤_, _<_}
 use mathlib.Core.Path.{_≡_, refl, sym, _∙_}
 use mathlib.Core.Logic.{_⊎_, inl, inr}

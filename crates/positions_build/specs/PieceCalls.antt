@@ -1,6 +1,4 @@
 -- What each call in `piece` and `group` needs and what each return says, from the parts that were built before it.
--- Assumes nothing.
--- Used by the proofs.
 use mathlib.Core.Path.{_≡_, refl, sym, ap, subst, _∙_}
 use mathlib.Core.Logic.{_⊎_, inl, inr}
 use mathlib.Core.List.{List}
@@ -12,7 +10,7 @@ use lib.ListN.{length, getD, drop}
 use lib.Dec.{leb}
 use Rattle.lists.specs.OrderLaws.{lt-or-le}
 use Rattle.regex.specs.Letters.{copiesOf}
-use Rattle.regex.specs.Read.{m-alternation, m-piece, m-group, ends, read}
+use Rattle.regex.specs.Parse.{m-alternation, m-piece, m-group, ends, parse}
 use Rattle.positions.specs.Opened.{Opened, joining, opened, labels, labelsIn, anyOf}
 use Rattle.positions.specs.Equations.{letters-joining}
 use Rattle.positions.specs.Letters.{any-of-labels}
@@ -145,7 +143,7 @@ module _ (A text : List ℕ) where
       pub deep : 1 ≤ d
       deep = group-enclosed A text d at p k .0
 
-      inside : Enclosed A text (read A m-alternation (d - 1) (drop (at + 1) text)) (read A m-group d (drop at text))
+      inside : Enclosed A text (parse A m-alternation (d - 1) (drop (at + 1) text)) (parse A m-group d (drop at text))
       inside = group-enclosed A text d at p k .1
 
       pub content-found : PartAt A text m-alternation (d - 1) (at + 1)

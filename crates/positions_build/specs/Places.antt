@@ -1,12 +1,11 @@
--- The part of a text that is read at a place, where one is. Assumes nothing.
--- Used by the contracts and 6 files of specs/.
+-- The part of a text that is read at a place, where one is.
 use mathlib.Core.Path.{_≡_}
 use mathlib.Core.List.{List}
 use mathlib.Core.Bool.{true, Bool}
 use Prim.Native.Nat.{ℕ, _-_, _+_, _≤_}
 use lib.ListN.{drop, length}
 use Rattle.regex.specs.Tree.{Count, Tree, between, onward}
-use Rattle.regex.specs.Read.{Mode, m-group, read}
+use Rattle.regex.specs.Parse.{Mode, m-group, parse}
 use Rattle.positions.specs.Opened.{Opened, opened, repeated, labels}
 use Rattle.text.specs.Text.{place}
 use Rattle.regex_bracket.specs.Answers.{is-found}
@@ -21,14 +20,14 @@ fewer (onward n) k = onward (n - k)
 module _ (A text : List ℕ) where
   -- a part is found, where d more groups may be opened
   abbrev pub PartAt : Mode → ℕ → ℕ → Type 0
-  PartAt m d at = is-found (read A m d (drop at text)) ≡ true
+  PartAt m d at = is-found (parse A m d (drop at text)) ≡ true
 
   -- its tree, where it ends, and how it opens
   abbrev pub treeAt : Mode → ℕ → ℕ → Tree
-  treeAt m d at = treeOf (read A m d (drop at text))
+  treeAt m d at = treeOf (parse A m d (drop at text))
 
   abbrev pub endAt : Mode → ℕ → ℕ → ℕ
-  endAt m d at = place text (restOf (read A m d (drop at text)))
+  endAt m d at = place text (restOf (parse A m d (drop at text)))
 
   abbrev pub openedAt : Mode → ℕ → ℕ → Opened
   openedAt m d at = opened A (treeAt m d at)

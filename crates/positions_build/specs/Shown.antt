@@ -1,6 +1,5 @@
 -- How the arrays of parts put together tell the letters of the whole, and the room that there must be for it: index i stands for the letter
--- of number i + 1. Assumes nothing.
--- Used by the contracts, BranchTurns, PieceTurns and Whole.
+-- of number i + 1.
 use Prim.Native.Nat.{ℕ, suc, _+_, _≤_}
 use mathlib.Core.Path.{_≡_, refl, ap, ap₂, subst, _∙_}
 use mathlib.Core.Bool.{Bool, true, false, _&&_, _||_, or-assoc, or-false}

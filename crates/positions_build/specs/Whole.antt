@@ -1,5 +1,4 @@
--- The whole text as it is built: the arrays tell the automaton of its tree. Assumes nothing.
--- Used by the contracts and the proofs; in compile.
+-- The whole text as it is built: the arrays tell the automaton of its tree.
 use Prim.Native.Nat.{ℕ, _≤_}
 use mathlib.Core.Path.{_≡_}
 use mathlib.Core.Bool.{Bool, true, false}
@@ -9,7 +8,7 @@ use Rattle.lists.specs.Memory.{Stored}
 use Rattle.positions_follow.specs.Sets.{arc}
 use Rattle.regex.specs.Tree.{Tree}
 use Rattle.regex.specs.Letters.{letterCount}
-use Rattle.regex.specs.Read.{expressionOf}
+use Rattle.regex.specs.Parse.{expressionOf}
 use Rattle.positions.specs.Opened.{opened, labels}
 use Rattle.positions.specs.Numbered.{numbered, automatonOf}
 use Rattle.automaton.specs.Arrays.{Tells}

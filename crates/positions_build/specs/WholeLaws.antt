@@ -9,7 +9,7 @@ use Rattle.lists.specs.WrittenLaws.{stored-at}
 use Rattle.positions_follow.specs.Sets.{member, arc}
 use Rattle.regex.specs.Tree.{only, Tree, set}
 use Rattle.regex.specs.Letters.{letterCount}
-use Rattle.regex.specs.Read.{m-alternation, read, whole, expressionOf}
+use Rattle.regex.specs.Parse.{m-alternation, parse, whole, expressionOf}
 use Rattle.positions.specs.Opened.{Opened, labels}
 use Rattle.positions.specs.Numbered.{numbered, positionAutomaton}
 use Rattle.positions.specs.Letters.{opened-letters}
@@ -75,19 +75,19 @@ module _ (A text : List ℕ) where
   module _ {marks : List ℕ} {f : List (List Bool)} (o : Buildable A text marks f) where
     pub text-found : PartAt A text m-alternation 16 0
     unfolding expressionOf
-    text-found = then-first whole (read A m-alternation 16 text) (o .reads)
+    text-found = then-first whole (parse A m-alternation 16 text) (o .reads)
 
     same-tree : treeOfText A text ≡ treeAt A text m-alternation 16 0
     unfolding expressionOf
     same-tree =
-        let x = read A m-alternation 16 text in
+        let x = parse A m-alternation 16 text in
         let e = then-is whole (set (only [])) x text-found in
         ap treeOf e ∙ whole-tree (treeOf x) (restOf x) (ap is-found (sym e) ∙ o .reads)
 
-    all-read : endAt A text m-alternation 16 0 ≡ length text
+    all-parsed : endAt A text m-alternation 16 0 ≡ length text
     unfolding expressionOf
-    all-read =
-        let x = read A m-alternation 16 text in
+    all-parsed =
+        let x = parse A m-alternation 16 text in
         let e = then-is whole (set (only [])) x text-found in
         whole-end (treeOf x) (restOf x) (ap is-found (sym e) ∙ o .reads)
 
@@ -111,7 +111,7 @@ module _ (A text : List ℕ) where
         let w = o .labelled in
         let n = b .stored .next in
         record {
-          ends = b .ends ∙ all-read;
+          ends = b .ends ∙ all-parsed;
           counts = omega arith;
           stored = rw same-tree (b .stored);
           shows = rw same-tree (b .shows);

@@ -14,7 +14,7 @@ use text::peek;
 ghost use Prim.Native.Nat.{_<_};
 ghost use Rattle.lists.specs.Memory.{old, new};
 ghost use Rattle.regex.specs.Letters.{copiesOf};
-ghost use Rattle.regex.specs.Read.{m-alternation, m-branch, m-piece, m-group};
+ghost use Rattle.regex.specs.Parse.{m-alternation, m-branch, m-piece, m-group};
 ghost use Rattle.positions_letters.specs.Shows.{Builds};
 ghost use Rattle.positions_build.specs.Places.{PartAt, openedAt, endAt, countAt, leftAt, Room};
 ghost use Rattle.positions_build.specs.Whole.{Buildable, BuildsWhole};
@@ -31,7 +31,8 @@ fn alternation(
 ) -> Built
     requires { ⌜ PartAt (now alphabet) (now text) m-alternation room at ⌝ }
     requires { ⌜ Room (now alphabet) (openedAt (now alphabet) (now text) m-alternation room at) letters (now labels) (now follow) ⌝ }
-    ensures { λ r. ⌜ Builds letters (openedAt (old alphabet) (old text) m-alternation room at) (endAt (old alphabet) (old text) m-alternation room at) (old follow) (new follow) (old labels) (new labels) r ⌝ }
+    ensures { λ r. ⌜ Builds letters (openedAt (old alphabet) (old text) m-alternation room at)
+        (endAt (old alphabet) (old text) m-alternation room at) (old follow) (new follow) (old labels) (new labels) r ⌝ }
 {
     let a = branch(alphabet, text, at, room, letters, labels, follow);
     let e = a.end;
@@ -54,7 +55,8 @@ fn branch(
 ) -> Built
     requires { ⌜ PartAt (now alphabet) (now text) m-branch room at ⌝ }
     requires { ⌜ Room (now alphabet) (openedAt (now alphabet) (now text) m-branch room at) letters (now labels) (now follow) ⌝ }
-    ensures { λ r. ⌜ Builds letters (openedAt (old alphabet) (old text) m-branch room at) (endAt (old alphabet) (old text) m-branch room at) (old follow) (new follow) (old labels) (new labels) r ⌝ }
+    ensures { λ r. ⌜ Builds letters (openedAt (old alphabet) (old text) m-branch room at)
+        (endAt (old alphabet) (old text) m-branch room at) (old follow) (new follow) (old labels) (new labels) r ⌝ }
 {
     let a = piece(alphabet, text, at, room, 0, letters, labels, follow);
     let e = a.end;
@@ -79,7 +81,8 @@ fn piece(
     requires { ⌜ PartAt (now alphabet) (now text) m-piece room at ⌝ }
     requires { ⌜ copies < copiesOf (countAt (now alphabet) (now text) room at) ⌝ }
     requires { ⌜ Room (now alphabet) (leftAt (now alphabet) (now text) room at copies) letters (now labels) (now follow) ⌝ }
-    ensures { λ r. ⌜ Builds letters (leftAt (old alphabet) (old text) room at copies) (endAt (old alphabet) (old text) m-piece room at) (old follow) (new follow) (old labels) (new labels) r ⌝ }
+    ensures { λ r. ⌜ Builds letters (leftAt (old alphabet) (old text) room at copies) (endAt (old alphabet) (old text) m-piece room at)
+        (old follow) (new follow) (old labels) (new labels) r ⌝ }
 {
     let a = group(alphabet, text, at, room, letters, labels, follow);
     let c = copies_at(text, a.end);
@@ -114,7 +117,8 @@ fn group(
 ) -> Built
     requires { ⌜ PartAt (now alphabet) (now text) m-group room at ⌝ }
     requires { ⌜ Room (now alphabet) (openedAt (now alphabet) (now text) m-group room at) letters (now labels) (now follow) ⌝ }
-    ensures { λ r. ⌜ Builds letters (openedAt (old alphabet) (old text) m-group room at) (endAt (old alphabet) (old text) m-group room at) (old follow) (new follow) (old labels) (new labels) r ⌝ }
+    ensures { λ r. ⌜ Builds letters (openedAt (old alphabet) (old text) m-group room at) (endAt (old alphabet) (old text) m-group room at)
+        (old follow) (new follow) (old labels) (new labels) r ⌝ }
 {
     if peek(text, at) != b'(' {
         return set(alphabet, text, at, letters, labels);

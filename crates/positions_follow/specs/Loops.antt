@@ -1,5 +1,4 @@
--- What one turn of each loop of this crate does, and what the loop leaves, over plain lists. Assumes nothing.
--- Used by the proofs.
+-- What one turn of each loop of this crate does, and what the loop leaves, over plain lists.
 use Prim.Native.Nat.{ℕ, _+_, _<_, _≤_}
 use mathlib.Core.Path.{_≡_, sym, ap, _∙_}
 use mathlib.Core.Bool.{Bool, true, false, _&&_, _||_, or-false}

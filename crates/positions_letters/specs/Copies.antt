@@ -1,10 +1,9 @@
--- A count as copies to build. Assumes nothing.
--- Used by the contracts and Tokens; in positions_build.
+-- A count as copies to build.
 use Prim.Native.Nat.{ℕ}
 use mathlib.Core.Bool.{Bool, true, false}
 use mathlib.Core.List.{List}
 use Rattle.regex.specs.Tree.{Count, between, onward}
-use Rattle.regex.specs.Text.{Reads}
+use Rattle.regex.specs.Parsing.{Parsing}
 use Rattle.regex.specs.Letters.{copiesOf}
 use Rattle.text.specs.Text.{place}
 use Rattle.positions_letters.specs.Found.{restOf, countOf}
@@ -19,5 +18,5 @@ isOnward (between n m) = false
 isOnward (onward n) = true
 
 -- a count that was read, as copies to build
-abbrev pub copiesBy : List ℕ → Reads Count → Copies
+abbrev pub copiesBy : List ℕ → Parsing Count → Copies
 copiesBy text x = record { least = leastOf (countOf x); most = copiesOf (countOf x); onward = isOnward (countOf x); end = place text (restOf x) }

@@ -1,31 +1,30 @@
--- What was found by a reading, and the unread text behind it. Assumes nothing.
--- Used by the contracts, Copies, Letters and Tokens; in positions_build and compile.
+-- What was found by a reading, and the unread text behind it.
 use mathlib.Core.List.{List, []}
 use mathlib.Core.Bool.{Bool, true, false}
 use Prim.Native.Nat.{ℕ}
 use Rattle.regex.specs.Tree.{only, Count, between, Tree, set}
-use Rattle.regex.specs.Text.{Reads, found, fault}
+use Rattle.regex.specs.Parsing.{Parsing, found, fault}
 use Rattle.regex.specs.Repetition.{repeats, repetition}
 
 -- what was found, where something was; else d
-abbrev pub foundOr : {X : Type 0} → X → Reads X → X
+abbrev pub foundOr : {X : Type 0} → X → Parsing X → X
 foundOr d (found a r) = a
 foundOr d (fault n r) = d
 
-abbrev pub restOf : {X : Type 0} → Reads X → List ℕ
+abbrev pub restOf : {X : Type 0} → Parsing X → List ℕ
 restOf (found a r) = r
 restOf (fault n r) = r
 
-abbrev pub treeOf : Reads Tree → Tree
+abbrev pub treeOf : Parsing Tree → Tree
 treeOf x = foundOr (set (only [])) x
 
-abbrev pub countOf : Reads Count → Count
+abbrev pub countOf : Parsing Count → Count
 countOf x = foundOr (between 1 1) x
 
 -- the repetition with which a text begins; one, where none stands there
-abbrev pub repetitionIf : Bool → List ℕ → Reads Count
+abbrev pub repetitionIf : Bool → List ℕ → Parsing Count
 repetitionIf true s = repetition s
 repetitionIf false s = found (between 1 1) s
 
-unfoldable pub counted : List ℕ → Reads Count
+unfoldable pub counted : List ℕ → Parsing Count
 counted s = repetitionIf (repeats s) s

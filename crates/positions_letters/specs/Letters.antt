@@ -1,5 +1,4 @@
--- A set of labels as letters: the labels written one by one, and the range of letters that they take. Assumes nothing.
--- Used by the contracts and the proofs; in positions_build.
+-- A set of labels as letters: the labels written one by one, and the range of letters that they take.
 use Prim.Native.Nat.{ℕ, suc, _+_, _≤_}
 use mathlib.Core.Path.{_≡_}
 use mathlib.Core.Bool.{Bool}

@@ -1,5 +1,4 @@
--- What the arrays of a part that was built say of its letters: index i stands for the letter of number i + 1. Assumes nothing.
--- Used by Letters; in positions_build.
+-- What the arrays of a part that was built say of its letters: index i stands for the letter of number i + 1.
 use Prim.Native.Nat.{ℕ, suc}
 use mathlib.Core.Path.{_≡_}
 use mathlib.Core.Bool.{Bool, _||_}

@@ -1,5 +1,4 @@
--- What the answers of `repetition` and `tokens` say of a repetition or a set that was found. Assumes nothing.
--- Used by the proofs.
+-- What the answers of `repetition` and `tokens` say of a repetition or a set that was found.
 use mathlib.Core.Path.{_≡_, sym, ap, _∙_}
 use mathlib.Core.List.{List}
 use mathlib.Core.Bool.{Bool, true, false}
@@ -8,7 +7,7 @@ use native.Mathlib.Omega.{arith}
 use lib.ListN.{length, drop}
 use Rattle.refusal.specs.declared.Refusal.{Refusal}
 use Rattle.regex.specs.Tree.{Set, Count, between, onward}
-use Rattle.regex.specs.Text.{Reads, found, fault}
+use Rattle.regex.specs.Parsing.{Parsing, found, fault}
 use Rattle.regex.specs.Letters.{copiesOf}
 use Rattle.regex.specs.Repetition.{repeats, repetition}
 use Rattle.regex_bracket.specs.declared.End.the-variants as end
@@ -38,7 +37,7 @@ module _ (text : List ℕ) (at : ℕ) where
         (n m e : ℕ) → count.Between n m e ≡ repeatsOf text (repetition (drop at text)) → copied n m false e ≡ copiesBy text (counted (drop at text))
     copies-between n m e h = by (repetition (drop at text)) h ∙ is
       where
-        by : (x : Reads Count) → count.Between n m e ≡ repeatsOf text x → copied n m false e ≡ copiesBy text x
+        by : (x : Parsing Count) → count.Between n m e ≡ repeatsOf text x → copied n m false e ≡ copiesBy text x
         by (found (between a b) r) h =
             let p : n ≡ a = cc in
             let q : m ≡ b = cc in
@@ -52,7 +51,7 @@ module _ (text : List ℕ) (at : ℕ) where
         → copied n m true e ≡ copiesBy text (counted (drop at text))
     copies-onward n m e h c = by (repetition (drop at text)) h ∙ is
       where
-        by : (x : Reads Count) → count.Onward n e ≡ repeatsOf text x → copied n m true e ≡ copiesBy text x
+        by : (x : Parsing Count) → count.Onward n e ≡ repeatsOf text x → copied n m true e ≡ copiesBy text x
         by (found (between a b) r) h = let z : _≡_ {A = ℕ} 0 1 = cc in absurd (omega arith)
         by (found (onward a) r) h =
             let p : n ≡ a = cc in
@@ -65,16 +64,16 @@ module _ (text : List ℕ) (at : ℕ) where
         → y ≡ copiesBy text (counted (drop at text))
     copies-refused x y h g = by (repetition (drop at text)) h (ap is-found (sym (counted-repeated (drop at text) k)) ∙ g)
       where
-        by : (z : Reads Count) → count.Refused x ≡ repeatsOf text z → is-found z ≡ true → y ≡ copiesBy text (counted (drop at text))
+        by : (z : Parsing Count) → count.Refused x ≡ repeatsOf text z → is-found z ≡ true → y ≡ copiesBy text (counted (drop at text))
         by (found (between a b) r) h g = let z : _≡_ {A = ℕ} 0 1 = cc in absurd (omega arith)
         by (found (onward a) r) h g = let z : _≡_ {A = ℕ} 0 1 = cc in absurd (omega arith)
         by (fault n r) h g = not-found g
 
 -- The end of a set that was found.
-pub end-is : (text : List ℕ) (e : ℕ) (x : Reads Set) → end.At e ≡ endOf text x → e ≡ place text (restOf x)
+pub end-is : (text : List ℕ) (e : ℕ) (x : Parsing Set) → end.At e ≡ endOf text x → e ≡ place text (restOf x)
 end-is text e (found a r) h = cc
 end-is text e (fault n r) h = let z : _≡_ {A = ℕ} 0 1 = cc in absurd (omega arith)
 
-pub end-refused : {P : Type 0} (text : List ℕ) (n : Refusal) (x : Reads Set) → end.Refused n ≡ endOf text x → is-found x ≡ true → P
+pub end-refused : {P : Type 0} (text : List ℕ) (n : Refusal) (x : Parsing Set) → end.Refused n ≡ endOf text x → is-found x ≡ true → P
 end-refused text n (found a r) h g = let z : _≡_ {A = ℕ} 0 1 = cc in absurd (omega arith)
 end-refused text n (fault m r) h g = not-found g

@@ -1,6 +1,5 @@
 -- What it says that parts were put together: one or the other, one and then the other, one again, one or nothing; index i stands for the
--- letter of number i + 1. Assumes nothing.
--- Used by the contracts and the proofs; in positions_build.
+-- letter of number i + 1.
 use Prim.Native.Nat.{ℕ}
 use mathlib.Core.Path.{_≡_}
 use mathlib.Core.Bool.{Bool, true, false, _&&_, _||_}

@@ -1,6 +1,5 @@
 -- Document 01's lines to try that are marked P, as one checked list over the definitions: each case is data, one test is computed over all
--- of them, and one lemma turns the test into the statement. Assumes nothing.
--- Used in kavurehy and sheet_answer.
+-- of them, and one lemma turns the test into the statement.
 use Prim.Native.Nat.{ℕ, _+_}
 use Prim.Native.String.{String}
 use mathlib.Core.Path.{_≡_, refl, ap, ap₂, subst}
@@ -18,7 +17,7 @@ use Rattle.refusal.specs.declared.Checked.{Checked}
 use Rattle.refusal.specs.declared.Checked.the-variants.{Passed, Refused}
 use Rattle.refusal.specs.Verdict.{Verdict, passed, refused, unless, if-passed, first-refusal}
 use Rattle.refusal.specs.Report.{Report}
-use Rattle.answers.specs.Decoded.{read as answer}
+use Rattle.answers.specs.Decoded.{parse as answer}
 use Rattle.ctc.specs.Collapse.{merge, without-blanks, collapse}
 use Rattle.automaton.specs.Automaton.{Accepts}
 use Rattle.automaton.specs.Form.{encode, view, lettersOf, alphabetOf, followOf, endsOf}
@@ -32,12 +31,12 @@ use Rattle.outcome.specs.Choice.{not-after, preferred, better}
 use Rattle.outcome.specs.Exhaustive.{over, exhaustive, usable, decided, decided-outcome}
 use Rattle.text.specs.Bytes.{bytes}
 use Rattle.regex.specs.Letters.{labelsOf, letterCount}
-use Rattle.regex.specs.Text.{then, enclosed}
+use Rattle.regex.specs.Parsing.{then, enclosed}
 use Rattle.text.specs.Text.{split}
 use Rattle.lists.specs.Cases.{first-of, provided}
 use Rattle.regex.specs.Sets.{closed, reserved, items, members, inside, bracket, escaped, a-set, labelled-set}
 use Rattle.regex.specs.Repetition.{number, from-on, from-to, comma, counts, sign, repetition}
-use Rattle.regex.specs.Read.{grouped, step, go, read, whole, expressionOf}
+use Rattle.regex.specs.Parse.{grouped, step, go, parse, whole, expressionOf}
 use Rattle.regex.specs.Grammar.{WordsOf}
 use Rattle.positions.specs.Opened.{anyOf, copies, nested, repeated, opened, labels}
 use Rattle.positions.specs.Numbered.{numbered, positionAutomaton}
@@ -209,5 +208,5 @@ cases =
 
 -- every case is as it states
 pub cases-stated : Each Stated cases
-unfolding cases holds compiled tried answered passing figures first-refusal same same-list decided exhaustive over better preferred not-after usable collapse merge without-blanks spells followOf endsOf compile-call distinct if-passed unless all any keep numbers flatMap encode labelsOf letterCount then first-of split enclosed provided closed reserved items members inside bracket escaped a-set labelled-set number from-on from-to comma counts sign repetition grouped step go read whole expressionOf anyOf copies nested repeated opened labels numbered positionAutomaton
+unfolding cases holds compiled tried answered passing figures first-refusal same same-list decided exhaustive over better preferred not-after usable collapse merge without-blanks spells followOf endsOf compile-call distinct if-passed unless all any keep numbers flatMap encode labelsOf letterCount then first-of split enclosed provided closed reserved items members inside bracket escaped a-set labelled-set number from-on from-to comma counts sign repetition grouped step go parse whole expressionOf anyOf copies nested repeated opened labels numbered positionAutomaton
 cases-stated = all-each holds Stated holds-stated cases refl

@@ -1,6 +1,5 @@
 -- The three demands, as theorems on what Read promises; demands 1 and 3 by the definitions that Decode's are stated by too. Past the checks
--- with memory enough means: no refusal but 16 applies, so Compile gives a form and the checks of the matrix and the memory pass. Assumes
--- nothing.
+-- with memory enough means: no refusal but 16 applies, so Compile gives a form and the checks of the matrix and the memory pass.
 -- For the reader: nothing uses it.
 use Prim.Native.Nat.{ℕ, _<_}
 use mathlib.Core.Path.{_≡_, ap, _∙_}

@@ -8,6 +8,7 @@ ghost use Rattle.lists.specs.Memory.{old, new};
 ghost use Rattle.answers.specs.Reading.{reported};
 ghost use Rattle.matrix.specs.View.{value};
 ghost use Rattle.matrix.specs.Matrix.{matrix};
+ghost use Rattle.decode_valid.specs.Answers.{lent};
 ghost use Rattle.read_text.specs.Promise.{Reads};
 
 // Document 01's Read. Its promise is `Reads` (read_text, specs/Promise.antt); demand 3, clause by clause:
@@ -28,7 +29,8 @@ pub fn read_matrix(
     word: &mut [u8],
     work: &mut [u32],
 ) -> Reading
-    ensures { λ r. ⌜ Reads (old alphabet) (old text) (value (matrix .entry)) (old form) (new form) (record { path = old path; word = old word; work = old work }) (record { path = new path; word = new word; work = new work }) (reported r) ⌝ }
+    ensures { λ r. ⌜ Reads (old alphabet) (old text) (value (matrix .entry)) (old form) (new form) (lent (old path) (old word) (old work))
+        (lent (new path) (new word) (new work)) (reported r) ⌝ }
 {
     read_parts(
         alphabet,
@@ -55,7 +57,8 @@ pub fn read(
     word: &mut [u8],
     work: &mut [u32],
 ) -> Reading
-    ensures { λ r. ⌜ Reads (old alphabet) (old text) (matrix (old costs) width count) (old form) (new form) (record { path = old path; word = old word; work = old work }) (record { path = new path; word = new word; work = new work }) (reported r) ⌝ }
+    ensures { λ r. ⌜ Reads (old alphabet) (old text) (matrix (old costs) width count) (old form) (new form)
+        (lent (old path) (old word) (old work)) (lent (new path) (new word) (new work)) (reported r) ⌝ }
 {
     read_matrix(
         alphabet,

@@ -1,5 +1,4 @@
--- The characters of a word's labels, and the labels replaced by them, in place. Assumes nothing.
--- Used by the contracts and the proofs; in kavurehy, sheet_read, read_text, read_valid and read.
+-- The characters of a word's labels, and the labels replaced by them, in place.
 use Prim.Native.Nat.{ℕ, _-_, _≤_}
 use mathlib.Core.Path.{_≡_}
 use mathlib.Core.List.{List, map}

@@ -1,5 +1,4 @@
--- What Read promises: demand 3, by the expression's words. Assumes nothing.
--- Used by the contracts and Steps; in kavurehy, sheet_read and read.
+-- What Read promises: demand 3, by the expression's words.
 use Prim.Native.Nat.{ℕ}
 use mathlib.Core.Path.{_≡_}
 use mathlib.Core.List.{List}

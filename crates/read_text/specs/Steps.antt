@@ -1,5 +1,4 @@
--- What a form reads past the checks, and from it to what Read promises: the form's words are those of the text. Assumes nothing.
--- Used by the contracts and the proofs.
+-- What a form reads past the checks, and from it to what Read promises: the form's words are those of the text.
 use Prim.Native.Nat.{ℕ, _≤_}
 use mathlib.Core.Path.{_≡_, refl, sym, ap, _∙_}
 use mathlib.Core.List.{List}

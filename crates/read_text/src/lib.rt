@@ -14,6 +14,7 @@ ghost use Rattle.automaton.specs.Form.{alphabetOf};
 ghost use Rattle.automaton.specs.Valid.{Valid};
 ghost use Rattle.matrix.specs.Matrix.{matrix};
 ghost use Rattle.read_text.specs.Promise.{Reads};
+ghost use Rattle.decode_valid.specs.Answers.{lent};
 ghost use Rattle.read_text.specs.ChecksForm.{ChecksForm};
 
 // Rows 12 to 15, and then what a compiled form reads.
@@ -28,7 +29,8 @@ fn read_form(
     work: &mut [u32],
 ) -> Reading
     requires { ⌜ Valid (now form) × (alphabetOf (now form) ≡ length (now alphabet)) ⌝ }
-    ensures { λ r. ⌜ ChecksForm (old alphabet) (old form) (matrix (old costs) width count) (record { path = old path; word = old word; work = old work }) (record { path = new path; word = new word; work = new work }) (reported r) ⌝ }
+    ensures { λ r. ⌜ ChecksForm (old alphabet) (old form) (matrix (old costs) width count) (lent (old path) (old word) (old work))
+        (lent (new path) (new word) (new work)) (reported r) ⌝ }
 {
     let k = alphabet.len();
     let l = letters(form);
@@ -59,7 +61,8 @@ pub fn read_parts(
     word: &mut [u8],
     work: &mut [u32],
 ) -> Reading
-    ensures { λ r. ⌜ Reads (old alphabet) (old text) (matrix (old costs) width count) (old form) (new form) (record { path = old path; word = old word; work = old work }) (record { path = new path; word = new word; work = new work }) (reported r) ⌝ }
+    ensures { λ r. ⌜ Reads (old alphabet) (old text) (matrix (old costs) width count) (old form) (new form)
+        (lent (old path) (old word) (old work)) (lent (new path) (new word) (new work)) (reported r) ⌝ }
 {
     match compile::compile(alphabet, text, form) {
         Counted::Refused(r) => Reading::Refused(r),

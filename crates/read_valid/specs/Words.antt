@@ -1,5 +1,4 @@
--- From Decode's answer to Read's: the word as characters. Assumes nothing.
--- Used by the contracts and the proofs; in read_text.
+-- From Decode's answer to Read's: the word as characters.
 use Prim.Native.Nat.{ℕ, _+_, _-_, _≤_, _<_}
 use mathlib.Core.Path.{_≡_, ap, ap₂, _∙_}
 use mathlib.Core.Option.{Option, some, none}

@@ -11,7 +11,7 @@ ghost use Rattle.automaton.specs.Form.{alphabetOf, lettersOf};
 ghost use Rattle.automaton.specs.Valid.{Valid};
 ghost use Rattle.matrix.specs.Matrix.{matrix};
 ghost use Rattle.decode_checks.specs.Passing.{Fits};
-ghost use Rattle.decode_valid.specs.Answers.{rooms};
+ghost use Rattle.decode_valid.specs.Answers.{lent, rooms};
 ghost use Rattle.read_valid.specs.Accepted.{ReadsAccepted};
 
 // What the form reads, as Decode does, with the word as characters.
@@ -25,8 +25,10 @@ pub fn read_valid(
     word: &mut [u8],
     work: &mut [u32],
 ) -> Reading
-    requires { ⌜ Valid (now form) × Fits (alphabetOf (now form)) (lettersOf (now form)) (matrix (now costs) width count) (rooms (record { path = now path; word = now word; work = now work })) × (alphabetOf (now form) ≡ length (now alphabet)) ⌝ }
-    ensures { λ r. ⌜ ReadsAccepted (old alphabet) (old form) (matrix (old costs) width count) (record { path = old path; word = old word; work = old work }) (record { path = new path; word = new word; work = new work }) (reported r) ⌝ }
+    requires { ⌜ Valid (now form) × Fits (alphabetOf (now form)) (lettersOf (now form)) (matrix (now costs) width count)
+        (rooms (lent (now path) (now word) (now work))) × (alphabetOf (now form) ≡ length (now alphabet)) ⌝ }
+    ensures { λ r. ⌜ ReadsAccepted (old alphabet) (old form) (matrix (old costs) width count) (lent (old path) (old word) (old work))
+        (lent (new path) (new word) (new work)) (reported r) ⌝ }
 {
     match decode_valid(form, costs, width, count, path, word, work) {
         Decoded::Refused(r) => Reading::Refused(r),

@@ -1,5 +1,4 @@
--- The table's numbers, the order of checks, and what is reported, computed. Assumes nothing.
--- Computed examples: nothing uses them.
+-- The table's numbers, the order of checks, and what is reported, computed.
 use Prim.Native.Nat.{ℕ, _-_}
 use mathlib.Core.Path.{_≡_, refl}
 use mathlib.Core.Bool.{true, false}

@@ -1,5 +1,4 @@
--- The number of each row of document 01's table "What is turned away". Assumes nothing.
--- Used by the contracts, the proofs, Examples and Report; in 9 other crates.
+-- The number of each row of document 01's table "What is turned away".
 use Prim.Native.Nat.{ℕ}
 use Rattle.refusal.specs.declared.Refusal.{Refusal}
 use Rattle.refusal.specs.declared.Refusal.the-variants.{Alphabet, TextLength, TextByte, MisplacedSign, Depth, Count, Bracket, Foreign, Letters}

@@ -1,6 +1,5 @@
 -- What a call reports: 0 or the refusal's number, the price and the lengths, all of them zero at a refusal; and what a call that
--- fills one list promises. Assumes nothing.
--- Used by Examples; in 14 other crates.
+-- fills one list promises.
 use Prim.Native.Nat.{ℕ}
 use mathlib.Core.Path.{_≡_}
 use mathlib.Core.List.{List, []}

@@ -1,6 +1,5 @@
 -- What a call makes of its input: it is turned away by the first test that holds, or passes. The order of the tests is the list's
--- and never that of the numbers. Assumes nothing.
--- Used by Examples and Report; in 16 other crates.
+-- and never that of the numbers.
 use mathlib.Core.Bool.{Bool, true, false}
 use mathlib.Core.List.{List, [], _∷_}
 use Rattle.refusal.specs.declared.Refusal.{Refusal}

@@ -1,6 +1,5 @@
 -- Texts read by computation: the expression lines of document 01, the readings taken of its brackets and braces, a case for each refusal
--- and for each tie of places. Assumes nothing.
--- Computed examples: nothing uses them.
+-- and for each tie of places.
 use mathlib.Core.Path.{_≡_, refl}
 use mathlib.Core.Option.{none}
 use mathlib.Core.List.{List, [], _∷_, _++_}
@@ -12,17 +11,17 @@ use lib.ListN.{length}
 use lib.Dec.{eqb}
 use Rattle.refusal.specs.declared.Refusal.{Refusal}
 use Rattle.refusal.specs.declared.Refusal.the-variants.{MisplacedSign, Depth, Bracket, Foreign}
-use Rattle.refusal.specs.declared.Refusal.the-variants as row
+use Rattle.refusal.specs.declared.Refusal.the-variants as refusal
 use Rattle.refusal.specs.Number.{numberOf}
 use Rattle.text.specs.Bytes.{bytes}
 use Rattle.regex.specs.Tree.{range, Count, between, onward, except, Tree, set, group, times, join, either}
 use Rattle.regex.specs.Letters.{labelsOf, letterCount}
-use Rattle.regex.specs.Text.{Reads, found, fault, then, enclosed}
+use Rattle.regex.specs.Parsing.{Parsing, found, fault, then, enclosed}
 use Rattle.text.specs.Text.{split}
 use Rattle.lists.specs.Cases.{first-of, provided}
 use Rattle.regex.specs.Sets.{closed, reserved, items, members, inside, bracket, alone, escaped, a-set, labelled-set}
 use Rattle.regex.specs.Repetition.{number, from-on, from-to, comma, counts, sign, repetition}
-use Rattle.regex.specs.Read.{grouped, step, go, read, whole, expressionOf}
+use Rattle.regex.specs.Parse.{grouped, step, go, parse, whole, expressionOf}
 
 -- A text that is an expression, with the number of its letters; one that is refused, with the fault's place.
 data Row : Type 0 where
@@ -33,12 +32,12 @@ meets : List ℕ → Row → Bool
 unfolding expressionOf
 meets A (letters-of t k) = of (expressionOf A (bytes t))
   where
-    of : Reads Tree → Bool
+    of : Parsing Tree → Bool
     of (found r s) = eqb k (letterCount A r)
     of (fault n s) = false
 meets A (refused-as t n k) = of (expressionOf A (bytes t))
   where
-    of : Reads Tree → Bool
+    of : Parsing Tree → Bool
     of (found r s) = false
     of (fault m s) = eqb (numberOf n) (numberOf m) && eqb k (length (bytes t) - length s)
 
@@ -53,7 +52,7 @@ rows =
     -- "Lines to try"
     letters-of "ab" 2 ∷ letters-of "aa" 2 ∷ letters-of "a*" 1 ∷ letters-of "a" 1 ∷ letters-of "a|b" 2 ∷ letters-of "a{2}" 2 ∷
     letters-of "(a|b)*" 2 ∷ letters-of "ab*" 2 ∷ letters-of "a{127}" 127 ∷ letters-of "a{128}" 128 ∷ letters-of "a*?" 1 ∷
-    refused-as "a{0}" row.Count 1 ∷ refused-as "a{2,1}" row.Count 1 ∷ refused-as "a**" MisplacedSign 2 ∷ refused-as "[b-a]" Bracket 0 ∷
+    refused-as "a{0}" refusal.Count 1 ∷ refused-as "a{2,1}" refusal.Count 1 ∷ refused-as "a**" MisplacedSign 2 ∷ refused-as "[b-a]" Bracket 0 ∷
     refused-as "c" Foreign 0 ∷
     -- 4: nothing to repeat, or a repetition after another
     refused-as "*" MisplacedSign 0 ∷ refused-as "(+a)" MisplacedSign 1 ∷ refused-as "a|?" MisplacedSign 2 ∷ refused-as "{x" MisplacedSign 0 ∷
@@ -71,16 +70,16 @@ rows =
     letters-of "((((((((((((((((a)(b))))))))))))))))" 2 ∷ refused-as "((((((((((((((((a(" Depth 17 ∷
     -- 6
     letters-of "a{001}" 1 ∷ letters-of "a{0,}" 1 ∷ letters-of "a{3,}" 3 ∷ letters-of "a{0,1}" 1 ∷ letters-of "a{9}" 9 ∷ letters-of "a{255}" 255 ∷
-    refused-as "a{00}" row.Count 1 ∷ refused-as "a{0,0}" row.Count 1 ∷ refused-as "a{,2}" row.Count 1 ∷ refused-as "a{}" row.Count 1 ∷
-    refused-as "a{0001}" row.Count 1 ∷ refused-as "a{1" row.Count 1 ∷ refused-as "a{" row.Count 1 ∷ refused-as "a{1,2,3}" row.Count 1 ∷
-    refused-as "a{ 1}" row.Count 1 ∷ refused-as "a{:}" row.Count 1 ∷ refused-as "a{1/}" row.Count 1 ∷ refused-as "a{256}" row.Count 1 ∷
-    refused-as "a{1,256}" row.Count 1 ∷
+    refused-as "a{00}" refusal.Count 1 ∷ refused-as "a{0,0}" refusal.Count 1 ∷ refused-as "a{,2}" refusal.Count 1 ∷ refused-as "a{}" refusal.Count 1 ∷
+    refused-as "a{0001}" refusal.Count 1 ∷ refused-as "a{1" refusal.Count 1 ∷ refused-as "a{" refusal.Count 1 ∷ refused-as "a{1,2,3}" refusal.Count 1 ∷
+    refused-as "a{ 1}" refusal.Count 1 ∷ refused-as "a{:}" refusal.Count 1 ∷ refused-as "a{1/}" refusal.Count 1 ∷ refused-as "a{256}" refusal.Count 1 ∷
+    refused-as "a{1,256}" refusal.Count 1 ∷
     -- 8
     letters-of "[a-c]" 2 ∷ letters-of "[^a]" 1 ∷ letters-of "." 2 ∷ refused-as "[c]" Foreign 0 ∷ refused-as "[^ab]" Foreign 0 ∷
     refused-as "\\." Foreign 0 ∷
     -- the leftmost; at one byte the lower number
     refused-as "c)" Foreign 0 ∷ refused-as "a)c" MisplacedSign 1 ∷ refused-as "(c" Foreign 1 ∷ refused-as "[b-a](" Bracket 0 ∷
-    refused-as "a{0}c" row.Count 1 ∷ refused-as "ca{0}" Foreign 0 ∷ refused-as "((((((((((((((((a)(" MisplacedSign 19 ∷ refused-as "[d-c]" Bracket 0 ∷
+    refused-as "a{0}c" refusal.Count 1 ∷ refused-as "ca{0}" Foreign 0 ∷ refused-as "((((((((((((((((a)(" MisplacedSign 19 ∷ refused-as "[d-c]" Bracket 0 ∷
     refused-as "c{0}" Foreign 0 ∷ []
 
 -- over `+-.:=A[]\`ab}`
@@ -110,7 +109,7 @@ many : ℕ → List ℕ → List ℕ
 many zero s = []
 many (suc n) s = s ++ many n s
 
-size : List ℕ → Reads Tree → ℕ
+size : List ℕ → Parsing Tree → ℕ
 size A (found t r) = letterCount A t
 size A (fault n r) = 0
 
@@ -138,7 +137,7 @@ tried :
     (join (times (set (alone 97)) (between 2 2)) (join (times (set (alone 97)) (onward 0)) (times (set (alone 97)) (between 1 2))))))) [])
     × (expressionOf (bytes "abc-") (bytes ".([^a-b-]*)")
     ≡ found (join (set (except [])) (group (times (set (except (range 97 98 ∷ range 45 45 ∷ []))) (onward 0)))) [])
-unfolding failing meets rows bracket-rows complement-rows label-rows many size signs sign-texts labelsOf letterCount then first-of split enclosed provided closed reserved items members inside bracket escaped a-set labelled-set number from-on from-to comma counts sign repetition grouped step go read whole expressionOf
+unfolding failing meets rows bracket-rows complement-rows label-rows many size signs sign-texts labelsOf letterCount then first-of split enclosed provided closed reserved items members inside bracket escaped a-set labelled-set number from-on from-to comma counts sign repetition grouped step go parse whole expressionOf
 tried = (refl, refl, refl, refl, refl, refl, refl, refl, refl)
 
 -- "A `-` may begin an item only first or just before the closing `]`": in the middle it may not, whatever follows it inside

@@ -1,6 +1,5 @@
 -- What is found, and where a fault stands, as facts on texts: the text in front of the rest is a text of the tree, and the text in front
--- of a fault can be continued to one; and how these are put together. Assumes nothing.
--- Used by 4 files of specs/; in positions_build and regex_parse.
+-- of a fault can be continued to one; and how these are put together.
 use mathlib.Core.Path.{_≡_, refl, sym, ap, _∙_}
 use mathlib.Core.List.{List, [], _∷_, _++_, append-assoc, append-nil}
 use mathlib.Core.Bool.{Bool, true, false}
@@ -12,16 +11,16 @@ use lib.Dec.{eqb}
 use borrow.Author.Tests.{eqb-true, ne-eqb}
 use Rattle.lists.specs.Lists.{Each}
 use Rattle.refusal.specs.declared.Refusal.{Refusal}
-use Rattle.refusal.specs.declared.Refusal.the-variants as row
+use Rattle.refusal.specs.declared.Refusal.the-variants as refusal
 use Rattle.text.specs.Bytes.{bytes}
 use Rattle.regex.specs.Tree.{Count, Set, except, Tree, set, group, times, join, either}
 use Rattle.regex.specs.Letters.{labelsOf}
-use Rattle.regex.specs.Text.{found, fault, then}
+use Rattle.regex.specs.Parsing.{found, fault, then}
 use Rattle.text.specs.Text.{one-of, next, rest}
 use Rattle.lists.specs.Cases.{first-of}
 use Rattle.regex.specs.Sets.{a-set, labelled-set}
 use Rattle.regex.specs.Repetition.{repeats, repetition}
-use Rattle.regex.specs.Read.{Mode, m-alternation, m-branch, m-piece, m-group, ends, rank}
+use Rattle.regex.specs.Parse.{Mode, m-alternation, m-branch, m-piece, m-group, ends, rank}
 use Rattle.regex.specs.Grammar.{loose, TextOf}
 use Rattle.regex.specs.Own.{next-is, Here}
 use Rattle.regex.specs.OwnSets.{ASet}
@@ -34,7 +33,7 @@ Starts s = (ends s ≡ false) × (repeats s ≡ false)
 module _ (A : List ℕ) where
   -- no set begins with a byte that is misplaced there
   no-set :
-      (b x : ℕ) (s : List ℕ) (c : Set) (r : List ℕ) → labelled-set A (x ∷ s) ≡ fault row.MisplacedSign (x ∷ s) →
+      (b x : ℕ) (s : List ℕ) (c : Set) (r : List ℕ) → labelled-set A (x ∷ s) ≡ fault refusal.MisplacedSign (x ∷ s) →
       labelled-set A (b ∷ s) ≡ found c r → eqb b x ≡ false
   no-set b x s c r k h = by (eqb b x) refl
     where
@@ -43,7 +42,7 @@ module _ (A : List ℕ) where
       by false e = refl
 
   no-set-of :
-      (cs : List ℕ) (b : ℕ) (s : List ℕ) (c : Set) (r : List ℕ) → Each (λ x. labelled-set A (x ∷ s) ≡ fault row.MisplacedSign (x ∷ s)) cs →
+      (cs : List ℕ) (b : ℕ) (s : List ℕ) (c : Set) (r : List ℕ) → Each (λ x. labelled-set A (x ∷ s) ≡ fault refusal.MisplacedSign (x ∷ s)) cs →
       labelled-set A (b ∷ s) ≡ found c r → one-of cs b ≡ false
   no-set-of [] b s c r k h = refl
   no-set-of (x ∷ cs) b s c r k h = rw (no-set b x s c r (k .0) h) (no-set-of cs b s c r (k .1) h)

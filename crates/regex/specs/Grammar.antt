@@ -1,11 +1,10 @@
--- The grammar (document 01, "Expression text"): which texts a tree has, and so which words a text. Assumes nothing.
--- Used by 5 files of specs/; in compile, kavurehy, sheet_read, read_text and read.
+-- The grammar (document 01, "Expression text"): which texts a tree has, and so which words a text.
 use mathlib.Core.Path.{_≡_}
 use mathlib.Core.List.{List, [], _∷_, _++_}
 use Prim.Native.Nat.{ℕ, zero, suc, _≤_}
 use Prim.Native.Char.{code}
 use Rattle.regex.specs.Tree.{Tree, set, group, times, join, either, Words}
-use Rattle.regex.specs.Text.{found}
+use Rattle.regex.specs.Parsing.{found}
 use Rattle.regex.specs.Sets.{labelled-set}
 use Rattle.regex.specs.Repetition.{repetition}
 

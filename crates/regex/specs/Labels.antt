@@ -1,4 +1,4 @@
--- The labels of words: a set has a word exactly if it has a label, and a word's labels are those of the alphabet. Assumes nothing.
+-- The labels of words: a set has a word exactly if it has a label, and a word's labels are those of the alphabet.
 -- For the reader: nothing uses it.
 use mathlib.Core.Path.{_≡_, refl, ap, _∙_}
 use mathlib.Core.Logic.{_↔_, inl, inr}

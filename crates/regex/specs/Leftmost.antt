@@ -1,5 +1,4 @@
 -- A refusal is at the leftmost fault (document 01, "What is turned away": "among 4 to 8 the one leftmost in the text").
--- Assumes nothing.
 -- For the reader: nothing uses it.
 use mathlib.Core.Path.{_≡_, refl}
 use mathlib.Core.List.{List, [], _∷_, _++_}
@@ -8,12 +7,12 @@ use native.Mathlib.Omega.{arith}
 use lib.ListN.{length}
 use Rattle.refusal.specs.declared.Refusal.{Refusal}
 use Rattle.regex.specs.Tree.{Tree}
-use Rattle.regex.specs.Text.{fault}
-use Rattle.regex.specs.Read.{m-alternation, read, whole, expressionOf}
+use Rattle.regex.specs.Parsing.{fault}
+use Rattle.regex.specs.Parse.{m-alternation, parse, whole, expressionOf}
 use Rattle.regex.specs.Grammar.{TextOf}
 use Rattle.regex.specs.Says.{Says, of-fault, then-says}
 use Rattle.regex.specs.Front.{Front, Stop, Begins, stop-behind}
-use Rattle.regex.specs.Sound.{read-sound}
+use Rattle.regex.specs.Sound.{parse-sound}
 use Rattle.regex.specs.Exact.{exact}
 use Rattle.regex.specs.Places.{Place, refused-at}
 
@@ -44,5 +43,5 @@ leftmost A l s n r e =
 
     expression-stops : Says (λ t r. Unit {0}) (Stop A m-alternation 16 s) (expressionOf A s)
     expression-stops =
-        then-says (Front A m-alternation 16 s) _ (Stop A m-alternation 16 s) _ (read A m-alternation 16 s) whole
-        (read-sound A m-alternation 16 s) (λ n r h. h) behind
+        then-says (Front A m-alternation 16 s) _ (Stop A m-alternation 16 s) _ (parse A m-alternation 16 s) whole
+        (parse-sound A m-alternation 16 s) (λ n r h. h) behind

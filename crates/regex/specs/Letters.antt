@@ -1,5 +1,4 @@
--- How many letters an expression opens into (document 01, "Opening and the compiled form"; over 127 is refusal 9). Assumes nothing.
--- Used by 8 files of specs/; in 9 other crates.
+-- How many letters an expression opens into (document 01, "Opening and the compiled form"; over 127 is refusal 9).
 use mathlib.Core.List.{List, [], _∷_}
 use mathlib.Core.Bool.{cond}
 use Prim.Native.Nat.{ℕ, zero, suc, _+_, _*_}

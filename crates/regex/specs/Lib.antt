@@ -1,9 +1,9 @@
 pub mod Tree
 pub mod Letters
-pub mod Text
+pub mod Parsing
 pub mod Sets
 pub mod Repetition
-pub mod Read
+pub mod Parse
 pub mod Grammar
 pub mod Examples
 pub mod SignExamples

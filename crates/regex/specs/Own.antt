@@ -1,5 +1,4 @@
--- What is read from its own bytes alone, whatever stands behind them, and what is refused at its first byte. Assumes nothing.
--- Used by 7 files of specs/; in positions_build.
+-- What is read from its own bytes alone, whatever stands behind them, and what is refused at its first byte.
 use mathlib.Core.Path.{_≡_, refl, ap, _∙_}
 use mathlib.Core.Logic.{_⊎_, inl, inr}
 use mathlib.Core.Option.{Option, some, none}
@@ -13,7 +12,7 @@ use borrow.Author.Tests.{eqb-true}
 use Rattle.lists.specs.OrderLaws.{or-either}
 use Rattle.lists.specs.Lists.{Each}
 use Rattle.refusal.specs.declared.Refusal.{Refusal}
-use Rattle.regex.specs.Text.{Reads, found, enclosed}
+use Rattle.regex.specs.Parsing.{Parsing, found, enclosed}
 use Rattle.text.specs.Text.{one-of, next, rest, in-front, split}
 use Rattle.regex.specs.Says.{Says, enclosed-says}
 
@@ -106,8 +105,8 @@ enclosed-own n w f g s h = enclosed-says (Inside n f g s) (Here w) n w f (g s) r
     by x a q o = (record { own = o .own; splits = o .splits; alone = λ w v. rw (o .alone tt v, enclosed) (rw q) }, x .0, q)
 
 -- what is found is read from its own bytes
-abbrev pub OwnAs : {W X : Type 0} → (W → List ℕ → Reads X) → List ℕ → X → List ℕ → Type 0
+abbrev pub OwnAs : {W X : Type 0} → (W → List ℕ → Parsing X) → List ℕ → X → List ℕ → Type 0
 OwnAs f s a r = Own f (found a) s r
 
-abbrev pub Alone : {X : Type 0} → (List ℕ → Reads X) → List ℕ → X → List ℕ → Type 0
+abbrev pub Alone : {X : Type 0} → (List ℕ → Parsing X) → List ℕ → X → List ℕ → Type 0
 Alone f s a r = OwnAs {W = Unit {0}} (λ _. f) s a r

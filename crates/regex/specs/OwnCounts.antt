@@ -1,6 +1,5 @@
 -- A repetition is read from its own bytes alone, in front of anything but a `?`, and its counts are in range, or it is refused at its
--- first byte. The modifier changes nothing. Assumes nothing.
--- Used by 5 files of specs/; in positions_build and positions.
+-- first byte. The modifier changes nothing.
 use mathlib.Core.Path.{_≡_, refl, sym, ap, _∙_}
 use mathlib.Core.Option.{Option, some, none}
 use mathlib.Core.List.{List, [], _∷_, _++_, append-assoc, append-nil}
@@ -12,9 +11,9 @@ use lib.ListN.{length}
 use lib.Dec.{eqb, leb}
 use borrow.Author.Tests.{leb-true}
 use Rattle.lists.specs.OrderLaws.{and-left, and-right}
-use Rattle.refusal.specs.declared.Refusal.the-variants as row
+use Rattle.refusal.specs.declared.Refusal.the-variants as refusal
 use Rattle.regex.specs.Tree.{Count, between, onward}
-use Rattle.regex.specs.Text.{Reads, found, then, enclosed}
+use Rattle.regex.specs.Parsing.{Parsing, found, then, enclosed}
 use Rattle.text.specs.Text.{next, rest, split}
 use Rattle.lists.specs.Cases.{first-of, provided}
 use Rattle.regex.specs.Repetition.{number, from-on, from-to, comma, counts, sign, repetition}
@@ -73,15 +72,15 @@ counts-in-range i = by (split "," i)
     by (some x) = comma-in-range (x .0) (x .1)
 
 -- a count in range, from its own bytes
-abbrev ACount : {W : Type 0} → (W → List ℕ → Reads Count) → List ℕ → Count → List ℕ → Type 0
+abbrev ACount : {W : Type 0} → (W → List ℕ → Parsing Count) → List ℕ → Count → List ℕ → Type 0
 ACount f s c r = OwnAs f s c r × InRange c
 
-abbrev braces : List ℕ → List ℕ → Reads Count
-braces w s = enclosed row.Count w counts (split "}" s)
+abbrev braces : List ℕ → List ℕ → Parsing Count
+braces w s = enclosed refusal.Count w counts (split "}" s)
 
 braces-says : (w s : List ℕ) → Says (ACount braces s) (Here w) (braces w s)
 braces-says w s =
-    says-map _ (ACount braces s) (Here w) (braces w s) (enclosed-own row.Count w counts (split "}") s (split-ends "}" s))
+    says-map _ (ACount braces s) (Here w) (braces w s) (enclosed-own refusal.Count w counts (split "}") s (split-ends "}" s))
     (λ c r h. (h .0, rw (h .2) at (counts-in-range (h .1))))
 
 sign-says : (s : List ℕ) → Says (ACount {W = Unit {0}} (λ _. sign) s) (Here s) (sign s)

@@ -1,5 +1,4 @@
--- A set is read from its own bytes alone and has a label, or is refused at its first byte. Assumes nothing.
--- Used by 4 files of specs/.
+-- A set is read from its own bytes alone and has a label, or is refused at its first byte.
 use mathlib.Core.Path.{_≡_, refl, sym, subst}
 use mathlib.Core.Option.{some}
 use mathlib.Core.List.{List, [], _∷_}
@@ -9,10 +8,10 @@ use Prim.Native.Char.{code}
 use native.Mathlib.Omega.{arith}
 use lib.Dec.{eqb}
 use borrow.Author.Tests.{eqb-true, eqb-false}
-use Rattle.refusal.specs.declared.Refusal.the-variants as row
+use Rattle.refusal.specs.declared.Refusal.the-variants as refusal
 use Rattle.regex.specs.Tree.{Range, Set, only, except}
 use Rattle.regex.specs.Letters.{labelsOf}
-use Rattle.regex.specs.Text.{found, fault, then, enclosed}
+use Rattle.regex.specs.Parsing.{found, fault, then, enclosed}
 use Rattle.text.specs.Text.{in-front, split}
 use Rattle.lists.specs.Cases.{first-of}
 use Rattle.regex.specs.Sets.{closed, members, inside, bracket, special, escaped, a-set, labelled-set}
@@ -34,11 +33,11 @@ closed-ends (b ∷ s) = by (eqb b (code "]")) refl
 inside-says : (f : List Range → Set) (w s : List ℕ) → Says (OwnAs (inside f) s) (Here w) (inside f w s)
 unfolding inside then
 inside-says f w s =
-    then-says _ (OwnAs (inside f) s) (Here w) (Here w) (enclosed row.Bracket w members (closed s)) _
-    (enclosed-own row.Bracket w members closed s (closed-ends s)) (λ n r h. h)
-    (λ rs r h. own-map (λ w t. enclosed row.Bracket w members (closed t)) (found rs) (λ x. then x (λ rs r. found (f rs) r)) s r (h .0))
+    then-says _ (OwnAs (inside f) s) (Here w) (Here w) (enclosed refusal.Bracket w members (closed s)) _
+    (enclosed-own refusal.Bracket w members closed s (closed-ends s)) (λ n r h. h)
+    (λ rs r h. own-map (λ w t. enclosed refusal.Bracket w members (closed t)) (found rs) (λ x. then x (λ rs r. found (f rs) r)) s r (h .0))
 
-inside-none : (f : List Range → Set) (w : List ℕ) → inside f w [] ≡ fault row.Bracket w
+inside-none : (f : List Range → Set) (w : List ℕ) → inside f w [] ≡ fault refusal.Bracket w
 unfolding inside then enclosed closed split
 inside-none f w = refl
 

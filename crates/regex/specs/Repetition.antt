@@ -1,6 +1,5 @@
 -- A repetition, as a count of words (document 01, "Expression text"): "`*`, `+`, `?`, `{n}`, `{n,}`, `{n,m}`; counts have 1 to 3
--- digits, each is at most 255, n ≤ m, and m (or the n of `{n}`) is at least 1." Assumes nothing.
--- Used by 10 files of specs/; in 12 other crates.
+-- digits, each is at most 255, n ≤ m, and m (or the n of `{n}`) is at least 1."
 use mathlib.Core.Option.{Option, some, none}
 use mathlib.Core.List.{List, [], _∷_}
 use mathlib.Core.Bool.{Bool, true, false, _&&_}
@@ -8,10 +7,10 @@ use Prim.Native.Nat.{ℕ}
 use Prim.Native.Char.{code}
 use lib.ListN.{length}
 use lib.Dec.{eqb, leb}
-use Rattle.refusal.specs.declared.Refusal.the-variants as row
+use Rattle.refusal.specs.declared.Refusal.the-variants as refusal
 use Rattle.text.specs.Bytes.{bytes}
 use Rattle.regex.specs.Tree.{Count, between, onward}
-use Rattle.regex.specs.Text.{Reads, found, fault, then, enclosed}
+use Rattle.regex.specs.Parsing.{Parsing, found, fault, then, enclosed}
 use Rattle.text.specs.Text.{next, next-of, rest, split}
 use Rattle.lists.specs.Cases.{when, first-of, provided}
 use Rattle.text.specs.Digits.{digits, value}
@@ -45,17 +44,17 @@ abbrev pub repeats : List ℕ → Bool
 repeats s = next-of (bytes "*+?{") s
 
 -- Row 6: "braces ill-formed or out of range", at the `{`.
-unfoldable pub sign : List ℕ → Reads Count
-sign [] = fault row.MisplacedSign []
+unfoldable pub sign : List ℕ → Parsing Count
+sign [] = fault refusal.MisplacedSign []
 sign (b ∷ s) =
     first-of
     (when (eqb b (code "*")) (found (onward 0) s)
     ∷ when (eqb b (code "+")) (found (onward 1) s)
     ∷ when (eqb b (code "?")) (found (between 0 1) s)
-    ∷ when (eqb b (code "{")) (enclosed row.Count (b ∷ s) counts (split "}" s))
+    ∷ when (eqb b (code "{")) (enclosed refusal.Count (b ∷ s) counts (split "}" s))
     ∷ [])
-    (fault row.MisplacedSign (b ∷ s))
+    (fault refusal.MisplacedSign (b ∷ s))
 
 -- "One `?` may follow any repetition (the 2024 modifier); it leaves the set of words unaltered."
-unfoldable pub repetition : List ℕ → Reads Count
+unfoldable pub repetition : List ℕ → Parsing Count
 repetition s = then (sign s) (λ c r. elim (next "?" r) [ true ↦ found c (rest r) | false ↦ found c r ])

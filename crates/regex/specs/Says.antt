@@ -1,5 +1,4 @@
--- What holds of an answer, whichever it is: one fact of what was found, another of a fault. Assumes nothing.
--- Used by 9 files of specs/; in positions_build, regex_parse and regex_repetition.
+-- What holds of an answer, whichever it is: one fact of what was found, another of a fault.
 use mathlib.Core.Path.{_≡_, refl}
 use mathlib.Core.Option.{Option, some, none}
 use mathlib.Core.List.{List, _∷_}
@@ -7,31 +6,31 @@ use mathlib.Core.Bool.{Bool, true, false}
 use Prim.Native.Nat.{ℕ}
 use native.Mathlib.Omega.{arith}
 use Rattle.refusal.specs.declared.Refusal.{Refusal}
-use Rattle.regex.specs.Text.{Reads, found, fault, then, enclosed}
+use Rattle.regex.specs.Parsing.{Parsing, found, fault, then, enclosed}
 use Rattle.lists.specs.Cases.{Case, when, first-of}
 
-abbrev pub Says : {X : Type 0} → (X → List ℕ → Type 0) → (Refusal → List ℕ → Type 0) → Reads X → Type 0
+abbrev pub Says : {X : Type 0} → (X → List ℕ → Type 0) → (Refusal → List ℕ → Type 0) → Parsing X → Type 0
 Says P Q (found a s) = P a s
 Says P Q (fault n s) = Q n s
 
 module _ {X : Type 0} (P : X → List ℕ → Type 0) (Q : Refusal → List ℕ → Type 0) where
-  pub of-found : (x : Reads X) (a : X) (s : List ℕ) → Says P Q x → x ≡ found a s → P a s
+  pub of-found : (x : Parsing X) (a : X) (s : List ℕ) → Says P Q x → x ≡ found a s → P a s
   of-found x a s h e = rw e at h
 
-  pub of-fault : (x : Reads X) (n : Refusal) (s : List ℕ) → Says P Q x → x ≡ fault n s → Q n s
+  pub of-fault : (x : Parsing X) (n : Refusal) (s : List ℕ) → Says P Q x → x ≡ fault n s → Q n s
   of-fault x n s h e = rw e at h
 
   -- what was found, with the equation that says so
-  pub says-found : (x : Reads X) → Says P Q x → Says (λ a s. P a s × (x ≡ found a s)) Q x
+  pub says-found : (x : Parsing X) → Says P Q x → Says (λ a s. P a s × (x ≡ found a s)) Q x
   says-found (found a s) h = (h, refl)
   says-found (fault n s) h = h
 
-  pub branch-says : (b : Bool) (x y : Reads X) → (b ≡ true → Says P Q x) → (b ≡ false → Says P Q y) → Says P Q (elim b [ true ↦ x | false ↦ y ])
+  pub branch-says : (b : Bool) (x y : Parsing X) → (b ≡ true → Says P Q x) → (b ≡ false → Says P Q y) → Says P Q (elim b [ true ↦ x | false ↦ y ])
   branch-says true x y f g = f refl
   branch-says false x y f g = g refl
 
   pub first-says :
-      (t : Bool) (a : Reads X) (cs : List (Case (Reads X))) (d : Reads X) → (t ≡ true → Says P Q a) → (t ≡ false → Says P Q (first-of cs d)) →
+      (t : Bool) (a : Parsing X) (cs : List (Case (Parsing X))) (d : Parsing X) → (t ≡ true → Says P Q a) → (t ≡ false → Says P Q (first-of cs d)) →
       Says P Q (first-of (when t a ∷ cs) d)
   unfolding first-of
   first-says true a cs d f g = f refl
@@ -50,26 +49,26 @@ module _ {X : Type 0} (P : X → List ℕ → Type 0) (Q : Refusal → List ℕ 
 
 module _ {X Y : Type 0} (P : X → List ℕ → Type 0) (P′ : Y → List ℕ → Type 0) (Q Q′ : Refusal → List ℕ → Type 0) where
   pub then-says :
-      (x : Reads X) (f : X → List ℕ → Reads Y) → Says P Q x → ((n : Refusal) (s : List ℕ) → Q n s → Q′ n s) →
+      (x : Parsing X) (f : X → List ℕ → Parsing Y) → Says P Q x → ((n : Refusal) (s : List ℕ) → Q n s → Q′ n s) →
       ((a : X) (s : List ℕ) → P a s → Says P′ Q′ (f a s)) → Says P′ Q′ (then x f)
   unfolding then
   then-says (found a s) f h q p = p a s h
   then-says (fault n s) f h q p = q n s h
 
 pub says-map :
-    {X : Type 0} (P P′ : X → List ℕ → Type 0) (Q : Refusal → List ℕ → Type 0) (x : Reads X) → Says P Q x → ((a : X) (s : List ℕ) → P a s → P′ a s) →
+    {X : Type 0} (P P′ : X → List ℕ → Type 0) (Q : Refusal → List ℕ → Type 0) (x : Parsing X) → Says P Q x → ((a : X) (s : List ℕ) → P a s → P′ a s) →
     Says P′ Q x
 says-map P P′ Q (found a s) h p = p a s h
 says-map P P′ Q (fault n s) h p = h
 
 -- `then` and a branch of two answers that are the same
 pub then-same :
-    {X Y : Type 0} (x x′ : Reads X) (f f′ : X → List ℕ → Reads Y) → x ≡ x′ →
+    {X Y : Type 0} (x x′ : Parsing X) (f f′ : X → List ℕ → Parsing Y) → x ≡ x′ →
     ((a : X) (s : List ℕ) → x′ ≡ found a s → f a s ≡ f′ a s) → then x f ≡ then x′ f′
 unfolding then
 then-same x x′ f f′ e g = rw e (by x′ refl)
   where
-    by : (y : Reads _) → x′ ≡ y → then y f ≡ then y f′
+    by : (y : Parsing _) → x′ ≡ y → then y f ≡ then y f′
     by (found a s) k = g a s k
     by (fault n s) k = refl
 
@@ -81,7 +80,7 @@ branch-same false x y x′ y′ f g = g refl
 
 -- what was found by going on was found behind something
 pub then-found :
-    {X Y : Type 0} (x : Reads X) (f : X → List ℕ → Reads Y) (b : Y) (r : List ℕ) → then x f ≡ found b r →
+    {X Y : Type 0} (x : Parsing X) (f : X → List ℕ → Parsing Y) (b : Y) (r : List ℕ) → then x f ≡ found b r →
     (a : X) × (s : List ℕ) × (x ≡ found a s) × (f a s ≡ found b r)
 unfolding then
 then-found (found a s) f b r e = (a, s, refl, e)

@@ -1,6 +1,5 @@
 -- What the tree of a text has: a label in each set and counts in range, hence a letter at least. Letters may be counted up to 128 and no
--- further. Assumes nothing.
--- Used in 7 other crates.
+-- further.
 use mathlib.Core.Path.{_≡_, ap, _∙_}
 use mathlib.Core.Logic.{_⊎_, inl, inr}
 use mathlib.Core.List.{List, []}

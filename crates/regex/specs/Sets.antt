@@ -1,16 +1,15 @@
--- An ordinary character, `.` or a bracket, as a set of bytes (document 01, "Expression text"). Assumes nothing.
--- Used by 11 files of specs/; in 9 other crates.
+-- An ordinary character, `.` or a bracket, as a set of bytes (document 01, "Expression text").
 use mathlib.Core.Option.{Option, some, none}
 use mathlib.Core.List.{List, [], _∷_}
 use mathlib.Core.Bool.{Bool, true, false, not, _&&_, _||_}
 use Prim.Native.Nat.{ℕ}
 use Prim.Native.Char.{code}
 use lib.Dec.{eqb, leb}
-use Rattle.refusal.specs.declared.Refusal.the-variants as row
+use Rattle.refusal.specs.declared.Refusal.the-variants as refusal
 use Rattle.text.specs.Bytes.{bytes}
 use Rattle.regex.specs.Tree.{Range, range, Set, only, except}
 use Rattle.regex.specs.Letters.{labelsOf}
-use Rattle.regex.specs.Text.{Reads, found, fault, then, enclosed}
+use Rattle.regex.specs.Parsing.{Parsing, found, fault, then, enclosed}
 use Rattle.text.specs.Text.{one-of, next, next-of, rest, in-front, split}
 use Rattle.lists.specs.Cases.{when, first-of, provided}
 
@@ -47,10 +46,10 @@ unfoldable pub members : List ℕ → Option (List Range)
 members i = provided (not (reserved i)) (items true i)
 
 -- the bytes of these items or all others, where s stands behind the `[` or `[^` with which w begins
-unfoldable pub inside : (List Range → Set) → List ℕ → List ℕ → Reads Set
-inside f w s = then (enclosed row.Bracket w members (closed s)) (λ rs r. found (f rs) r)
+unfoldable pub inside : (List Range → Set) → List ℕ → List ℕ → Parsing Set
+inside f w s = then (enclosed refusal.Bracket w members (closed s)) (λ rs r. found (f rs) r)
 
-unfoldable pub bracket : List ℕ → List ℕ → Reads Set
+unfoldable pub bracket : List ℕ → List ℕ → Parsing Set
 bracket w s = elim (next "^" s) [ true ↦ inside except w (rest s) | false ↦ inside only w s ]
 
 -- "`\` makes one of `^ . [ $ ( ) | * + ? { \` ordinary. `]` and `}` outside brackets are ordinary."
@@ -62,23 +61,23 @@ abbrev pub alone : ℕ → Set
 alone b = only (range b b ∷ [])
 
 -- s stands behind the `\` with which w begins
-unfoldable pub escaped : List ℕ → List ℕ → Reads Set
-escaped w [] = fault row.MisplacedSign w
-escaped w (b ∷ s) = elim (special b) [ true ↦ found (alone b) s | false ↦ fault row.MisplacedSign w ]
+unfoldable pub escaped : List ℕ → List ℕ → Parsing Set
+escaped w [] = fault refusal.MisplacedSign w
+escaped w (b ∷ s) = elim (special b) [ true ↦ found (alone b) s | false ↦ fault refusal.MisplacedSign w ]
 
 -- Row 4: where a set should begin, `*` `+` `?` `{` are a "repetition with nothing to repeat, or after another", `|` `)` and the text's end
 -- leave an "empty branch or group", `^` and `$` are "unescaped outside brackets".
-unfoldable pub a-set : List ℕ → Reads Set
-a-set [] = fault row.MisplacedSign []
+unfoldable pub a-set : List ℕ → Parsing Set
+a-set [] = fault refusal.MisplacedSign []
 a-set (b ∷ s) =
     first-of
     (when (eqb b (code "\\")) (escaped (b ∷ s) s)
     ∷ when (eqb b (code ".")) (found (except []) s)
     ∷ when (eqb b (code "[")) (bracket (b ∷ s) s)
-    ∷ when (special b) (fault row.MisplacedSign (b ∷ s))
+    ∷ when (special b) (fault refusal.MisplacedSign (b ∷ s))
     ∷ [])
     (found (alone b) s)
 
 -- "Members outside the alphabet are ignored." Row 8: "ordinary character not in the alphabet, or bracket with no label".
-unfoldable pub labelled-set : List ℕ → List ℕ → Reads Set
-labelled-set A s = then (a-set s) (λ c r. elim (eqb (labelsOf A c) 0) [ true ↦ fault row.Foreign s | false ↦ found c r ])
+unfoldable pub labelled-set : List ℕ → List ℕ → Parsing Set
+labelled-set A s = then (a-set s) (λ c r. elim (eqb (labelsOf A c) 0) [ true ↦ fault refusal.Foreign s | false ↦ found c r ])

@@ -1,6 +1,5 @@
 -- Every byte that a text may have, by itself and after `\`: which are ordinary, which are signs, and which become ordinary
--- (document 01, "Expression text"). Assumes nothing.
--- Computed examples: nothing uses them.
+-- (document 01, "Expression text").
 use mathlib.Core.Path.{_≡_, refl}
 use mathlib.Core.List.{List, [], _∷_, map}
 use mathlib.Core.Bool.{not}
@@ -11,11 +10,11 @@ use Rattle.refusal.specs.declared.Refusal.the-variants.{MisplacedSign, Bracket}
 use Rattle.text.specs.Bytes.{bytes}
 use Rattle.regex.specs.Tree.{range, only, except, Tree, set}
 use Rattle.regex.specs.Letters.{labelsOf}
-use Rattle.regex.specs.Text.{Reads, found, fault, then, enclosed}
+use Rattle.regex.specs.Parsing.{Parsing, found, fault, then, enclosed}
 use Rattle.text.specs.Text.{one-of, split}
 use Rattle.lists.specs.Cases.{first-of}
 use Rattle.regex.specs.Sets.{closed, inside, bracket, escaped, a-set, labelled-set}
-use Rattle.regex.specs.Read.{grouped, step, go, read, whole, expressionOf}
+use Rattle.regex.specs.Parse.{grouped, step, go, parse, whole, expressionOf}
 use Rattle.regex.specs.Places.{misplaced}
 
 -- the bytes 32 to 126, here the alphabet too
@@ -31,7 +30,7 @@ abbrev ordinary : List ℕ
 ordinary = bytes " !\"#%&',-/0123456789:;<=>@ABCDEFGHIJKLMNOPQRSTUVWXYZ]_`abcdefghijklmnopqrstuvwxyz}~"
 
 -- the character b and no other
-abbrev itself : ℕ → Reads Tree
+abbrev itself : ℕ → Parsing Tree
 itself b = found (set (only (range b b ∷ []))) []
 
 record Examples : Type 0 where
@@ -53,5 +52,5 @@ record Examples : Type 0 where
       ≡ map (λ b. fault MisplacedSign (b ∷ [])) (keep (λ b. misplaced (b ∷ [])) every)
 
 examples : Examples
-unfolding keep numbers labelsOf then first-of split enclosed closed inside bracket escaped a-set labelled-set grouped step go read whole expressionOf
+unfolding keep numbers labelsOf then first-of split enclosed closed inside bracket escaped a-set labelled-set grouped step go parse whole expressionOf
 examples = record { others = refl; character = refl; sign = refl; escaped-sign = refl; escaped-character = refl; misplaced-signs = refl }

@@ -1,16 +1,15 @@
--- What a reading says, by its steps: what is found has a text, and what stands in front of a fault can be continued. Assumes nothing.
--- Used by Exact, Leftmost and Steps; in positions_build and regex_parse.
+-- What a reading says, by its steps: what is found has a text, and what stands in front of a fault can be continued.
 use mathlib.Core.Path.{_≡_, refl}
 use mathlib.Core.List.{List}
 use mathlib.Core.Bool.{true}
 use Prim.Native.Nat.{ℕ, zero, suc}
 use native.Mathlib.Omega.{arith}
 use Rattle.regex.specs.Tree.{Tree}
-use Rattle.regex.specs.Text.{Reads}
+use Rattle.regex.specs.Parsing.{Parsing}
 use Rattle.text.specs.Text.{next, rest}
 use Rattle.regex.specs.Sets.{labelled-set}
 use Rattle.regex.specs.Repetition.{repeats, repetition}
-use Rattle.regex.specs.Read.{Mode, m-alternation, m-branch, m-piece, m-group, ends, grouped, step, go, measure, read}
+use Rattle.regex.specs.Parse.{Mode, m-alternation, m-branch, m-piece, m-group, ends, grouped, step, go, measure, parse}
 use Rattle.regex.specs.Says.{Says, branch-says, then-says}
 use Rattle.regex.specs.OwnSets.{labelled-set-says}
 use Rattle.regex.specs.OwnCounts.{repetition-says}
@@ -18,10 +17,10 @@ use Rattle.regex.specs.Front.{Front, Stop, looser, stop-looser, stop-her
 
 -- What a step says, where the steps that it asks say so.
 module _ (A : List ℕ) where
-  abbrev pub Sound : (Mode → ℕ → List ℕ → Reads Tree) → Type 0
+  abbrev pub Sound : (Mode → ℕ → List ℕ → Parsing Tree) → Type 0
   Sound f = (m : Mode) (d : ℕ) (s : List ℕ) → Says (Front A m d s) (Stop A m d s) (f m d s)
 
-  module _ (f : Mode → ℕ → List ℕ → Reads Tree) (h : Sound f) where
+  module _ (f : Mode → ℕ → List ℕ → Parsing Tree) (h : Sound f) where
     grouped-sound : (d : ℕ) (s : List ℕ) → next "(" s ≡ true → Says (Front A m-group d s) (Stop A m-group d s) (grouped (f m-alternation) d s)
     unfolding grouped
     grouped-sound zero s k = stop-here A zero m-group s _ s refl
@@ -60,6 +59,6 @@ module _ (A : List ℕ) where
   go-sound zero m d s = stop-here A d m s _ s refl
   go-sound (suc k) m d s = step-sound (go A k) (go-sound k) m d s
 
-  pub read-sound : Sound (read A)
-  unfolding read
-  read-sound m d s = go-sound (suc (measure m s)) m d s
+  pub parse-sound : Sound (parse A)
+  unfolding parse
+  parse-sound m d s = go-sound (suc (measure m s)) m d s

@@ -1,5 +1,4 @@
--- The reading goes forward, and `read` is the one function that satisfies its equation. Assumes nothing.
--- Used by Exact and Places; in positions_build and regex_parse.
+-- The reading goes forward, and `read` is the one function that satisfies its equation.
 use mathlib.Core.Path.{_≡_, refl, sym, ap, _∙_}
 use mathlib.Core.List.{List, [], _∷_}
 use mathlib.Core.Bool.{true}
@@ -8,13 +7,13 @@ use Prim.Native.Char.{Char, code}
 use native.Mathlib.Omega.{arith}
 use lib.ListN.{length, length-append}
 use Rattle.regex.specs.Tree.{Tree}
-use Rattle.regex.specs.Text.{Reads, found}
+use Rattle.regex.specs.Parsing.{Parsing, found}
 use Rattle.text.specs.Text.{next, rest}
-use Rattle.regex.specs.Read.{Mode, m-alternation, m-branch, m-piece, m-group, ends, grouped, step, go, measure, read}
+use Rattle.regex.specs.Parse.{Mode, m-alternation, m-branch, m-piece, m-group, ends, grouped, step, go, measure, parse}
 use Rattle.regex.specs.Says.{of-found, then-same, branch-same}
 use Rattle.regex.specs.Own.{next-is}
 use Rattle.regex.specs.Front.{text-some, Front, Stop}
-use Rattle.regex.specs.Sound.{Sound, go-sound, read-sound}
+use Rattle.regex.specs.Sound.{Sound, go-sound, parse-sound}
 
 pub rest-length : (s : List ℕ) → length (rest s) ≤ length s
 rest-length [] = omega arith
@@ -30,11 +29,11 @@ module _ (A : List ℕ) where
       omega (arith, text-some A t d (f .front) (f .text))
 
   -- what is found leaves less text
-  pub read-forward : (m : Mode) (d : ℕ) (s : List ℕ) (t : Tree) (r : List ℕ) → read A m d s ≡ found t r → length r < length s
-  read-forward m d s t r e = forward m d s t r (of-found (Front A m d s) (Stop A m d s) (read A m d s) t r (read-sound A m d s) e)
+  pub parse-forward : (m : Mode) (d : ℕ) (s : List ℕ) (t : Tree) (r : List ℕ) → parse A m d s ≡ found t r → length r < length s
+  parse-forward m d s t r e = forward m d s t r (of-found (Front A m d s) (Stop A m d s) (parse A m d s) t r (parse-sound A m d s) e)
 
   -- a step asks only steps whose measure is less
-  module _ (f g : Mode → ℕ → List ℕ → Reads Tree) (sound : Sound A g) where
+  module _ (f g : Mode → ℕ → List ℕ → Parsing Tree) (sound : Sound A g) where
     less : (m : Mode) (d : ℕ) (s : List ℕ) (t : Tree) (r : List ℕ) → g m d s ≡ found t r → length r < length s
     less m d s t r e = forward m d s t r (of-found (Front A m d s) (Stop A m d s) (g m d s) t r (sound m d s) e)
 
@@ -74,17 +73,17 @@ module _ (A : List ℕ) where
       step-same (go A k) (go A k′) (go-sound A k′) m d s (λ m′ d′ s′ l. enough k k′ m′ d′ s′ (omega arith) (omega arith))
 
   -- The equation: what is read is one step over what is read of less text.
-  pub read-step : (m : Mode) (d : ℕ) (s : List ℕ) → read A m d s ≡ step A (read A) m d s
-  unfolding read go
-  read-step m d s =
-      step-same (go A (measure m s)) (read A) (read-sound A) m d s (λ m′ d′ s′ l. enough (measure m s) (suc (measure m′ s′)) m′ d′ s′ l (omega arith))
+  pub parse-step : (m : Mode) (d : ℕ) (s : List ℕ) → parse A m d s ≡ step A (parse A) m d s
+  unfolding parse go
+  parse-step m d s =
+      step-same (go A (measure m s)) (parse A) (parse-sound A) m d s (λ m′ d′ s′ l. enough (measure m s) (suc (measure m′ s′)) m′ d′ s′ l (omega arith))
 
   -- Nothing else satisfies it.
-  pub only-read :
-      (f : Mode → ℕ → List ℕ → Reads Tree) → ((m : Mode) (d : ℕ) (s : List ℕ) → f m d s ≡ step A f m d s) →
-      (m : Mode) (d : ℕ) (s : List ℕ) → f m d s ≡ read A m d s
-  only-read f h m d s = by (suc (measure m s)) m d s (omega arith)
+  pub only-parse :
+      (f : Mode → ℕ → List ℕ → Parsing Tree) → ((m : Mode) (d : ℕ) (s : List ℕ) → f m d s ≡ step A f m d s) →
+      (m : Mode) (d : ℕ) (s : List ℕ) → f m d s ≡ parse A m d s
+  only-parse f h m d s = by (suc (measure m s)) m d s (omega arith)
     where
-      by : (k : ℕ) (m : Mode) (d : ℕ) (s : List ℕ) → measure m s < k → f m d s ≡ read A m d s
+      by : (k : ℕ) (m : Mode) (d : ℕ) (s : List ℕ) → measure m s < k → f m d s ≡ parse A m d s
       by zero m d s l = absurd (omega arith)
-      by (suc k) m d s l = h m d s ∙ step-same f (read A) (read-sound A) m d s (λ m′ d′ s′ l′. by k m′ d′ s′ (omega arith)) ∙ sym (read-step m d s)
+      by (suc k) m d s l = h m d s ∙ step-same f (parse A) (parse-sound A) m d s (λ m′ d′ s′ l′. by k m′ d′ s′ (omega arith)) ∙ sym (parse-step m d s)

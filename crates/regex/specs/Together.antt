@@ -1,5 +1,5 @@
 -- Texts put together: what stands behind an expression's text and more room for groups change nothing, `r|s` means the words of r or
--- of s, and the modifier `?` means nothing. Assumes nothing.
+-- of s, and the modifier `?` means nothing.
 -- For the reader: nothing uses it.
 use mathlib.Core.Path.{_≡_, refl}
 use mathlib.Core.Logic.{_↔_, Iff·rfl, Iff·symm, Iff·trans, _⊎_, inl, inr, ⊎-elim, ⊎-map}
@@ -9,12 +9,12 @@ use Prim.Native.Nat.{ℕ, zero, suc, _≤_}
 use Prim.Native.Char.{code}
 use native.Mathlib.Omega.{arith}
 use Rattle.regex.specs.Tree.{Count, Tree, set, group, times, join, either, Words}
-use Rattle.regex.specs.Text.{found}
+use Rattle.regex.specs.Parsing.{found}
 use Rattle.regex.specs.Repetition.{repeats, sign}
-use Rattle.regex.specs.Read.{Mode, m-piece, read, expressionOf}
+use Rattle.regex.specs.Parse.{Mode, m-piece, parse, expressionOf}
 use Rattle.regex.specs.Grammar.{loose, TextOf, WordsOf}
 use Rattle.regex.specs.OwnCounts.{repetition-with, repetition-without}
-use Rattle.regex.specs.Exact.{Follows, read-text, read-whole, exact, words-of-text}
+use Rattle.regex.specs.Exact.{Follows, parse-text, parse-whole, exact, words-of-text}
 
 module _ (A : List ℕ) where
   pub roomier : (t : Tree) (d e : ℕ) → d ≤ e → (s : List ℕ) → TextOf A d t s → TextOf A e t s
@@ -28,10 +28,10 @@ module _ (A : List ℕ) where
 
   -- A text that is read whole is read to the same tree where at least as many groups may be opened, in front of anything that may follow:
   -- a branch in front of `|`, `)` and the end, an alternation in front of `)` and the end.
-  pub read-in-front :
-      (m : Mode) (d e : ℕ) → d ≤ e → (s : List ℕ) (t : Tree) → read A m d s ≡ found t [] → (w : List ℕ) → Follows m w →
-      read A m e (s ++ w) ≡ found t w
-  read-in-front m d e l s t h w k = let g = read-whole A m d s t .0 h in read-text A t e s (roomier t d e l s (g .0)) m (g .1) w k
+  pub parse-in-front :
+      (m : Mode) (d e : ℕ) → d ≤ e → (s : List ℕ) (t : Tree) → parse A m d s ≡ found t [] → (w : List ℕ) → Follows m w →
+      parse A m e (s ++ w) ≡ found t w
+  parse-in-front m d e l s t h w k = let g = parse-whole A m d s t .0 h in parse-text A t e s (roomier t d e l s (g .0)) m (g .1) w k
 
 -- The alternation of r, itself perhaps an alternation, and s: the tree of `r|s`, since alternations nest to the right.
 abbrev pub beside : Tree → Tree → Tree
@@ -79,9 +79,9 @@ module _ (A : List ℕ) where
   pub modifier :
       (d : ℕ) (t : Tree) (u : List ℕ) → TextOf A d t u → loose t ≤ 0 → (v : List ℕ) (c : Count) → sign v ≡ found c [] →
       (w : List ℕ) → repeats w ≡ false →
-      (read A m-piece d (u ++ (v ++ w)) ≡ found (times t c) w) × (read A m-piece d (u ++ (v ++ (code "?" ∷ w))) ≡ found (times t c) w)
+      (parse A m-piece d (u ++ (v ++ w)) ≡ found (times t c) w) × (parse A m-piece d (u ++ (v ++ (code "?" ∷ w))) ≡ found (times t c) w)
   modifier d t u h l v c e w k =
       let v′ = v ++ (code "?" ∷ []) in
-      let g = read-text A (times t c) d (u ++ v) (u, v, refl, h, l, repetition-without v c e) m-piece (omega arith) w k in
-      let g′ = read-text A (times t c) d (u ++ v′) (u, v′, refl, h, l, repetition-with v c e) m-piece (omega arith) w k in
+      let g = parse-text A (times t c) d (u ++ v) (u, v, refl, h, l, repetition-without v c e) m-piece (omega arith) w k in
+      let g′ = parse-text A (times t c) d (u ++ v′) (u, v′, refl, h, l, repetition-with v c e) m-piece (omega arith) w k in
       (rw append-assoc at g, (simp append-assoc at g′))

@@ -1,5 +1,4 @@
--- An expression as a tree, and its set of words over an alphabet (document 01, "Expression text"). Assumes nothing.
--- Used by 19 files of specs/; in 10 other crates.
+-- An expression as a tree, and its set of words over an alphabet (document 01, "Expression text").
 use mathlib.Core.Path.{_≡_}
 use mathlib.Core.Logic.{_⊎_}
 use mathlib.Core.List.{List, [], _∷_, _++_}

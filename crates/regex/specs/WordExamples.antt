@@ -1,6 +1,5 @@
 -- Small sets of words: a range goes by byte value, a complement stays within the alphabet, a repetition joins as many words as it
--- allows, `|` means either side. Assumes nothing.
--- Computed examples: nothing uses them.
+-- allows, `|` means either side.
 use mathlib.Core.Path.{_≡_, refl, ap, _∙_}
 use mathlib.Core.Logic.{_↔_, inr}
 use mathlib.Core.List.{List, [], _∷_}

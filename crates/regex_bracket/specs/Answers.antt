@@ -1,10 +1,9 @@
--- What the functions that find a set answer, by the definitions of `expression`. Assumes nothing.
--- Used by the contracts and Brackets; in positions_build, compile, positions_letters and regex_set.
+-- What the functions that find a set answer, by the definitions of `expression`.
 use mathlib.Core.List.{List, []}
 use mathlib.Core.Bool.{Bool, true, false, cond}
 use Prim.Native.Nat.{ℕ, _+_}
 use Rattle.regex.specs.Tree.{Set, only}
-use Rattle.regex.specs.Text.{Reads, found, fault}
+use Rattle.regex.specs.Parsing.{Parsing, found, fault}
 use Rattle.text.specs.Text.{place, until}
 use Rattle.regex_bracket.specs.declared.End.{End}
 use Rattle.regex_bracket.specs.declared.End.the-variants as end
@@ -14,16 +13,16 @@ use lib.Dec.{eqb}
 use Rattle.regex.specs.Sets.{bracket}
 
 -- where what was found in the text ends, or the refusal
-abbrev pub endOf : {X : Type 0} → List ℕ → Reads X → End
+abbrev pub endOf : {X : Type 0} → List ℕ → Parsing X → End
 endOf text (found a r) = end.At (place text r)
 endOf text (fault n r) = end.Refused n
 
 -- something was found, and the set that was
-abbrev pub is-found : {X : Type 0} → Reads X → Bool
+abbrev pub is-found : {X : Type 0} → Parsing X → Bool
 is-found (found a r) = true
 is-found (fault n r) = false
 
-abbrev pub setOf : Reads Set → Set
+abbrev pub setOf : Parsing Set → Set
 setOf (found c r) = c
 setOf (fault n r) = only []
 
@@ -39,5 +38,5 @@ closing text first =
     (first + until (code "]") (drop first text))
 
 -- the bracket that begins at a place
-abbrev pub bracketAt : List ℕ → ℕ → Reads Set
+abbrev pub bracketAt : List ℕ → ℕ → Parsing Set
 bracketAt text at = bracket (drop at text) (drop (at + 1) text)

@@ -1,5 +1,4 @@
--- The bracket at a place of a text: its first item and its closing `]`, its end and its members. Assumes nothing.
--- Used by the contracts and the proofs; in regex_set.
+-- The bracket at a place of a text: its first item and its closing `]`, its end and its members.
 use mathlib.Core.Path.{_≡_, refl, sym, ap, _∙_}
 use mathlib.Core.Option.{Option, some, none}
 use mathlib.Core.List.{List, _∷_}
@@ -13,9 +12,9 @@ use lib.Dec.{eqb}
 use borrow.Author.Tests.{eqb-true, eq-eqb, ne-eqb}
 use Rattle.lists.specs.EachLaws.{drop-here}
 use Rattle.lists.specs.OrderLaws.{lt-or-le, not-both}
-use Rattle.refusal.specs.declared.Refusal.the-variants as row
+use Rattle.refusal.specs.declared.Refusal.the-variants as refusal
 use Rattle.regex.specs.Tree.{Range, Set, only, except, member, among}
-use Rattle.regex.specs.Text.{Reads, found, fault, then, enclosed}
+use Rattle.regex.specs.Parsing.{Parsing, found, fault, then, enclosed}
 use Rattle.text.specs.Text.{rest, in-front, split, until}
 use Rattle.regex.specs.Sets.{closed, members, inside, bracket}
 use Rattle.text.specs.TextLaws.{split-found, split-missing, byte-within, next-at, rest-at, place-drop}
@@ -103,8 +102,8 @@ module _ (text : List ℕ) (first : ℕ) where
       by false q e k l = split-missing "]" text first e k h l
 
 -- what a bracket gives whose inside gives these ranges, if it does
-abbrev given : (List Range → Set) → List ℕ → Option (List Range) → List ℕ → Reads Set
-given f w none r = fault row.Bracket w
+abbrev given : (List Range → Set) → List ℕ → Option (List Range) → List ℕ → Parsing Set
+given f w none r = fault refusal.Bracket w
 given f w (some rs) r = found (f rs) r
 
 -- complemented or not
@@ -121,7 +120,7 @@ bracket-inside text at = rw (next-at "^" text (at + 1) refl, bracket) (by (compl
   where
     by :
         (t : Bool) →
-        _≡_ {A = Reads Set} (elim t [
+        _≡_ {A = Parsing Set} (elim t [
           | true ↦ inside except (drop at text) (rest (drop (at + 1) text))
           | false ↦ inside only (drop at text) (drop (at + 1) text)
         ]) (inside (kind t) (drop at text) (drop (cond t (at + 2) (at + 1)) text))
@@ -142,7 +141,7 @@ module _ {text : List ℕ} {at first e : ℕ} (b : Bracket text at first e) wher
   pub bracket-order : first ≤ e
   bracket-order = rw (b .closes) (closing-behind text first)
 
-  unclosed : length text ≤ e → bracketAt text at ≡ fault row.Bracket (drop at text)
+  unclosed : length text ≤ e → bracketAt text at ≡ fault refusal.Bracket (drop at text)
   unfolding inside enclosed then
   unclosed h =
       let l : first ≤ length text = rw (b .opens) (opened-within text at (b .begins)) in
@@ -150,7 +149,7 @@ module _ {text : List ℕ} {at first e : ℕ} (b : Bracket text at first e) wher
       ∙ rw (closed-missing text first l (rw (b .closes) at h), inside)
 
   -- what it gives, from its inside
-  gives : Option (List Range) → Reads Set
+  gives : Option (List Range) → Parsing Set
   gives x = given (kind (complements text at)) (drop at text) x (drop (e + 1) text)
 
   is-closed : e < length text → bracketAt text at ≡ gives (members (between text first e))
@@ -158,26 +157,26 @@ module _ {text : List ℕ} {at first e : ℕ} (b : Bracket text at first e) wher
   is-closed h =
       let q : closed (drop first text) ≡ some (between text first e, drop (e + 1) text) = rw (b .closes) (closed-found text first (rw (b .closes) at h)) in
       bracket-inside text at ∙ ap (λ i. inside (kind (complements text at)) (drop at text) (drop i text)) (sym (b .opens))
-      ∙ ap (λ y. then (enclosed row.Bracket (drop at text) members y) (λ rs r. found (kind (complements text at) rs) r)) q
+      ∙ ap (λ y. then (enclosed refusal.Bracket (drop at text) members y) (λ rs r. found (kind (complements text at) rs) r)) q
       ∙ by (members (between text first e))
     where
       by :
           (x : Option (List Range)) →
-          then (elim x as (λ _. Reads (List Range)) [ none ↦ fault row.Bracket (drop at text) | some a ↦ found a (drop (e + 1) text) ])
+          then (elim x as (λ _. Parsing (List Range)) [ none ↦ fault refusal.Bracket (drop at text) | some a ↦ found a (drop (e + 1) text) ])
           (λ rs r. found (kind (complements text at) rs) r)
           ≡ gives x
       by none = refl
       by (some rs) = refl
 
   -- where it ends
-  pub bracket-unclosed : length text ≤ e → end.Refused row.Bracket ≡ endOf text (bracketAt text at)
+  pub bracket-unclosed : length text ≤ e → end.Refused refusal.Bracket ≡ endOf text (bracketAt text at)
   bracket-unclosed h = sym (ap (endOf text) (unclosed h))
 
-  pub bracket-spoilt : e < length text → is-some (members (between text first e)) ≡ false → end.Refused row.Bracket ≡ endOf text (bracketAt text at)
+  pub bracket-spoilt : e < length text → is-some (members (between text first e)) ≡ false → end.Refused refusal.Bracket ≡ endOf text (bracketAt text at)
   unfolding gives
   bracket-spoilt h s = by (members (between text first e)) s ∙ sym (ap (endOf text) (is-closed h))
     where
-      by : (x : Option (List Range)) → is-some x ≡ false → end.Refused row.Bracket ≡ endOf text (gives x)
+      by : (x : Option (List Range)) → is-some x ≡ false → end.Refused refusal.Bracket ≡ endOf text (gives x)
       by none s = refl
       by (some rs) s = let z : _≡_ {A = ℕ} 0 1 = cc in absurd (omega arith)
 

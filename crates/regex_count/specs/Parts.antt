@@ -1,12 +1,11 @@
--- Parts of a text as the parser answers them: joined, repeated, in parentheses; and where a branch ends. Assumes nothing.
--- Used by the contracts and the proofs; in regex_parse.
+-- Parts of a text as the parser answers them: joined, repeated, in parentheses; and where a branch ends.
 use mathlib.Core.List.{List}
 use mathlib.Core.Bool.{cond}
 use Prim.Native.Nat.{ℕ, _+_, _*_}
 use Prim.Native.Char.{code}
 use lib.ListN.{getD}
 use lib.Dec.{eqb}
-use Rattle.refusal.specs.declared.Refusal.the-variants as row
+use Rattle.refusal.specs.declared.Refusal.the-variants as refusal
 use Rattle.regex.specs.Tree.{onward}
 use Rattle.regex.specs.Letters.{copiesOf}
 use Rattle.regex.specs.Few.{few}
@@ -17,16 +16,16 @@ use Rattle.regex_repetition.specs.declared.Repeats.the-variants as count
 
 -- a part that goes on behind n letters
 abbrev pub add : ℕ → Part → Part
-add n (part.Read e m) = part.Read e (few (n + m))
+add n (part.Found e m) = part.Found e (few (n + m))
 add n (part.Refused x) = part.Refused x
 
 -- a part of n letters, repeated
 abbrev pub repeated : ℕ → Repeats → Part
-repeated n (count.Between least most e) = part.Read e (few (most * n))
-repeated n (count.Onward least e) = part.Read e (few (copiesOf (onward least) * n))
+repeated n (count.Between least most e) = part.Found e (few (most * n))
+repeated n (count.Onward least e) = part.Found e (few (copiesOf (onward least) * n))
 repeated n (count.Refused x) = part.Refused x
 
 -- a group's content, and the `)` behind it
 abbrev pub closed : List ℕ → Part → Part
-closed text (part.Read e n) = cond (eqb (getD text e 0) (code ")")) (part.Read (e + 1) n) (part.Refused row.MisplacedSign)
+closed text (part.Found e n) = cond (eqb (getD text e 0) (code ")")) (part.Found (e + 1) n) (part.Refused refusal.MisplacedSign)
 closed text (part.Refused x) = part.Refused x

@@ -7,18 +7,18 @@ use Prim.Native.Char.{code}
 use lib.ListN.{length, getD, drop}
 use borrow.Author.Tests.{eq-eqb, ne-eqb}
 use Rattle.lists.specs.EachLaws.{drop-here, drop-all}
-use Rattle.refusal.specs.declared.Refusal.the-variants as row
+use Rattle.refusal.specs.declared.Refusal.the-variants as refusal
 use Rattle.text.specs.Bytes.{bytes}
 use Rattle.text.specs.Text.{one-of}
-use Rattle.regex.specs.Read.{ends}
+use Rattle.regex.specs.Parse.{ends}
 use Rattle.regex_set.specs.declared.Part.the-variants as part
 use Rattle.regex_count.specs.Parts.{closed}
 
 module _ (text : List ℕ) (e n : ℕ) where
-  pub closed-is : getD text e 0 ≡ code ")" → part.Read (e + 1) n ≡ closed text (part.Read e n)
+  pub closed-is : getD text e 0 ≡ code ")" → part.Found (e + 1) n ≡ closed text (part.Found e n)
   closed-is k = rw (eq-eqb (getD text e 0) (code ")") k)
 
-  pub closed-not : (getD text e 0 ≡ code ")" → ⊥) → part.Refused row.MisplacedSign ≡ closed text (part.Read e n)
+  pub closed-not : (getD text e 0 ≡ code ")" → ⊥) → part.Refused refusal.MisplacedSign ≡ closed text (part.Found e n)
   closed-not k = rw (ne-eqb (getD text e 0) (code ")") k)
 
 -- a branch ends here

@@ -1,5 +1,4 @@
--- Sums and products counted up to 128. Assumes nothing.
--- Used by the proofs; in regex_parse.
+-- Sums and products counted up to 128.
 use mathlib.Core.Path.{_≡_, refl, ap}
 use Prim.Native.Nat.{ℕ, zero, suc, _*_, _≤_, _<_}
 use native.Mathlib.Omega.{arith}

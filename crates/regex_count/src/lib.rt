@@ -14,7 +14,7 @@ ghost use Rattle.regex.specs.Tree.{onward};
 ghost use Rattle.regex.specs.Letters.{copiesOf};
 ghost use Rattle.regex.specs.Few.{few};
 ghost use Rattle.regex.specs.Repetition.{repeats as repeatsHere};
-ghost use Rattle.regex.specs.Read.{ends};
+ghost use Rattle.regex.specs.Parse.{ends};
 ghost use Rattle.regex_count.specs.Parts.{add, repeated as repeatedOf, closed as closedOf};
 
 // n + m, up to 128.
@@ -62,7 +62,7 @@ pub fn added(n: usize, rest: Part) -> Part
 {
     match rest {
         Part::Refused(x) => Part::Refused(x),
-        Part::Read(e, m) => Part::Read(e, sum(n, m)),
+        Part::Found(e, m) => Part::Found(e, sum(n, m)),
     }
 }
 
@@ -72,8 +72,8 @@ pub fn repeated(n: usize, r: Repeats) -> Part
 {
     match r {
         Repeats::Refused(x) => Part::Refused(x),
-        Repeats::Between(_, most, e) => Part::Read(e, product(most, n)),
-        Repeats::Onward(least, e) => Part::Read(e, product(copies(least), n)),
+        Repeats::Between(_, most, e) => Part::Found(e, product(most, n)),
+        Repeats::Onward(least, e) => Part::Found(e, product(copies(least), n)),
     }
 }
 
@@ -83,9 +83,9 @@ pub fn closed(text: &[u8], content: Part) -> Part
 {
     match content {
         Part::Refused(x) => Part::Refused(x),
-        Part::Read(e, n) => {
+        Part::Found(e, n) => {
             if peek(text, e) == b')' {
-                return Part::Read(e + 1, n);
+                return Part::Found(e + 1, n);
             }
             Part::Refused(Refusal::MisplacedSign)
         }

@@ -1,6 +1,5 @@
 -- What is left inside a bracket begins with an item: its range, how many bytes it takes, and whether it may stand there; the rule of
--- `items` by that. Assumes nothing.
--- Used by the contracts and the proofs; in regex_bracket.
+-- `items` by that.
 use mathlib.Core.Option.{Option, some, none}
 use mathlib.Core.List.{List, [], _∷_}
 use mathlib.Core.Bool.{Bool, true, false, cond, _&&_, _||_}

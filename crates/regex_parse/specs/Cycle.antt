@@ -1,5 +1,4 @@
--- What each function of the cycle answers, from what the functions that it calls answer: one lemma for each return. Assumes nothing.
--- Used by the proofs.
+-- What each function of the cycle answers, from what the functions that it calls answer: one lemma for each return.
 use mathlib.Core.Path.{_≡_, refl, sym, ap, ap₂, _∙_}
 use mathlib.Core.List.{List}
 use mathlib.Core.Bool.{Bool, true, false, cond}
@@ -10,16 +9,16 @@ use lib.ListN.{getD, drop}
 use lib.Dec.{eqb}
 use borrow.Author.Tests.{eqb-true, eq-eqb, ne-eqb}
 use Rattle.refusal.specs.declared.Refusal.{Refusal}
-use Rattle.refusal.specs.declared.Refusal.the-variants as row
+use Rattle.refusal.specs.declared.Refusal.the-variants as refusal
 use Rattle.regex.specs.Tree.{Count, between, onward, Tree, group, times, join, either}
-use Rattle.regex.specs.Text.{Reads, found, fault, then}
+use Rattle.regex.specs.Parsing.{Parsing, found, fault, then}
 use Rattle.text.specs.Text.{next, rest, place}
 use Rattle.regex.specs.Letters.{copiesOf, letterCount}
 use Rattle.regex.specs.Sense.{few-add}
 use Rattle.regex.specs.Few.{few}
 use Rattle.regex.specs.Repetition.{repeats, repetition}
-use Rattle.regex.specs.Read.{Mode, m-alternation, m-branch, m-piece, m-group, ends, grouped, step, read}
-use Rattle.regex.specs.Steps.{read-step}
+use Rattle.regex.specs.Parse.{Mode, m-alternation, m-branch, m-piece, m-group, ends, grouped, step, parse}
+use Rattle.regex.specs.Steps.{parse-step}
 use Rattle.regex_set.specs.declared.Part.{Part}
 use Rattle.regex_set.specs.declared.Part.the-variants as part
 use Rattle.text.specs.TextLaws.{place-drop, next-at, rest-at, byte-is}
@@ -33,50 +32,50 @@ module _ (A text : List ℕ) where
   -- what is made of a tree that was read, where its letters are known
   part-under :
       (f : Tree → Tree) (g : ℕ → ℕ) → ((t : Tree) → few (letterCount A (f t)) ≡ g (few (letterCount A t))) → (p : Part → Part) →
-      ((e n : ℕ) → p (part.Read e n) ≡ part.Read e (g n)) → ((x : Refusal) → p (part.Refused x) ≡ part.Refused x) → (x : Reads Tree) →
+      ((e n : ℕ) → p (part.Found e n) ≡ part.Found e (g n)) → ((x : Refusal) → p (part.Refused x) ≡ part.Refused x) → (x : Parsing Tree) →
       p (partOf A text x) ≡ partOf A text (then x (λ t s. found (f t) s))
   unfolding then
-  part-under f g h p a b (found t r) = a (place text r) (few (letterCount A t)) ∙ ap (part.Read (place text r)) (sym (h t))
+  part-under f g h p a b (found t r) = a (place text r) (few (letterCount A t)) ∙ ap (part.Found (place text r)) (sym (h t))
   part-under f g h p a b (fault x r) = b x
 
-  add-either : (t : Tree) (x : Reads Tree) → add (few (letterCount A t)) (partOf A text x) ≡ partOf A text (then x (λ u s. found (either t u) s))
+  add-either : (t : Tree) (x : Parsing Tree) → add (few (letterCount A t)) (partOf A text x) ≡ partOf A text (then x (λ u s. found (either t u) s))
   unfolding letterCount
   add-either t x =
       part-under (either t) (λ m. few (few (letterCount A t) + m)) (λ u. sym (few-add (letterCount A t) (letterCount A u))) (add (few (letterCount A t)))
       (λ e n. refl) (λ x. refl) x
 
-  add-join : (t : Tree) (x : Reads Tree) → add (few (letterCount A t)) (partOf A text x) ≡ partOf A text (then x (λ u s. found (join t u) s))
+  add-join : (t : Tree) (x : Parsing Tree) → add (few (letterCount A t)) (partOf A text x) ≡ partOf A text (then x (λ u s. found (join t u) s))
   unfolding letterCount
   add-join t x =
       part-under (join t) (λ m. few (few (letterCount A t) + m)) (λ u. sym (few-add (letterCount A t) (letterCount A u))) (add (few (letterCount A t)))
       (λ e n. refl) (λ x. refl) x
 
   times-repeated :
-      (t : Tree) (x : Reads Count) → repeated (few (letterCount A t)) (repeatsOf text x) ≡ partOf A text (then x (λ c s. found (times t c) s))
+      (t : Tree) (x : Parsing Count) → repeated (few (letterCount A t)) (repeatsOf text x) ≡ partOf A text (then x (λ c s. found (times t c) s))
   unfolding then letterCount
-  times-repeated t (found (between n m) r) = ap (part.Read (place text r)) (few-times m (letterCount A t))
-  times-repeated t (found (onward n) r) = ap (part.Read (place text r)) (few-times (copiesOf (onward n)) (letterCount A t))
+  times-repeated t (found (between n m) r) = ap (part.Found (place text r)) (few-times m (letterCount A t))
+  times-repeated t (found (onward n) r) = ap (part.Found (place text r)) (few-times (copiesOf (onward n)) (letterCount A t))
   times-repeated t (fault x r) = refl
 
   -- The steps, with the test at hand.
-  abbrev bar : Bool → ℕ → Tree → List ℕ → Reads Tree
-  bar b d t s = elim b [ true ↦ then (read A m-alternation d (rest s)) (λ u r. found (either t u) r) | false ↦ found t s ]
+  abbrev bar : Bool → ℕ → Tree → List ℕ → Parsing Tree
+  bar b d t s = elim b [ true ↦ then (parse A m-alternation d (rest s)) (λ u r. found (either t u) r) | false ↦ found t s ]
 
-  abbrev last : Bool → ℕ → Tree → List ℕ → Reads Tree
-  last b d t s = elim b [ true ↦ found t s | false ↦ then (read A m-branch d s) (λ u r. found (join t u) r) ]
+  abbrev last : Bool → ℕ → Tree → List ℕ → Parsing Tree
+  last b d t s = elim b [ true ↦ found t s | false ↦ then (parse A m-branch d s) (λ u r. found (join t u) r) ]
 
-  abbrev repeating : Bool → Tree → List ℕ → Reads Tree
+  abbrev repeating : Bool → Tree → List ℕ → Parsing Tree
   repeating b t s = elim b [ true ↦ then (repetition s) (λ c r. found (times t c) r) | false ↦ found t s ]
 
-  abbrev closing : Bool → Tree → List ℕ → Reads Tree
-  closing b t s = elim b [ true ↦ found (group t) (rest s) | false ↦ fault row.MisplacedSign s ]
+  abbrev closing : Bool → Tree → List ℕ → Parsing Tree
+  closing b t s = elim b [ true ↦ found (group t) (rest s) | false ↦ fault refusal.MisplacedSign s ]
 
-  abbrev opening : Bool → ℕ → List ℕ → Reads Tree
-  opening b d s = elim b [ true ↦ grouped (read A m-alternation) d s | false ↦ set-tree A s ]
+  abbrev opening : Bool → ℕ → List ℕ → Parsing Tree
+  opening b d s = elim b [ true ↦ grouped (parse A m-alternation) d s | false ↦ set-tree A s ]
 
   -- A refusal is handed on.
   then-refused :
-      (f : Tree → List ℕ → Reads Tree) (x : Refusal) (y : Reads Tree) → part.Refused x ≡ partOf A text y → part.Refused x ≡ partOf A text (then y f)
+      (f : Tree → List ℕ → Parsing Tree) (x : Refusal) (y : Parsing Tree) → part.Refused x ≡ partOf A text y → part.Refused x ≡ partOf A text (then y f)
   unfolding then
   then-refused f x (found t r) h = let z : _≡_ {A = ℕ} 0 1 = cc in absurd (omega arith)
   then-refused f x (fault n r) h = h
@@ -85,32 +84,32 @@ module _ (A text : List ℕ) where
     pub alternation-refused : part.Refused x ≡ partAt A text m-branch d at → part.Refused x ≡ partAt A text m-alternation d at
     unfolding step
     alternation-refused h =
-        then-refused _ x (read A m-branch d (drop at text)) h ∙ ap (partOf A text) (sym (read-step A m-alternation d (drop at text)))
+        then-refused _ x (parse A m-branch d (drop at text)) h ∙ ap (partOf A text) (sym (parse-step A m-alternation d (drop at text)))
 
     pub branch-refused : part.Refused x ≡ partAt A text m-piece d at → part.Refused x ≡ partAt A text m-branch d at
     unfolding step
-    branch-refused h = then-refused _ x (read A m-piece d (drop at text)) h ∙ ap (partOf A text) (sym (read-step A m-branch d (drop at text)))
+    branch-refused h = then-refused _ x (parse A m-piece d (drop at text)) h ∙ ap (partOf A text) (sym (parse-step A m-branch d (drop at text)))
 
     pub piece-refused : part.Refused x ≡ partAt A text m-group d at → part.Refused x ≡ partAt A text m-piece d at
     unfolding step
-    piece-refused h = then-refused _ x (read A m-group d (drop at text)) h ∙ ap (partOf A text) (sym (read-step A m-piece d (drop at text)))
+    piece-refused h = then-refused _ x (parse A m-group d (drop at text)) h ∙ ap (partOf A text) (sym (parse-step A m-piece d (drop at text)))
 
   -- A group, in parentheses or a set.
-  by-open : (d at : ℕ) (b : Bool) → eqb (getD text at 0) (code "(") ≡ b → read A m-group d (drop at text) ≡ opening b d (drop at text)
+  by-open : (d at : ℕ) (b : Bool) → eqb (getD text at 0) (code "(") ≡ b → parse A m-group d (drop at text) ≡ opening b d (drop at text)
   unfolding step
-  by-open d at b k = read-step A m-group d (drop at text) ∙ ap (λ t. opening t d (drop at text)) (next-at "(" text at refl ∙ k)
+  by-open d at b k = parse-step A m-group d (drop at text) ∙ ap (λ t. opening t d (drop at text)) (next-at "(" text at refl ∙ k)
 
   pub group-set : (d at : ℕ) → (getD text at 0 ≡ code "(" → ⊥) → partOf A text (set-tree A (drop at text)) ≡ partAt A text m-group d at
   group-set d at k = ap (partOf A text) (sym (by-open d at false (ne-eqb (getD text at 0) (code "(") k)))
 
-  pub group-deep : (d at : ℕ) → getD text at 0 ≡ code "(" → d ≡ 0 → part.Refused row.Depth ≡ partAt A text m-group d at
+  pub group-deep : (d at : ℕ) → getD text at 0 ≡ code "(" → d ≡ 0 → part.Refused refusal.Depth ≡ partAt A text m-group d at
   unfolding grouped
   group-deep d at k z =
-      sym (ap (partOf A text) (by-open d at true (eq-eqb (getD text at 0) (code "(") k) ∙ ap (λ i. grouped (read A m-alternation) i (drop at text)) z))
+      sym (ap (partOf A text) (by-open d at true (eq-eqb (getD text at 0) (code "(") k) ∙ ap (λ i. grouped (parse A m-alternation) i (drop at text)) z))
 
   -- the content, with its `)` or without
   closed-content :
-      (d at : ℕ) (x : Reads Tree) → read A m-alternation d (drop at text) ≡ x →
+      (d at : ℕ) (x : Parsing Tree) → parse A m-alternation d (drop at text) ≡ x →
       closed text (partOf A text x) ≡ partOf A text (then x (λ t s. closing (next ")" s) t s))
   unfolding then letterCount
   closed-content d at (fault x r) k = refl
@@ -127,11 +126,11 @@ module _ (A text : List ℕ) where
 
       by :
           (b : Bool) → eqb (getD text (place text r) 0) (code ")") ≡ b →
-          cond b (part.Read (place text r + 1) (few (letterCount A t))) (part.Refused row.MisplacedSign) ≡ partOf A text (closing b t r)
+          cond b (part.Found (place text r + 1) (few (letterCount A t))) (part.Refused refusal.MisplacedSign) ≡ partOf A text (closing b t r)
       by true e =
           let l = byte-is text (place text r) 40 (eqb-true (getD text (place text r) 0) (code ")") e) in
           let q : rest r ≡ drop (place text r + 1) text = ap rest (sym rests) ∙ rest-at text (place text r) in
-          ap (λ i. part.Read i (few (letterCount A t))) (sym (ap (place text) q ∙ place-drop text (place text r + 1) (omega arith)))
+          ap (λ i. part.Found i (few (letterCount A t))) (sym (ap (place text) q ∙ place-drop text (place text r + 1) (omega arith)))
       by false e = refl
 
   pub group-closed :
@@ -141,57 +140,57 @@ module _ (A text : List ℕ) where
   group-closed (suc d) at k z =
       let e : suc d - 1 ≡ d = omega arith in
       ap (λ i. closed text (partAt A text m-alternation i (at + 1))) e
-      ∙ closed-content d (at + 1) (read A m-alternation d (drop (at + 1) text)) refl
-      ∙ ap (λ s. partOf A text (then (read A m-alternation d s) (λ t s. closing (next ")" s) t s))) (sym (rest-at text at))
+      ∙ closed-content d (at + 1) (parse A m-alternation d (drop (at + 1) text)) refl
+      ∙ ap (λ s. partOf A text (then (parse A m-alternation d s) (λ t s. closing (next ")" s) t s))) (sym (rest-at text at))
       ∙ ap (partOf A text) (sym (by-open (suc d) at true (eq-eqb (getD text at 0) (code "(") k)))
 
 -- A part that was read, and nothing behind it.
-alone : {A text : List ℕ} {m : Mode} {d at e n : ℕ} (f : Found A text m d at e n) → part.Read e n ≡ partOf A text (found (f .tree) (drop e text))
-alone {text = text} {e = e} f = ap₂ part.Read (sym (place-drop text e (f .within))) (f .letters)
+alone : {A text : List ℕ} {m : Mode} {d at e n : ℕ} (f : Found A text m d at e n) → part.Found e n ≡ partOf A text (found (f .tree) (drop e text))
+alone {text = text} {e = e} f = ap₂ part.Found (sym (place-drop text e (f .within))) (f .letters)
 
 -- A branch that was read: a `|` stands behind it, or none.
 module _ {A text : List ℕ} {d at e n : ℕ} (f : Found A text m-branch d at e n) where
-  by-bar : (b : Bool) → eqb (getD text e 0) (code "|") ≡ b → read A m-alternation d (drop at text) ≡ bar A text b d (f .tree) (drop e text)
+  by-bar : (b : Bool) → eqb (getD text e 0) (code "|") ≡ b → parse A m-alternation d (drop at text) ≡ bar A text b d (f .tree) (drop e text)
   unfolding step then
   by-bar b k =
-      read-step A m-alternation d (drop at text) ∙ ap (λ x. then x (λ t s. bar A text (next "|" s) d t s)) (f .reads)
+      parse-step A m-alternation d (drop at text) ∙ ap (λ x. then x (λ t s. bar A text (next "|" s) d t s)) (f .reads)
       ∙ ap (λ t. bar A text t d (f .tree) (drop e text)) (next-at "|" text e refl ∙ k)
 
-  pub alternation-alone : (getD text e 0 ≡ code "|" → ⊥) → part.Read e n ≡ partAt A text m-alternation d at
+  pub alternation-alone : (getD text e 0 ≡ code "|" → ⊥) → part.Found e n ≡ partAt A text m-alternation d at
   alternation-alone k = alone f ∙ ap (partOf A text) (sym (by-bar false (ne-eqb (getD text e 0) (code "|") k)))
 
   pub alternation-more : getD text e 0 ≡ code "|" → add n (partAt A text m-alternation d (e + 1)) ≡ partAt A text m-alternation d at
   alternation-more k =
       ap (λ i. add i (partAt A text m-alternation d (e + 1))) (f .letters)
-      ∙ add-either A text (f .tree) (read A m-alternation d (drop (e + 1) text))
-      ∙ ap (λ s. partOf A text (then (read A m-alternation d s) (λ u r. found (either (f .tree) u) r))) (sym (rest-at text e))
+      ∙ add-either A text (f .tree) (parse A m-alternation d (drop (e + 1) text))
+      ∙ ap (λ s. partOf A text (then (parse A m-alternation d s) (λ u r. found (either (f .tree) u) r))) (sym (rest-at text e))
       ∙ ap (partOf A text) (sym (by-bar true (eq-eqb (getD text e 0) (code "|") k)))
 
 -- A piece that was read: the branch ends behind it, or goes on.
 module _ {A text : List ℕ} {d at e n : ℕ} (f : Found A text m-piece d at e n) where
-  by-end : (b : Bool) → ends (drop e text) ≡ b → read A m-branch d (drop at text) ≡ last A text b d (f .tree) (drop e text)
+  by-end : (b : Bool) → ends (drop e text) ≡ b → parse A m-branch d (drop at text) ≡ last A text b d (f .tree) (drop e text)
   unfolding step then
   by-end b k =
-      read-step A m-branch d (drop at text) ∙ ap (λ x. then x (λ t s. last A text (ends s) d t s)) (f .reads)
+      parse-step A m-branch d (drop at text) ∙ ap (λ x. then x (λ t s. last A text (ends s) d t s)) (f .reads)
       ∙ ap (λ t. last A text t d (f .tree) (drop e text)) k
 
-  pub branch-last : ends (drop e text) ≡ true → part.Read e n ≡ partAt A text m-branch d at
+  pub branch-last : ends (drop e text) ≡ true → part.Found e n ≡ partAt A text m-branch d at
   branch-last k = alone f ∙ ap (partOf A text) (sym (by-end true k))
 
   pub branch-more : ends (drop e text) ≡ false → add n (partAt A text m-branch d e) ≡ partAt A text m-branch d at
   branch-more k =
-      ap (λ i. add i (partAt A text m-branch d e)) (f .letters) ∙ add-join A text (f .tree) (read A m-branch d (drop e text))
+      ap (λ i. add i (partAt A text m-branch d e)) (f .letters) ∙ add-join A text (f .tree) (parse A m-branch d (drop e text))
       ∙ ap (partOf A text) (sym (by-end false k))
 
 -- A group that was read: a repetition stands behind it, or none.
 module _ {A text : List ℕ} {d at e n : ℕ} (f : Found A text m-group d at e n) where
-  by-sign : (b : Bool) → repeats (drop e text) ≡ b → read A m-piece d (drop at text) ≡ repeating A text b (f .tree) (drop e text)
+  by-sign : (b : Bool) → repeats (drop e text) ≡ b → parse A m-piece d (drop at text) ≡ repeating A text b (f .tree) (drop e text)
   unfolding step then
   by-sign b k =
-      read-step A m-piece d (drop at text) ∙ ap (λ x. then x (λ t s. repeating A text (repeats s) t s)) (f .reads)
+      parse-step A m-piece d (drop at text) ∙ ap (λ x. then x (λ t s. repeating A text (repeats s) t s)) (f .reads)
       ∙ ap (λ t. repeating A text t (f .tree) (drop e text)) k
 
-  pub piece-plain : repeats (drop e text) ≡ false → part.Read e n ≡ partAt A text m-piece d at
+  pub piece-plain : repeats (drop e text) ≡ false → part.Found e n ≡ partAt A text m-piece d at
   piece-plain k = alone f ∙ ap (partOf A text) (sym (by-sign false k))
 
   pub piece-repeated : repeats (drop e text) ≡ true → repeated n (repeatsOf text (repetition (drop e text))) ≡ partAt A text m-piece d at

@@ -1,16 +1,15 @@
--- What the checking parser answers: the letters of the expression, up to 128, or the refusal of its leftmost fault. Assumes nothing.
--- Used by the contracts, the proofs and Examples; in compile.
+-- What the checking parser answers: the letters of the expression, up to 128, or the refusal of its leftmost fault.
 use mathlib.Core.List.{List}
 use Prim.Native.Nat.{ℕ}
 use Rattle.regex.specs.Tree.{Tree}
-use Rattle.regex.specs.Text.{Reads, found, fault}
+use Rattle.regex.specs.Parsing.{Parsing, found, fault}
 use Rattle.regex.specs.Letters.{letterCount}
 use Rattle.regex.specs.Few.{few}
-use Rattle.regex.specs.Read.{expressionOf}
+use Rattle.regex.specs.Parse.{expressionOf}
 use Rattle.regex_parse.specs.declared.Parsed.{Parsed}
 use Rattle.regex_parse.specs.declared.Parsed.the-variants.{Letters, Refused}
 
-abbrev pub parsedOf : List ℕ → Reads Tree → Parsed
+abbrev pub parsedOf : List ℕ → Parsing Tree → Parsed
 parsedOf A (found t r) = Letters (few (letterCount A t))
 parsedOf A (fault n r) = Refused n
 

@@ -6,10 +6,10 @@ use native.Mathlib.Omega.{arith}
 use lib.ListN.{length, drop}
 use Rattle.lists.specs.EachLaws.{drop-here, drop-all}
 use Rattle.refusal.specs.declared.Refusal.{Refusal}
-use Rattle.refusal.specs.declared.Refusal.the-variants as row
+use Rattle.refusal.specs.declared.Refusal.the-variants as refusal
 use Rattle.regex.specs.Tree.{Tree}
-use Rattle.regex.specs.Text.{Reads, found, fault, then}
-use Rattle.regex.specs.Read.{read, m-alternation, whole, expressionOf}
+use Rattle.regex.specs.Parsing.{Parsing, found, fault, then}
+use Rattle.regex.specs.Parse.{parse, m-alternation, whole, expressionOf}
 use Rattle.regex_set.specs.declared.Part.the-variants as part
 use Rattle.regex_set.specs.Answers.{partOf}
 use Rattle.regex_parse.specs.Parts.{partAt, Found}
@@ -20,9 +20,9 @@ use Rattle.regex_parse.specs.Parsed.{parsedOf, parsed}
 module _ (A text : List ℕ) where
   pub parsed-refused : (x : Refusal) → part.Refused x ≡ partAt A text m-alternation 16 0 → Refused x ≡ parsed A text
   unfolding parsed expressionOf then
-  parsed-refused x h = by (read A m-alternation 16 text) h
+  parsed-refused x h = by (parse A m-alternation 16 text) h
     where
-      by : (y : Reads Tree) → part.Refused x ≡ partOf A text y → Refused x ≡ parsedOf A (then y whole)
+      by : (y : Parsing Tree) → part.Refused x ≡ partOf A text y → Refused x ≡ parsedOf A (then y whole)
       by (found t r) h = let z : _≡_ {A = ℕ} 0 1 = cc in absurd (omega arith)
       by (fault n r) h = let q : x ≡ n = cc in ap Refused q
 
@@ -31,7 +31,7 @@ module _ (A text : List ℕ) where
     unfolding parsed expressionOf then
     unfolded = ap (λ x. parsedOf A (then x whole)) (f .reads)
 
-    pub parsed-stray : e < length text → Refused row.MisplacedSign ≡ parsed A text
+    pub parsed-stray : e < length text → Refused refusal.MisplacedSign ≡ parsed A text
     unfolding whole
     parsed-stray l = sym (unfolded ∙ ap (λ s. parsedOf A (whole (f .tree) s)) (drop-here 0 text e l))
 

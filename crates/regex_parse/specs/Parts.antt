@@ -1,19 +1,18 @@
--- The parts of a text at their places, as the parser answers them, and what a part that was read says. Assumes nothing.
--- Used by the proofs, Cycle and Parsed.
+-- The parts of a text at their places, as the parser answers them, and what a part that was read says.
 use mathlib.Core.Path.{_≡_, refl, sym, ap, _∙_}
 use mathlib.Core.List.{List}
 use Prim.Native.Nat.{ℕ, _≤_, _<_}
 use native.Mathlib.Omega.{arith}
 use lib.ListN.{length, drop, length-drop}
 use Rattle.regex.specs.Tree.{Tree}
-use Rattle.regex.specs.Text.{Reads, found, fault}
+use Rattle.regex.specs.Parsing.{Parsing, found, fault}
 use Rattle.regex.specs.Letters.{letterCount}
 use Rattle.regex.specs.Few.{few}
-use Rattle.regex.specs.Read.{Mode, read}
+use Rattle.regex.specs.Parse.{Mode, parse}
 use Rattle.regex.specs.Says.{of-found}
 use Rattle.regex.specs.Front.{Front, Stop}
-use Rattle.regex.specs.Sound.{read-sound}
-use Rattle.regex.specs.Steps.{read-forward}
+use Rattle.regex.specs.Sound.{parse-sound}
+use Rattle.regex.specs.Steps.{parse-forward}
 use Rattle.regex_set.specs.declared.Part.{Part}
 use Rattle.regex_set.specs.declared.Part.the-variants as part
 use Rattle.text.specs.TextLaws.{behind}
@@ -23,24 +22,24 @@ use Rattle.regex_set.specs.Answers.{partOf}
 module _ (A text : List ℕ) where
   -- the part at a place
   abbrev pub partAt : Mode → ℕ → ℕ → Part
-  partAt m d at = partOf A text (read A m d (drop at text))
+  partAt m d at = partOf A text (parse A m d (drop at text))
 
   -- a part that was read
   pub record Found (m : Mode) (d at e n : ℕ) : Type 0 where
     pub tree : Tree
-    pub reads : read A m d (drop at text) ≡ found tree (drop e text)
+    pub reads : parse A m d (drop at text) ≡ found tree (drop e text)
     pub letters : n ≡ few (letterCount A tree)
     pub ahead : at < e
     pub within : e ≤ length text
 
-  pub part-found : (m : Mode) (d at e n : ℕ) → part.Read e n ≡ partAt m d at → Found m d at e n
-  part-found m d at e n h = by (read A m d (drop at text)) refl h
+  pub part-found : (m : Mode) (d at e n : ℕ) → part.Found e n ≡ partAt m d at → Found m d at e n
+  part-found m d at e n h = by (parse A m d (drop at text)) refl h
     where
-      by : (x : Reads Tree) → read A m d (drop at text) ≡ x → part.Read e n ≡ partOf A text x → Found m d at e n
+      by : (x : Parsing Tree) → parse A m d (drop at text) ≡ x → part.Found e n ≡ partOf A text x → Found m d at e n
       by (found t r) k h =
           let s : List ℕ = drop at text in
-          let f : Front A m d s t r = of-found (Front A m d s) (Stop A m d s) (read A m d s) t r (read-sound A m d s) k in
-          let l = read-forward A m d (drop at text) t r k in
+          let f : Front A m d s t r = of-found (Front A m d s) (Stop A m d s) (parse A m d s) t r (parse-sound A m d s) k in
+          let l = parse-forward A m d (drop at text) t r k in
           let n₁ = length-drop at text in
           let b = behind text at (f .front) r (omega arith) (f .splits) in
           let q : e ≡ place text r = cc in

@@ -14,7 +14,7 @@ use text::peek;
 ghost use mathlib.Core.Path.{_≡_};
 ghost use lib.ListN.{drop};
 ghost use Rattle.lists.specs.Memory.{old};
-ghost use Rattle.regex.specs.Read.{read, m-alternation, m-branch, m-piece, m-group};
+ghost use Rattle.regex.specs.Parse.{parse, m-alternation, m-branch, m-piece, m-group};
 ghost use Rattle.regex_set.specs.Answers.{partOf};
 ghost use Rattle.regex_parse.specs.Parsed.{parsed};
 
@@ -26,13 +26,13 @@ pub enum Parsed {
 
 // Branches with `|` between them.
 pub fn alternation(alphabet: &[u8], text: &[u8], at: usize, room: usize) -> Part
-    ensures { λ r. ⌜ r ≡ partOf (old alphabet) (old text) (read (old alphabet) m-alternation room (drop at (old text))) ⌝ }
+    ensures { λ r. ⌜ r ≡ partOf (old alphabet) (old text) (parse (old alphabet) m-alternation room (drop at (old text))) ⌝ }
 {
     match branch(alphabet, text, at, room) {
         Part::Refused(x) => Part::Refused(x),
-        Part::Read(e, n) => {
+        Part::Found(e, n) => {
             if peek(text, e) != b'|' {
-                return Part::Read(e, n);
+                return Part::Found(e, n);
             }
             added(n, alternation(alphabet, text, e + 1, room))
         }
@@ -41,13 +41,13 @@ pub fn alternation(alphabet: &[u8], text: &[u8], at: usize, room: usize) -> Part
 
 // Pieces joined.
 pub fn branch(alphabet: &[u8], text: &[u8], at: usize, room: usize) -> Part
-    ensures { λ r. ⌜ r ≡ partOf (old alphabet) (old text) (read (old alphabet) m-branch room (drop at (old text))) ⌝ }
+    ensures { λ r. ⌜ r ≡ partOf (old alphabet) (old text) (parse (old alphabet) m-branch room (drop at (old text))) ⌝ }
 {
     match piece(alphabet, text, at, room) {
         Part::Refused(x) => Part::Refused(x),
-        Part::Read(e, n) => {
+        Part::Found(e, n) => {
             if is_end(text, e) {
-                return Part::Read(e, n);
+                return Part::Found(e, n);
             }
             added(n, branch(alphabet, text, e, room))
         }
@@ -56,22 +56,22 @@ pub fn branch(alphabet: &[u8], text: &[u8], at: usize, room: usize) -> Part
 
 // A group or a set, repeated or not.
 pub fn piece(alphabet: &[u8], text: &[u8], at: usize, room: usize) -> Part
-    ensures { λ r. ⌜ r ≡ partOf (old alphabet) (old text) (read (old alphabet) m-piece room (drop at (old text))) ⌝ }
+    ensures { λ r. ⌜ r ≡ partOf (old alphabet) (old text) (parse (old alphabet) m-piece room (drop at (old text))) ⌝ }
 {
     match group(alphabet, text, at, room) {
         Part::Refused(x) => Part::Refused(x),
-        Part::Read(e, n) => {
+        Part::Found(e, n) => {
             if is_repeated(text, e) {
                 return repeated(n, repetition(text, e));
             }
-            Part::Read(e, n)
+            Part::Found(e, n)
         }
     }
 }
 
 // A set, or an alternation in parentheses, where `room` more groups may be opened.
 pub fn group(alphabet: &[u8], text: &[u8], at: usize, room: usize) -> Part
-    ensures { λ r. ⌜ r ≡ partOf (old alphabet) (old text) (read (old alphabet) m-group room (drop at (old text))) ⌝ }
+    ensures { λ r. ⌜ r ≡ partOf (old alphabet) (old text) (parse (old alphabet) m-group room (drop at (old text))) ⌝ }
 {
     if peek(text, at) != b'(' {
         return set(alphabet, text, at);
@@ -88,7 +88,7 @@ pub fn expression(alphabet: &[u8], text: &[u8]) -> Parsed
 {
     match alternation(alphabet, text, 0, 16) {
         Part::Refused(x) => Parsed::Refused(x),
-        Part::Read(e, n) => {
+        Part::Found(e, n) => {
             if e < text.len() {
                 return Parsed::Refused(Refusal::MisplacedSign);
             }

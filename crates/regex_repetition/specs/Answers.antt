@@ -1,16 +1,15 @@
--- What the functions of this crate answer, by the definitions of `expression`. Assumes nothing.
--- Used by the contracts, the proofs, Counts and Signs; in positions_letters and regex_parse.
+-- What the functions of this crate answer, by the definitions of `expression`.
 use mathlib.Core.List.{List}
 use Prim.Native.Nat.{ℕ, _+_}
 use Rattle.regex.specs.Tree.{Count, between, onward}
-use Rattle.regex.specs.Text.{Reads, found, fault, enclosed}
+use Rattle.regex.specs.Parsing.{Parsing, found, fault, enclosed}
 use Rattle.text.specs.Text.{place, split}
 use Rattle.regex_repetition.specs.declared.Repeats.{Repeats}
 use Rattle.regex_repetition.specs.declared.Repeats.the-variants as repeats
 use mathlib.Core.Option.{Option, some, none}
 use mathlib.Core.Bool.{cond, _&&_}
 use lib.Dec.{leb, eqb}
-use Rattle.refusal.specs.declared.Refusal.the-variants as row
+use Rattle.refusal.specs.declared.Refusal.the-variants as refusal
 use Prim.Native.Char.{code}
 use lib.ListN.{getD, drop}
 use Rattle.regex.specs.Repetition.{counts}
@@ -20,7 +19,7 @@ abbrev pub times : Count → ℕ → Repeats
 times (between n m) e = repeats.Between n m e
 times (onward n) e = repeats.Onward n e
 
-abbrev pub repeatsOf : List ℕ → Reads Count → Repeats
+abbrev pub repeatsOf : List ℕ → Parsing Count → Repeats
 repeatsOf text (found c r) = times c (place text r)
 repeatsOf text (fault n r) = repeats.Refused n
 
@@ -31,16 +30,16 @@ number-or (some n) = n
 
 -- from n to m, where both are in range
 unfoldable pub ranged : ℕ → ℕ → ℕ → Repeats
-ranged n m e = cond (leb n m && leb 1 m && leb m 255) (repeats.Between n m e) (repeats.Refused row.Count)
+ranged n m e = cond (leb n m && leb 1 m && leb m 255) (repeats.Between n m e) (repeats.Refused refusal.Count)
 
 -- a count that ends at e, if it is well formed
 abbrev pub counted : Option Count → ℕ → Repeats
-counted none e = repeats.Refused row.Count
+counted none e = repeats.Refused refusal.Count
 counted (some c) e = times c e
 
 -- The braces at a place, closed at e.
 unfoldable pub braced : List ℕ → ℕ → Repeats
-braced text at = repeatsOf text (enclosed row.Count (drop at text) counts (split "}" (drop (at + 1) text)))
+braced text at = repeatsOf text (enclosed refusal.Count (drop at text) counts (split "}" (drop (at + 1) text)))
 
 -- One `?` behind it.
 

@@ -1,5 +1,4 @@
--- What stands in braces: a number by its digits, and a count with or without a comma. Assumes nothing.
--- Used by the contracts, the proofs and Signs.
+-- What stands in braces: a number by its digits, and a count with or without a comma.
 use mathlib.Core.Path.{_≡_, refl, sym, ap, ap₂, _∙_}
 use mathlib.Core.Option.{Option, some, none}
 use mathlib.Core.List.{List, [], _∷_}
@@ -12,7 +11,7 @@ use lib.Dec.{leb}
 use borrow.Author.Tests.{le-leb, lt-leb, leb-true}
 use Rattle.lists.specs.EachLaws.{drop-here, drop-all}
 use Rattle.lists.specs.OrderLaws.{and-right, and-both}
-use Rattle.refusal.specs.declared.Refusal.the-variants as row
+use Rattle.refusal.specs.declared.Refusal.the-variants as refusal
 use Rattle.regex.specs.Tree.{Count, between}
 use Rattle.text.specs.Text.{split, until}
 use Rattle.lists.specs.Cases.{provided}
@@ -23,15 +22,15 @@ use Rattle.regex_repetition.specs.declared.Repeats.the-variants as repea
 use Rattle.regex_repetition.specs.Answers.{number-or, ranged, counted}
 
 module _ (n m e : ℕ) where
-  pub ranged-order : m < n → repeats.Refused row.Count ≡ ranged n m e
+  pub ranged-order : m < n → repeats.Refused refusal.Count ≡ ranged n m e
   unfolding ranged
   ranged-order l = rw (lt-leb n m l)
 
-  pub ranged-none : m < 1 → repeats.Refused row.Count ≡ ranged n m e
+  pub ranged-none : m < 1 → repeats.Refused refusal.Count ≡ ranged n m e
   unfolding ranged
   ranged-none l = rw (lt-leb 1 m l, and-false)
 
-  pub ranged-much : 255 < m → repeats.Refused row.Count ≡ ranged n m e
+  pub ranged-much : 255 < m → repeats.Refused refusal.Count ≡ ranged n m e
   unfolding ranged
   ranged-much l = rw (lt-leb m 255 l, and-false)
 
@@ -130,7 +129,7 @@ ranged-counted none (some m) e a b = rw (lt-leb 256 m (omega arith))
 ranged-counted (some n) none e a b = rw and-false
 ranged-counted (some n) (some m) e a b = rw (le-leb m 255 b, and-true) (by (leb n m && leb 1 m))
   where
-    by : (t : Bool) → cond t (repeats.Between n m e) (repeats.Refused row.Count) ≡ counted (provided t (some (between n m))) e
+    by : (t : Bool) → cond t (repeats.Between n m e) (repeats.Refused refusal.Count) ≡ counted (provided t (some (between n m))) e
     by true = refl
     by false = refl
 
@@ -182,10 +181,10 @@ module _ (inside : List ℕ) (e k : ℕ) (is : k ≡ 0 + until (code ",") inside
           by none q = absurd (omega arith)
           by (some i) q = ap (λ i. repeats.Onward i e) q
 
-      pub counts-bad : 255 < n → repeats.Refused row.Count ≡ counted (counts inside) e
+      pub counts-bad : 255 < n → repeats.Refused refusal.Count ≡ counted (counts inside) e
       unfolding from-on
       counts-bad l = by (number (take k inside)) p (number-small (take k inside)) ∙ ap (λ x. counted x e) (sym from)
         where
-          by : (x : Option ℕ) → n ≡ number-or x → Small x → repeats.Refused row.Count ≡ counted (from-on x) e
+          by : (x : Option ℕ) → n ≡ number-or x → Small x → repeats.Refused refusal.Count ≡ counted (from-on x) e
           by none q s = refl
           by (some i) q s = absurd (omega arith)

@@ -1,5 +1,4 @@
--- The repetition at a place of a text: its sign or its braces, one `?` behind it, and its end. Assumes nothing.
--- Used by the contracts and the proofs.
+-- The repetition at a place of a text: its sign or its braces, one `?` behind it, and its end.
 use mathlib.Core.Path.{_≡_, refl, sym, ap, ap₂, _∙_}
 use mathlib.Core.Option.{Option, some, none}
 use mathlib.Core.List.{List, []}
@@ -14,9 +13,9 @@ use borrow.Author.Tests.{eqb-true, eq-eqb, ne-eqb}
 use Rattle.lists.specs.EachLaws.{drop-here, drop-all}
 use Rattle.lists.specs.OrderLaws.{lt-or-le}
 use Rattle.refusal.specs.declared.Refusal.{Refusal}
-use Rattle.refusal.specs.declared.Refusal.the-variants as row
+use Rattle.refusal.specs.declared.Refusal.the-variants as refusal
 use Rattle.regex.specs.Tree.{Count, between, onward}
-use Rattle.regex.specs.Text.{Reads, found, fault, then, enclosed}
+use Rattle.regex.specs.Parsing.{Parsing, found, fault, then, enclosed}
 use Rattle.text.specs.Text.{next, rest, split, until, place}
 use Rattle.lists.specs.Cases.{first-of}
 use Rattle.regex.specs.Repetition.{counts, sign, repetition}
@@ -27,7 +26,7 @@ use Rattle.regex_repetition.specs.Answers.{times, repeatsOf, counted, br
 use Rattle.lists.specs.CasesLaws.{fourth}
 
 module _ (text : List ℕ) (at e : ℕ) (is : e ≡ at + 1 + until (code "}") (drop (at + 1) text)) (l : at < length text) where
-  pub braces-unclosed : length text ≤ e → repeats.Refused row.Count ≡ braced text at
+  pub braces-unclosed : length text ≤ e → repeats.Refused refusal.Count ≡ braced text at
   unfolding braced enclosed
   braces-unclosed h = rw (braced, split-missing "}" text (at + 1) e is (omega arith) h)
 
@@ -37,7 +36,7 @@ module _ (text : List ℕ) (at e : ℕ) (is : e ≡ at + 1 + until (code "}") (d
     where
       by :
           (x : Option Count) →
-          counted x (e + 1) ≡ repeatsOf text (elim x as (λ _. Reads Count) [ none ↦ fault row.Count (drop at text) | some c ↦ found c (drop (e + 1) text) ])
+          counted x (e + 1) ≡ repeatsOf text (elim x as (λ _. Parsing Count) [ none ↦ fault refusal.Count (drop at text) | some c ↦ found c (drop (e + 1) text) ])
       by none = refl
       by (some c) = ap (times c) (sym (place-drop text (e + 1) (omega arith)))
 
@@ -68,11 +67,11 @@ module _ (text : List ℕ) (at : ℕ) where
 
   pub sign-none :
       (getD text at 0 ≡ code "*" → ⊥) → (getD text at 0 ≡ code "+" → ⊥) → (getD text at 0 ≡ code "?" → ⊥) → (getD text at 0 ≡ code "{" → ⊥) →
-      repeats.Refused row.MisplacedSign ≡ repeatsOf text (sign (drop at text))
+      repeats.Refused refusal.MisplacedSign ≡ repeatsOf text (sign (drop at text))
   unfolding sign
   sign-none a b c d = by (lt-or-le at (length text))
     where
-      by : (at < length text) ⊎ (length text ≤ at) → repeats.Refused row.MisplacedSign ≡ repeatsOf text (sign (drop at text))
+      by : (at < length text) ⊎ (length text ≤ at) → repeats.Refused refusal.MisplacedSign ≡ repeatsOf text (sign (drop at text))
       by (inl l) = sym (ap (repeatsOf text)
           (ap sign (drop-here 0 text at l)
           ∙ fourth (eqb (getD text at 0) (code "*")) (eqb (getD text at 0) (code "+")) (eqb (getD text at 0) (code "?")) (eqb (getD text at 0) (code "{")) _ _ _ _ _
@@ -121,7 +120,7 @@ sign-rest text at = by (lt-or-le at (length text))
         (λ _. first-says (Rest text) _ (eqb (getD text at 0) (code "+")) _ _ _ (λ _. here (onward 1))
         (λ _. first-says (Rest text) _ (eqb (getD text at 0) (code "?")) _ _ _ (λ _. here (between 0 1))
         (λ _. first-says (Rest text) _ (eqb (getD text at 0) (code "{")) _ _ _
-        (λ _. enclosed-says (Rest text) _ row.Count _ counts (split "}" (drop (at + 1) text)) tt (λ x c e q. rest-braces text (at + 1) (omega arith) x c e))
+        (λ _. enclosed-says (Rest text) _ refusal.Count _ counts (split "}" (drop (at + 1) text)) tt (λ x c e q. rest-braces text (at + 1) (omega arith) x c e))
         (λ _. tt)))))
     by (inr l) = rw (drop-all text at l, sign) tt
 
@@ -137,7 +136,7 @@ times-refused (onward n) e k h = let z : _≡_ {A = ℕ} 0 1 = cc in omega arith
 
 module _ (text : List ℕ) (at : ℕ) where
   -- what is made of a sign, where a `?` stands behind it or not
-  abbrev modifier : Bool → Count → List ℕ → Reads Count
+  abbrev modifier : Bool → Count → List ℕ → Parsing Count
   modifier t c r = elim t [ true ↦ found c (rest r) | false ↦ found c r ]
 
   behind-modifier :
@@ -161,7 +160,7 @@ module _ (text : List ℕ) (at : ℕ) where
   unfolding repetition then
   repetition-refused n h = by (sign (drop at text)) h
     where
-      by : (x : Reads Count) → repeats.Refused n ≡ repeatsOf text x → repeats.Refused n ≡ repeatsOf text (then x (λ c r. modifier (next "?" r) c r))
+      by : (x : Parsing Count) → repeats.Refused n ≡ repeatsOf text x → repeats.Refused n ≡ repeatsOf text (then x (λ c r. modifier (next "?" r) c r))
       by (found c r) h = absurd (times-refused c (place text r) n (sym h))
       by (fault m r) h = h
 
@@ -171,7 +170,7 @@ module _ (text : List ℕ) (at : ℕ) where
   repetition-is c e h = by (sign (drop at text)) (sign-rest text at) h
     where
       by :
-          (x : Reads Count) → Says (Rest text) (λ n r. Unit {0}) x → times c e ≡ repeatsOf text x →
+          (x : Parsing Count) → Says (Rest text) (λ n r. Unit {0}) x → times c e ≡ repeatsOf text x →
           times c (modified text e) ≡ repeatsOf text (then x (λ c r. modifier (next "?" r) c r))
       by (found d r) s h =
           let q = times-same c d e (place text r) h in

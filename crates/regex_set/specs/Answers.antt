@@ -1,12 +1,11 @@
--- What the functions of this crate and of `parse` answer, by the definitions of `expression`. Assumes nothing.
--- Used by the contracts, the proofs and Sets; in positions_build, positions_letters and regex_parse.
+-- What the functions of this crate and of `parse` answer, by the definitions of `expression`.
 use mathlib.Core.Path.{_≡_}
 use mathlib.Core.List.{List}
 use mathlib.Core.Bool.{true}
 use Prim.Native.Nat.{ℕ}
 use lib.ListN.{drop}
 use Rattle.regex.specs.Tree.{Set, Tree, set}
-use Rattle.regex.specs.Text.{Reads, found, fault, then}
+use Rattle.regex.specs.Parsing.{Parsing, found, fault, then}
 use Rattle.regex.specs.Letters.{letterCount}
 use Rattle.regex.specs.Few.{few}
 use Rattle.regex.specs.Sets.{a-set, labelled-set}
@@ -16,12 +15,12 @@ use Rattle.regex_set.specs.declared.Part.{Part}
 use Rattle.regex_set.specs.declared.Part.the-variants as part
 
 -- where what was found in the text ends, with how many letters, up to 128; or the refusal
-abbrev pub partOf : List ℕ → List ℕ → Reads Tree → Part
-partOf A text (found t r) = part.Read (place text r) (few (letterCount A t))
+abbrev pub partOf : List ℕ → List ℕ → Parsing Tree → Part
+partOf A text (found t r) = part.Found (place text r) (few (letterCount A t))
 partOf A text (fault n r) = part.Refused n
 
 -- the set with which a text begins, if it has a label, as a tree
-abbrev pub set-tree : List ℕ → List ℕ → Reads Tree
+abbrev pub set-tree : List ℕ → List ℕ → Parsing Tree
 set-tree A s = then (labelled-set A s) (λ c r. found (set c) r)
 
 -- the set at a place, where one stands

@@ -1,5 +1,4 @@
--- The set at a place of a text, by its first byte: its end, its members, its labels. Assumes nothing.
--- Used by the proofs.
+-- The set at a place of a text, by its first byte: its end, its members, its labels.
 use mathlib.Core.Path.{_≡_, refl, sym, ap, ap₂, _∙_}
 use mathlib.Core.List.{List, [], _∷_}
 use mathlib.Core.Bool.{Bool, true, false, cond, _&&_, or-false}
@@ -13,9 +12,9 @@ use borrow.Author.Tests.{eq-eqb, ne-eqb, eqb-true, le-leb, leb-true}
 use Rattle.lists.specs.EachLaws.{drop-here, drop-all}
 use Rattle.lists.specs.OrderLaws.{lt-or-le, not-both, same-truth, and-left, and-right, and-both}
 use Rattle.refusal.specs.declared.Refusal.{Refusal}
-use Rattle.refusal.specs.declared.Refusal.the-variants as row
+use Rattle.refusal.specs.declared.Refusal.the-variants as refusal
 use Rattle.regex.specs.Tree.{Set, except, Tree, set, member}
-use Rattle.regex.specs.Text.{Reads, found, fault, then}
+use Rattle.regex.specs.Parsing.{Parsing, found, fault, then}
 use Rattle.lists.specs.Cases.{first-of}
 use Rattle.regex.specs.Letters.{labelsOf, letterCount}
 use Rattle.regex.specs.Few.{few}
@@ -48,7 +47,7 @@ module _ (text : List ℕ) (at : ℕ) where
   abbrev back : List ℕ
   back = drop (at + 1) text
 
-  set-empty : length text ≤ at → a-set (drop at text) ≡ fault row.MisplacedSign []
+  set-empty : length text ≤ at → a-set (drop at text) ≡ fault refusal.MisplacedSign []
   unfolding a-set
   set-empty l = rw (drop-all text at l, a-set)
 
@@ -75,28 +74,28 @@ module _ (text : List ℕ) (at : ℕ) where
     set-bracket e = rw (drop-here 0 text at l, e)
 
     module _ (no-escape : here ≡ code "\\" → ⊥) (no-dot : here ≡ code "." → ⊥) (no-bracket : here ≡ code "[" → ⊥) where
-      plain : a-set (drop at text) ≡ cond (special here) (fault row.MisplacedSign (here ∷ back)) (found (alone here) back)
+      plain : a-set (drop at text) ≡ cond (special here) (fault refusal.MisplacedSign (here ∷ back)) (found (alone here) back)
       unfolding a-set
       plain =
           ap a-set (drop-here 0 text at l)
           ∙ fourth (eqb here (code "\\")) (eqb here (code ".")) (eqb here (code "[")) (special here) _ _ _ _ _ (ne-eqb here (code "\\") no-escape)
           (ne-eqb here (code ".") no-dot) (ne-eqb here (code "[") no-bracket)
 
-      set-special : special here ≡ true → a-set (drop at text) ≡ fault row.MisplacedSign (here ∷ back)
-      set-special e = plain ∙ ap (λ t. cond t (fault row.MisplacedSign (here ∷ back)) (found (alone here) back)) e
+      set-special : special here ≡ true → a-set (drop at text) ≡ fault refusal.MisplacedSign (here ∷ back)
+      set-special e = plain ∙ ap (λ t. cond t (fault refusal.MisplacedSign (here ∷ back)) (found (alone here) back)) e
 
       set-alone : special here ≡ false → a-set (drop at text) ≡ found (alone here) back
-      set-alone e = plain ∙ ap (λ t. cond t (fault row.MisplacedSign (here ∷ back)) (found (alone here) back)) e
+      set-alone e = plain ∙ ap (λ t. cond t (fault refusal.MisplacedSign (here ∷ back)) (found (alone here) back)) e
 
   escaped-special : (w : List ℕ) → special here ≡ true → escaped w (drop at text) ≡ found (alone here) back
   unfolding escaped
   escaped-special w e = let l = byte-within text at (λ z. not-both (special here) e (ap special z)) in rw (drop-here 0 text at l, escaped, e)
 
-  escaped-plain : (w : List ℕ) → special here ≡ false → escaped w (drop at text) ≡ fault row.MisplacedSign w
+  escaped-plain : (w : List ℕ) → special here ≡ false → escaped w (drop at text) ≡ fault refusal.MisplacedSign w
   unfolding escaped
   escaped-plain w e = by (lt-or-le at (length text))
     where
-      by : (at < length text) ⊎ (length text ≤ at) → escaped w (drop at text) ≡ fault row.MisplacedSign w
+      by : (at < length text) ⊎ (length text ≤ at) → escaped w (drop at text) ≡ fault refusal.MisplacedSign w
       by (inl l) = rw (drop-here 0 text at l, escaped, e)
       by (inr l) = rw (drop-all text at l, escaped)
 
@@ -106,7 +105,7 @@ module _ (text : List ℕ) (at : ℕ) where
   one-byte : at < length text → end.At (at + 1) ≡ end.At (place text (drop (at + 1) text))
   one-byte l = ap end.At (sym (place-drop text (at + 1) (omega arith)))
 
-  pub end-none : length text ≤ at → end.Refused row.MisplacedSign ≡ endOf text (a-set (drop at text))
+  pub end-none : length text ≤ at → end.Refused refusal.MisplacedSign ≡ endOf text (a-set (drop at text))
   end-none l = sym (ap (endOf text) (set-empty text at l))
 
   pub escape-ends : (w : List ℕ) → at < length text → special (getD text (at + 1) 0) ≡ true → end.At (at + 2) ≡ endOf text (escaped w (drop (at + 1) text))
@@ -115,7 +114,7 @@ module _ (text : List ℕ) (at : ℕ) where
       let p : place text (drop (at + 1 + 1) text) ≡ at + 2 = place-drop text (at + 1 + 1) (omega arith) ∙ omega arith in
       sym (ap (endOf text) (escaped-special text (at + 1) w e) ∙ ap end.At p)
 
-  pub escape-refused : (w : List ℕ) → special (getD text (at + 1) 0) ≡ false → end.Refused row.MisplacedSign ≡ endOf text (escaped w (drop (at + 1) text))
+  pub escape-refused : (w : List ℕ) → special (getD text (at + 1) 0) ≡ false → end.Refused refusal.MisplacedSign ≡ endOf text (escaped w (drop (at + 1) text))
   escape-refused w e = sym (ap (endOf text) (escaped-plain text (at + 1) w e))
 
   module _ (l : at < length text) where
@@ -130,7 +129,7 @@ module _ (text : List ℕ) (at : ℕ) where
     end-bracket e = sym (ap (endOf text) (set-bracket text at l e))
 
     module _ (a : getD text at 0 ≡ code "\\" → ⊥) (b : getD text at 0 ≡ code "." → ⊥) (c : getD text at 0 ≡ code "[" → ⊥) where
-      pub end-special : special (getD text at 0) ≡ true → end.Refused row.MisplacedSign ≡ endOf text (a-set (drop at text))
+      pub end-special : special (getD text at 0) ≡ true → end.Refused refusal.MisplacedSign ≡ endOf text (a-set (drop at text))
       end-special e = sym (ap (endOf text) (set-special text at l a b c e))
 
       pub end-alone : special (getD text at 0) ≡ false → end.At (at + 1) ≡ endOf text (a-set (drop at text))
@@ -187,16 +186,16 @@ module _ (A : List ℕ) (c : Set) (i n : ℕ) where
 -- The set as a part of the text.
 module _ (A text s : List ℕ) where
   -- what is made of the set that was found
-  abbrev judged : Bool → Set → List ℕ → Reads Set
-  judged t c r = elim t [ true ↦ fault row.Foreign s | false ↦ found c r ]
+  abbrev judged : Bool → Set → List ℕ → Parsing Set
+  judged t c r = elim t [ true ↦ fault refusal.Foreign s | false ↦ found c r ]
 
-  abbrev made : Reads Set → Reads Tree
+  abbrev made : Parsing Set → Parsing Tree
   made x = then (then x (λ c r. judged (eqb (labelsOf A c) 0) c r)) (λ c r. found (set c) r)
 
   pub ends-set : (e : ℕ) → end.At e ≡ endOf text (a-set s) → is-found (a-set s) ≡ true
   ends-set e h = by (a-set s) h
     where
-      by : (x : Reads Set) → end.At e ≡ endOf text x → is-found x ≡ true
+      by : (x : Parsing Set) → end.At e ≡ endOf text x → is-found x ≡ true
       by (found c r) h = refl
       by (fault n r) h = let z : _≡_ {A = ℕ} 0 1 = cc in absurd (omega arith)
 
@@ -204,26 +203,26 @@ module _ (A text s : List ℕ) where
   unfolding labelled-set then
   part-refused n h = by (a-set s) h
     where
-      by : (x : Reads Set) → end.Refused n ≡ endOf text x → part.Refused n ≡ partOf A text (made x)
+      by : (x : Parsing Set) → end.Refused n ≡ endOf text x → part.Refused n ≡ partOf A text (made x)
       by (found c r) h = let z : _≡_ {A = ℕ} 0 1 = cc in absurd (omega arith)
       by (fault m r) h = let k : n ≡ m = cc in ap part.Refused k
 
   module _ (e n : ℕ) (h : end.At e ≡ endOf text (a-set s)) (k : n ≡ labelsOf A (setOf (a-set s))) where
-    pub part-foreign : n ≡ 0 → part.Refused row.Foreign ≡ partOf A text (set-tree A s)
+    pub part-foreign : n ≡ 0 → part.Refused refusal.Foreign ≡ partOf A text (set-tree A s)
     unfolding labelled-set then
     part-foreign z = by (a-set s) h k
       where
-        by : (x : Reads Set) → end.At e ≡ endOf text x → n ≡ labelsOf A (setOf x) → part.Refused row.Foreign ≡ partOf A text (made x)
+        by : (x : Parsing Set) → end.At e ≡ endOf text x → n ≡ labelsOf A (setOf x) → part.Refused refusal.Foreign ≡ partOf A text (made x)
         by (found c r) h k = sym (ap (λ t. partOf A text (then (judged t c r) (λ c r. found (set c) r))) (eq-eqb (labelsOf A c) 0 (omega arith)))
         by (fault m r) h k = let z : _≡_ {A = ℕ} 0 1 = cc in absurd (omega arith)
 
-    pub part-labels : (n ≡ 0 → ⊥) → part.Read e (few n) ≡ partOf A text (set-tree A s)
+    pub part-labels : (n ≡ 0 → ⊥) → part.Found e (few n) ≡ partOf A text (set-tree A s)
     unfolding labelled-set then letterCount
     part-labels z = by (a-set s) h k
       where
-        by : (x : Reads Set) → end.At e ≡ endOf text x → n ≡ labelsOf A (setOf x) → part.Read e (few n) ≡ partOf A text (made x)
+        by : (x : Parsing Set) → end.At e ≡ endOf text x → n ≡ labelsOf A (setOf x) → part.Found e (few n) ≡ partOf A text (made x)
         by (found c r) h k =
             let q : e ≡ place text r = cc in
-            ap₂ (λ i j. part.Read i (few j)) q k
+            ap₂ (λ i j. part.Found i (few j)) q k
             ∙ sym (ap (λ t. partOf A text (then (judged t c r) (λ c r. found (set c) r))) (ne-eqb (labelsOf A c) 0 (λ y. z (k ∙ y))))
         by (fault m r) h k = let z : _≡_ {A = ℕ} 0 1 = cc in absurd (omega arith)

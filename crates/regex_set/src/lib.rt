@@ -20,7 +20,7 @@ ghost use Rattle.regex_set.specs.Answers.{partOf, set-tree, SetAt, setAt
 
 // A part of the text: where it ends, and how many letters it opens into, counted up to 128; or why it is turned away.
 pub enum Part {
-    Read(usize, usize),
+    Found(usize, usize),
     Refused(Refusal),
 }
 
@@ -115,7 +115,7 @@ pub fn set(alphabet: &[u8], text: &[u8], at: usize) -> Part
             if n == 0 {
                 return Part::Refused(Refusal::Foreign);
             }
-            Part::Read(e, capped_at_128(n))
+            Part::Found(e, capped_at_128(n))
         }
     }
 }

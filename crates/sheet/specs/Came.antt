@@ -1,5 +1,4 @@
--- What a read answered that neither failed nor was at the end, for the loop of `read_input`. Assumes nothing.
--- Used by the proofs.
+-- What a read answered that neither failed nor was at the end, for the loop of `read_input`.
 use mathlib.Core.Path.{_≡_, refl, sym, subst}
 use mathlib.Core.Bool.{false}
 use mathlib.Core.List.{List}

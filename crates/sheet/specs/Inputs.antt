@@ -1,6 +1,5 @@
 -- What the program promises of its input: how much of the buffer was read, and what is printed for it. Which bytes are read, no contract
--- can say. Assumes nothing.
--- Used by the contracts and the proofs.
+-- can say.
 use mathlib.Core.Path.{_≡_}
 use mathlib.Core.List.{List, []}
 use Prim.Native.Nat.{ℕ}

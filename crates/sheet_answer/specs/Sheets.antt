@@ -1,5 +1,4 @@
--- From what the scan of an input promises to what is printed for it. Assumes nothing.
--- Used by the proofs.
+-- From what the scan of an input promises to what is printed for it.
 use Prim.Native.Nat.{ℕ, _+_, _-_, _*_, _≤_}
 use mathlib.Core.Path.{_≡_, refl, sym, ap, ap₂, _∙_}
 use mathlib.Core.Option.{Option, some, none}
@@ -7,7 +6,7 @@ use mathlib.Core.List.{List}
 use native.Mathlib.Omega.{arith}
 use lib.ListN.{length, take, drop}
 use Rattle.lists.specs.WrittenLaws.{take-written, written-fits}
-use Rattle.refusal.specs.declared.Refusal.the-variants as row
+use Rattle.refusal.specs.declared.Refusal.the-variants as refusal
 use Rattle.refusal.specs.Number.{numberOf}
 use Rattle.matrix.specs.Matrix.{matrix}
 use Rattle.sheet_format.specs.Sheet.{Sheet, sheetOf, matrixOf}
@@ -51,9 +50,9 @@ module _ (input before costs : List ℕ) where
         prints = λ output p. rw (s .is) (rw (alphabet, text, same) at p);
       }
 
-  pub no-sheet : Scans input before costs scanned.Bad → Prints input (refusal-line (numberOf row.Sheet))
+  pub no-sheet : Scans input before costs scanned.Bad → Prints input (refusal-line (numberOf refusal.Sheet))
   no-sheet h = by (sheetOf input) (h .answer)
     where
-      by : (o : Option Sheet) → scanned.Bad ≡ answerOf o → PrintsSheet o (refusal-line (numberOf row.Sheet))
+      by : (o : Option Sheet) → scanned.Bad ≡ answerOf o → PrintsSheet o (refusal-line (numberOf refusal.Sheet))
       by none e = refl
       by (some S) e = let z : _≡_ {A = ℕ} 0 1 = cc in absurd (omega arith)

@@ -1,5 +1,4 @@
--- What storing the whole matrix answers: the first column line gives the width that the others must have. Assumes nothing.
--- Used by the contracts and the proofs; in sheet_scan.
+-- What storing the whole matrix answers: the first column line gives the width that the others must have.
 use mathlib.Core.Path.{_≡_}
 use mathlib.Core.Option.{some}
 use mathlib.Core.List.{List, flatten}

@@ -1,6 +1,5 @@
 -- What the functions that store costs answer, and what a column line more makes of it. Each speaks of the columns that the rest of the
--- input holds from a place on, and of the memory from a place on. Assumes nothing.
--- Used by the contracts, the proofs and Matrices.
+-- input holds from a place on, and of the memory from a place on.
 use mathlib.Core.Path.{_≡_}
 use mathlib.Core.Option.{some}
 use mathlib.Core.List.{List, _∷_, flatten}

@@ -1,5 +1,4 @@
--- Laws of the decimal numeral: its last digit, its length, the number that it stands for, no extra zero. Assumes nothing.
--- Used by the proofs; in sheet_path and sheet_lines.
+-- Laws of the decimal numeral: its last digit, its length, the number that it stands for, no extra zero.
 use Prim.Native.Nat.{ℕ, zero, suc, _+_, _-_, _*_, _/_, _%_, _^_, _<_, _≤_}
 use mathlib.Core.Path.{_≡_, refl, sym, ap, _∙_}
 use mathlib.Core.Logic.{⊎-elim}

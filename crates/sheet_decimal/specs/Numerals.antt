@@ -1,5 +1,4 @@
--- A number in decimal, as bytes. Assumes nothing.
--- Used by the contracts, the proofs and Decimal; in sheet_answer, sheet_path and sheet_lines.
+-- A number in decimal, as bytes.
 use Prim.Native.Nat.{ℕ, zero, suc, _+_, _/_, _%_}
 use Prim.Native.Char.{code}
 use mathlib.Core.Bool.{true, false}

@@ -1,5 +1,4 @@
--- Two pieces written one behind the other. Assumes nothing.
--- Used by the proofs; in sheet_path and sheet_lines.
+-- Two pieces written one behind the other.
 use Prim.Native.Nat.{ℕ, _+_, _≤_}
 use mathlib.Core.Path.{_≡_, ap}
 use mathlib.Core.List.{List, _++_}

@@ -1,5 +1,4 @@
--- Sheets read by computation: document 01's sheet, the edges of the layout, and texts that are no sheet. Assumes nothing.
--- Computed examples: nothing uses them.
+-- Sheets read by computation: document 01's sheet, the edges of the layout, and texts that are no sheet.
 use mathlib.Core.Path.{_≡_, refl}
 use mathlib.Core.Option.{Option, some, none}
 use mathlib.Core.List.{List, [], _∷_, map, flatten}

@@ -1,4 +1,4 @@
--- The limits of a sheet, on texts of every size: at most 65,535 bytes, and at most 16,384 costs. Assumes nothing.
+-- The limits of a sheet, on texts of every size: at most 65,535 bytes, and at most 16,384 costs.
 -- Examples, proved for every size and not computed: nothing uses them.
 use mathlib.Core.Path.{_≡_, refl, ap, _∙_}
 use mathlib.Core.Option.{Option, some, none}

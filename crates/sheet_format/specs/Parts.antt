@@ -1,5 +1,4 @@
--- Where the parts of a sheet are in its input, and how many costs it has: what a caller of `scan` relies on. Assumes nothing.
--- Used in sheet_number and sheet_answer.
+-- Where the parts of a sheet are in its input, and how many costs it has: what a caller of `scan` relies on.
 use mathlib.Core.Path.{_≡_, refl, ap, _∙_, subst}
 use mathlib.Core.Option.{Option, some, none}
 use mathlib.Core.List.{List, [], _∷_, flatten}

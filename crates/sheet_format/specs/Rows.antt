@@ -1,6 +1,4 @@
 -- The columns that the rest of a sheet holds, from any place on: what the rest's first line or first number makes of them.
--- Assumes nothing.
--- Used by Limits and Parts; in sheet_number, sheet_scan and sheet_columns.
 use mathlib.Core.Path.{_≡_, refl, sym, ap, _∙_}
 use mathlib.Core.Option.{Option, some, none}
 use mathlib.Core.List.{List, [], _∷_, _++_, append-assoc, append-nil}

@@ -1,6 +1,5 @@
 -- The layout of a sheet (document 01, "Confidences and the sheet program"): "alphabet line, expression line, then one line for each
--- column, numbers of 1 to 7 digits with no extra leading zero, one space between." What is no sheet is row 18. Assumes nothing.
--- Used by 4 files of specs/; in sheet_number, vectors_fields, sheet_answer, sheet_scan, sheet and sheet_columns.
+-- column, numbers of 1 to 7 digits with no extra leading zero, one space between." What is no sheet is row 18.
 use mathlib.Core.Option.{Option, some, none}
 use mathlib.Core.List.{List, [], _∷_, flatten}
 use mathlib.Core.Bool.{Bool, true, false, cond, not, _&&_}

@@ -1,5 +1,4 @@
--- What is written from the front on, and how long the printed lines can be. Assumes nothing.
--- Used by the proofs; in sheet_answer and sheet_read.
+-- What is written from the front on, and how long the printed lines can be.
 use Prim.Native.Nat.{ℕ, _+_, _<_, _≤_}
 use mathlib.Core.Path.{_≡_}
 use mathlib.Core.List.{List, [], _∷_, _++_, append-nil}

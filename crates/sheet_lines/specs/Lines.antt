@@ -1,5 +1,4 @@
--- What the sheet program prints (document 01, "Output in full"), as bytes. Assumes nothing.
--- Used by the contracts, the proofs and Lengths; in sheet_answer, sheet_print and sheet_read.
+-- What the sheet program prints (document 01, "Output in full"), as bytes.
 use Prim.Native.Nat.{ℕ}
 use mathlib.Core.List.{List, [], _∷_, _++_}
 use Rattle.text.specs.Bytes.{bytes}

@@ -1,5 +1,4 @@
--- The digits at a place of a sheet, and the cost that they make with what stands behind them. Assumes nothing.
--- Used by the contracts and the proofs; in sheet_columns.
+-- The digits at a place of a sheet, and the cost that they make with what stands behind them.
 use mathlib.Core.Path.{_≡_}
 use mathlib.Core.Option.{some}
 use mathlib.Core.List.{List}

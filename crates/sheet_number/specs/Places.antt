@@ -1,5 +1,4 @@
--- The part of an input from one place up to another, and where a line ends. Assumes nothing.
--- Used by the contracts, the proofs and Digits; in sheet_scan and sheet_columns.
+-- The part of an input from one place up to another, and where a line ends.
 use mathlib.Core.Path.{_≡_}
 use mathlib.Core.List.{List}
 use Prim.Native.Nat.{ℕ, _-_, _<_, _≤_}

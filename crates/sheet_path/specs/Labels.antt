@@ -1,5 +1,4 @@
--- Labels in decimal, one space between, as bytes. Assumes nothing.
--- Used by the contracts, the proofs and Turns; in sheet_answer and sheet_lines.
+-- Labels in decimal, one space between, as bytes.
 use Prim.Native.Nat.{ℕ}
 use Prim.Native.Char.{code}
 use mathlib.Core.List.{List, [], _∷_, _++_, flatMap}

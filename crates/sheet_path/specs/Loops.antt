@@ -1,5 +1,4 @@
--- The labels from a place of a path on, and how long they can be as text. Assumes nothing.
--- Used by the proofs; in sheet_lines.
+-- The labels from a place of a path on, and how long they can be as text.
 use Prim.Native.Nat.{ℕ, _+_, _-_, _*_, _<_, _≤_}
 use mathlib.Core.Path.{_≡_, refl, ap}
 use mathlib.Core.List.{List, [], _∷_, _++_, flatMap}

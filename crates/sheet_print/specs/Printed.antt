@@ -1,5 +1,4 @@
--- The lines of Read's answer, and what they ask of path and word memory. Assumes nothing.
--- Used by the contracts and the proofs; in sheet_read.
+-- The lines of Read's answer, and what they ask of path and word memory.
 use Prim.Native.Nat.{ℕ, _≤_}
 use mathlib.Core.List.{List}
 use lib.ListN.{length, take}

@@ -1,12 +1,11 @@
 -- What the sheet program prints for an alphabet, a text and a matrix (document 01, "Confidences and the sheet program" and "What is turned
--- away"): "the lowest number", and past the checks the best reading, or 16 where there is none. No memory is in it. Assumes nothing.
--- Used by the contracts, the proofs, Examples, Longest and Steps; in sheet_answer and sheet.
+-- away"): "the lowest number", and past the checks the best reading, or 16 where there is none. No memory is in it.
 use Prim.Native.Nat.{ℕ}
 use mathlib.Core.Path.{_≡_}
 use mathlib.Core.Option.{Option, some, none}
 use mathlib.Core.List.{List}
 use lib.ListN.{length}
-use Rattle.refusal.specs.declared.Refusal.the-variants as row
+use Rattle.refusal.specs.declared.Refusal.the-variants as refusal
 use Rattle.refusal.specs.declared.Checked.{Checked}
 use Rattle.refusal.specs.declared.Checked.the-variants.{Passed, Refused}
 use Rattle.refusal.specs.Number.{numberOf}
@@ -34,7 +33,7 @@ longest = 1031
 
 -- the lines of an outcome
 abbrev pub outcome-lines : (A : List ℕ) (M : Matrix) → Option (List ℕ) → List ℕ
-outcome-lines A M none = refusal-line (numberOf row.NoReading)
+outcome-lines A M none = refusal-line (numberOf refusal.NoReading)
 outcome-lines A M (some p) = reading-lines (price M p) (characters A (collapse p)) p
 
 -- past the checks: what there is to read, by the words of the text

@@ -1,7 +1,5 @@
 -- What the program's memory is enough for, computed: path and word memory for 255 columns, and 16,384 work words. A need is an odd number
 -- times at most 256, so it is never 16,384 itself. The form memory is enough for every form: none has more than 16,257 words.
--- Assumes nothing.
--- Computed examples: nothing uses them.
 use Prim.Native.Nat.{ℕ, _+_, _*_}
 use mathlib.Core.Path.{_≡_, refl}
 use lib.Dec.{leb}

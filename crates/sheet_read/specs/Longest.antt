@@ -1,6 +1,4 @@
 -- No output is longer than 1,031 bytes: the lines of a price of 9 digits, of 255 characters and of 255 labels with 2 digits each.
--- Assumes nothing.
--- Used by the proofs.
 use Prim.Native.Nat.{ℕ, _+_, _-_, _*_, _<_, _≤_}
 use mathlib.Core.Path.{_≡_, refl, ap}
 use mathlib.Core.Option.{Option, some, none}

@@ -1,5 +1,4 @@
--- What the call promises of the output memory. Assumes nothing.
--- Used by the contracts and the proofs; in sheet_answer and sheet.
+-- What the call promises of the output memory.
 use Prim.Native.Nat.{ℕ, _≤_}
 use mathlib.Core.Path.{_≡_}
 use mathlib.Core.List.{List}

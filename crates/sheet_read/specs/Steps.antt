@@ -1,5 +1,4 @@
--- From what Read promises to what is printed. Assumes nothing.
--- Used by the proofs.
+-- From what Read promises to what is printed.
 use Prim.Native.Nat.{ℕ, _-_, _≤_}
 use mathlib.Core.Path.{_≡_, refl, sym, ap, _∙_, subst}
 use mathlib.Core.Option.{Option, some, none}

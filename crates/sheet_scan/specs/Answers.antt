@@ -1,5 +1,4 @@
--- What `scan` promises: it answers the sheet that the input is, or that it is none, and stores the sheet's costs. Assumes nothing.
--- Used by the contracts and Whole; in sheet_answer.
+-- What `scan` promises: it answers the sheet that the input is, or that it is none, and stores the sheet's costs.
 use mathlib.Core.Path.{_≡_}
 use mathlib.Core.Option.{Option, some, none}
 use mathlib.Core.List.{List}

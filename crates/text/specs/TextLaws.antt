@@ -1,5 +1,4 @@
--- A text from a place on: its first byte, the first such byte in it, and the place where it begins. Assumes nothing.
--- Used by the contracts and the proofs; in 10 other crates.
+-- A text from a place on: its first byte, the first such byte in it, and the place where it begins.
 use mathlib.Core.Path.{_≡_, refl, sym, ap, _∙_}
 use mathlib.Core.Option.{Option, some, none}
 use mathlib.Core.List.{List, [], _∷_, _++_}

@@ -1,5 +1,4 @@
--- A path collapses to an accepted word exactly if it leads from state 0 to a state where it may end. Assumes nothing.
--- Used by Outcome.
+-- A path collapses to an accepted word exactly if it leads from state 0 to a state where it may end.
 use Prim.Native.Nat.{ℕ, _*_, _-_, _≤_}
 use mathlib.Core.Path.{_≡_, refl, sym, ap, _∙_, subst}
 use mathlib.Core.Bool.{true}

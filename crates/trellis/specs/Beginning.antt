@@ -1,5 +1,5 @@
 -- The cheapest beginning to a state: the least price of all that leads to it from the start over the first columns, TOP where none is
--- below. The first row, each row from the one before, and the cost to go that the last row gives. Assumes nothing.
+-- below. The first row, each row from the one before, and the cost to go that the last row gives.
 -- For the reader: nothing uses it.
 use Prim.Native.Nat.{ℕ, suc, _+_}
 use mathlib.Core.Path.{_≡_, refl, sym, ap, _∙_, subst}

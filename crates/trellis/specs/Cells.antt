@@ -1,6 +1,5 @@
 -- The costs to go of an automaton's extended states, row by row: what the code computes for the states of one letter, by candidates that
--- are found once a column. Assumes nothing.
--- Used in trellis_costs, trellis_offers, trellis_row and trellis_table.
+-- are found once a column.
 use Prim.Native.Nat.{ℕ}
 use mathlib.Core.Path.{_≡_}
 use mathlib.Core.Bool.{Bool, true, false}

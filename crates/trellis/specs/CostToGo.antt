@@ -1,6 +1,5 @@
 -- The cost to go from a state: the least price of all ways from it over the columns that are left, TOP where none is below. The last
--- row, and each row from the next. Assumes nothing.
--- Used by 6 files of specs/; in decode_valid, trellis_row, trellis_table and trellis_trace.
+-- row, and each row from the next.
 use Prim.Native.Nat.{ℕ}
 use mathlib.Core.Path.{_≡_}
 use mathlib.Core.List.{List}

@@ -1,6 +1,5 @@
 -- The extended states of an automaton (document 01, "Extended states and decoding"): the steps of a path through them, and where it may
--- end. Assumes nothing.
--- Used by 5 files of specs/; in trellis_column, decode_valid, trellis_row, trellis_steps, trellis_table and trellis_trace.
+-- end.
 use Prim.Native.Nat.{ℕ, _+_, _*_}
 use mathlib.Core.Path.{_≡_}
 use mathlib.Core.Bool.{true}

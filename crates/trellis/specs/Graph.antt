@@ -1,6 +1,4 @@
 -- A graph: steps from state to state by a label, and the states where a way may end. What a list of labels leads to.
--- Assumes nothing.
--- Used by 6 files of specs/.
 use Prim.Native.Nat.{ℕ}
 use mathlib.Core.Path.{_≡_}
 use mathlib.Core.List.{List, [], _∷_}

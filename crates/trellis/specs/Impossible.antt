@@ -1,6 +1,5 @@
 -- One mark for the impossible: a price that no path of usable costs reaches. A sum that stops at it takes a cost above it, hence a
--- barred one, as impossible. Assumes nothing.
--- Used by 6 files of specs/; in trellis_costs, trellis_column, decode_valid, trellis_offers, trellis_row and trellis_trace.
+-- barred one, as impossible.
 use Prim.Native.Nat.{ℕ, _+_, min}
 
 abbrev pub TOP : ℕ

@@ -1,6 +1,4 @@
 -- What there is to read by an automaton, from the cost to go of its state 0: nothing where that is TOP, and else the best way.
--- Assumes nothing.
--- Used in decode_valid.
 use Prim.Native.Nat.{ℕ, _+_, _≤_, _<_}
 use mathlib.Core.Path.{_≡_, refl, sym, subst}
 use mathlib.Core.Option.{some, none}

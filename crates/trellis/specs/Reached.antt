@@ -1,6 +1,5 @@
 -- One column of the trace through extended states: the states that a step from the set leads to, those of them that keep to the price,
--- and the lowest label among these. Assumes nothing.
--- Used in trellis_column, trellis_steps and trellis_trace.
+-- and the lowest label among these.
 use Prim.Native.Nat.{ℕ, _+_, _/_, _%_}
 use mathlib.Core.Bool.{cond}
 use lib.Dec.{eqb}

@@ -1,6 +1,5 @@
 -- The trace: through all states that share the cost to go, column by column, the lowest label that keeps to the price. What it writes is
--- the best way: the cheapest, and the first by labels among equals. Assumes nothing.
--- Used by Outcome and Reached; in trellis_trace.
+-- the best way: the cheapest, and the first by labels among equals.
 use Prim.Native.Nat.{ℕ, _+_, _-_, _≤_, _<_}
 use mathlib.Core.Path.{_≡_, refl, sym, ap, subst}
 use mathlib.Core.List.{List, [], _∷_, _++_, append-assoc, append-nil}

@@ -1,6 +1,5 @@
 -- One column of the trace, by its costs and the next row of costs to go: the label that a reached state offers if it keeps to the price,
--- the lowest of these, and the states of that label. Assumes nothing.
--- Used by the contracts and the proofs; in trellis_trace.
+-- the lowest of these, and the states of that label.
 use Prim.Native.Nat.{ℕ, _*_, _-_, _≤_, _<_}
 use mathlib.Core.Path.{_≡_}
 use mathlib.Core.Bool.{Bool}

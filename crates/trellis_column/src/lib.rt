@@ -107,13 +107,14 @@ fn picked(
 }
 
 // The front behind one column more: the lowest label of the reached states that keep to the price, and the states of that label.
-pub fn advance(form: &[u32], begins: &[usize], column: &[u32], row: &[u32], front: Front) -> Front
-    requires { ⌜ Sized (now form) (now column) (now row) (front .left) × ArcStarts (now form) (now begins) × Within (now form) (front .set) × SomeKept (view (now form)) (now column) (now row) (front .left) (front .set) ⌝ }
+pub fn advance(form: &[u32], starts: &[usize], column: &[u32], row: &[u32], front: Front) -> Front
+    requires { ⌜ Sized (now form) (now column) (now row) (front .left) × ArcStarts (now form) (now starts) × Within (now form) (front .set)
+        × SomeKept (view (now form)) (now column) (now row) (front .left) (front .set) ⌝ }
     ensures { λ r. ⌜ Taken (view (old form)) (old column) (old row) front r ⌝ }
 {
     let v = front.left;
     let set = front.set;
-    let near = reached(form, begins, &set);
+    let near = reached(form, starts, &set);
     let x = lowest(form, column, row, v, &near);
     let next = picked(form, column, row, v, &near, x);
     let paid = column[x];

@@ -1,5 +1,4 @@
--- A cost where a step is allowed, and TOP where it is not. Assumes nothing.
--- Used by the contracts and the proofs; in trellis_offers.
+-- A cost where a step is allowed, and TOP where it is not.
 use Prim.Native.Nat.{ℕ}
 use mathlib.Core.Bool.{Bool, cond}
 use lib.Dec.{eqb}

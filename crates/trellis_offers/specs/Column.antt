@@ -1,6 +1,4 @@
 -- The candidates of a column: for each letter the cost of its label, and what there is to pay behind it by the row of the next column.
--- Assumes nothing.
--- Used by the contracts and the proofs; in trellis_row and trellis_table.
 use Prim.Native.Nat.{ℕ, _+_, _*_, _-_, _<_, _≤_}
 use mathlib.Core.Path.{_≡_}
 use mathlib.Core.List.{List}

@@ -1,6 +1,5 @@
 -- What the candidates of a column offer along a letter's arcs, and to the letters that may be first: index by index of the loops that
--- look for the least. Assumes nothing.
--- Used by the contracts, the proofs and Column; in trellis_row.
+-- look for the least.
 use Prim.Native.Nat.{ℕ, _+_, _≤_}
 use mathlib.Core.Path.{_≡_}
 use mathlib.Core.List.{List}
@@ -10,7 +9,7 @@ use Rattle.automaton.specs.Form.{lettersOf, labelOf, view}
 use Rattle.automaton.specs.Valid.{Valid}
 use Rattle.trellis.specs.Impossible.{TOP}
 use Rattle.trellis.specs.Cells.{ByArc}
-use Rattle.form_starts.specs.Starts.{Begins}
+use Rattle.form_starts.specs.Starts.{StartsAt}
 
 -- a list of numbers that are at most TOP, for the letters 1 to 127
 pub record Candidates (cs : List ℕ) : Type 0 where
@@ -27,8 +26,8 @@ pub record Arcs (f cs : List ℕ) (i b e : ℕ) : Type 0 where
   pub candidates : Candidates cs
   pub low : 1 ≤ i
   pub high : i ≤ lettersOf f
-  pub first : Begins f i b
-  pub next : Begins f (i + 1) e
+  pub first : StartsAt f i b
+  pub next : StartsAt f (i + 1) e
 
 -- the least prices that a letter's arcs offer: along all arcs, and along those to another label
 pub record Offers (f cs : List ℕ) (i all other : ℕ) : Type 0 where

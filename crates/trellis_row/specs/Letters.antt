@@ -1,6 +1,4 @@
 -- The two states of a letter in a row, by the candidates and the row of the next column; and those of all letters, one behind another.
--- Assumes nothing.
--- Used by the contracts, the proofs and Rows; in trellis_table.
 use Prim.Native.Nat.{ℕ, _+_, _*_, _-_, _<_, _≤_, min}
 use mathlib.Core.Path.{_≡_}
 use mathlib.Core.List.{List}
@@ -21,7 +19,7 @@ states f = 2 * lettersOf f + 1
 -- behind the row to be written, at `here`
 pub record Ready (f starts cs work : List ℕ) (here next : ℕ) : Type 0 where
   pub valid : Valid f
-  pub begins : ArcStarts f starts
+  pub begun : ArcStarts f starts
   pub candidates : Candidates cs
   pub apart : here + 2 * lettersOf f < next
   pub row : Bounded f work next

@@ -1,5 +1,4 @@
--- A row of the table from the row of the next column, with the places of both as separate numbers. Assumes nothing.
--- Used by the contracts and the proofs; in trellis_table.
+-- A row of the table from the row of the next column, with the places of both as separate numbers.
 use Prim.Native.Nat.{ℕ, _+_, _*_, _-_, _<_, _≤_, min}
 use mathlib.Core.Path.{_≡_}
 use mathlib.Core.List.{List}
@@ -15,7 +14,7 @@ use Rattle.trellis_row.specs.Letters.{states}
 
 -- what a row is found from
 pub record RowReady (f starts costs : List ℕ) (at : ℕ) (work : List ℕ) (here next : ℕ) : Type 0 where
-  pub begins : ArcStarts f starts
+  pub begun : ArcStarts f starts
   pub ahead : Ahead f costs at work next
   pub apart : here + 2 * lettersOf f < next
 

@@ -14,7 +14,7 @@ ghost use Rattle.trellis_row.specs.Rows.{RowReady, RowFilled};
 // Writes the two states of letter i into the row at `here`, by the row at `next`.
 fn fill_letter(
     form: &[u32],
-    begins: &[usize],
+    starts: &[usize],
     candidates: &[u32],
     blank: u32,
     work: &mut [u32],
@@ -22,11 +22,11 @@ fn fill_letter(
     next: usize,
     i: usize,
 )
-    requires { ⌜ Ready (now form) (now begins) (now candidates) (now work) here next × (1 ≤ i) × (i ≤ lettersOf (now form)) ⌝ }
+    requires { ⌜ Ready (now form) (now starts) (now candidates) (now work) here next × (1 ≤ i) × (i ≤ lettersOf (now form)) ⌝ }
     ensures { λ _. ⌜ LetterFilled (old form) (old candidates) blank (old work) (new work) here next i ⌝ }
 {
     let rest = plus(blank, work[next + 2 * i]);
-    let offers = along_arcs(form, candidates, i, begins[i], begins[i + 1]);
+    let offers = along_arcs(form, candidates, i, starts[i], starts[i + 1]);
     work[here + (2 * i - 1)] = least(least(candidates[i], rest), offers.other);
     work[here + 2 * i] = least(rest, offers.all);
 }
@@ -34,20 +34,20 @@ fn fill_letter(
 // Writes the states of all letters into the row at `here`, by the row at `next`.
 fn fill_letters(
     form: &[u32],
-    begins: &[usize],
+    starts: &[usize],
     candidates: &[u32],
     blank: u32,
     work: &mut [u32],
     here: usize,
     next: usize,
 )
-    requires { ⌜ Ready (now form) (now begins) (now candidates) (now work) here next ⌝ }
+    requires { ⌜ Ready (now form) (now starts) (now candidates) (now work) here next ⌝ }
     ensures { λ _. ⌜ LettersFilled (old form) (old candidates) blank (old work) (new work) here next (lettersOf (old form) + 1) ⌝ }
 {
     let l = letters(form);
     let mut i = 1;
     while i <= l {
-        fill_letter(form, begins, candidates, blank, work, here, next, i);
+        fill_letter(form, starts, candidates, blank, work, here, next, i);
         i += 1;
     }
 }
@@ -55,19 +55,19 @@ fn fill_letters(
 // Writes the row at `here` for the column of costs at `at`, by the row of the next column at `next`.
 pub fn fill_row(
     form: &[u32],
-    begins: &[usize],
+    starts: &[usize],
     costs: &[u32],
     at: usize,
     work: &mut [u32],
     here: usize,
     next: usize,
 )
-    requires { ⌜ RowReady (now form) (now begins) (now costs) at (now work) here next ⌝ }
+    requires { ⌜ RowReady (now form) (now starts) (now costs) at (now work) here next ⌝ }
     ensures { λ _. ⌜ RowFilled (old form) (old costs) at (old work) (new work) here next ⌝ }
 {
     let blank = costs[at];
     let c = candidates(form, costs, at, work, next);
     let start = least(plus(blank, work[next]), to_first(form, &c));
-    fill_letters(form, begins, &c, blank, work, here, next);
+    fill_letters(form, starts, &c, blank, work, here, next);
     work[here] = start;
 }

@@ -14,7 +14,7 @@ use Rattle.automaton.specs.Proper.{Proper}
 use Rattle.automaton.specs.Form.{lettersOf, alphabetOf, view, target}
 use Rattle.automaton.specs.Valid.{Valid}
 use Rattle.automaton.specs.ValidLaws.{ArcAt, follow-arc, arc-follow, follow-target, valid-proper}
-use Rattle.form_starts.specs.Starts.{Begins}
+use Rattle.form_starts.specs.Starts.{StartsAt}
 use Rattle.form_starts.specs.Loops.{range-source, source-range}
 use Rattle.trellis.specs.Extended.{stay, pass, arc, rest, leave}
 use Rattle.trellis.specs.ExtendedLaws.{AtLetter, at-letter}
@@ -91,7 +91,7 @@ module _ (f : List ℕ) (valid : Valid f) (own : ℕ) (set after : List Bool) wh
       back : (u : ℕ) → Behind (view f) own 0 u → Turns (Led (view f) own 0) 1 (lettersOf f + 1) u
       back u (j, q) = let t = follow-target f valid 0 j (q .0) in (j, t .0, (let h = t .1 in omega arith), q)
 
-  module _ (i b e : ℕ) (letter : 1 ≤ i) (first : Begins f i b) (next : Begins f (i + 1) e) where
+  module _ (i b e : ℕ) (letter : 1 ≤ i) (first : StartsAt f i b) (next : StartsAt f (i + 1) e) where
     pub targets-marked : Marks (Turns (TargetOf f own) b e) set after → Marks (Behind (view f) own i) set after
     targets-marked = marks-same (Turns (TargetOf f own) b e) (Behind (view f) own i) set after there back
       where

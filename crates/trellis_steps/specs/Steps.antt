@@ -1,6 +1,5 @@
 -- The states that a step from a state leads to, as the code marks them: the state itself, the blanks after its letter, and the letters
--- that may stand behind it and whose label is another. Assumes nothing.
--- Used by the contracts and the proofs; in trellis_column and trellis_trace.
+-- that may stand behind it and whose label is another.
 use Prim.Native.Nat.{ℕ, _*_, _≤_}
 use mathlib.Core.Path.{_≡_}
 use mathlib.Core.Bool.{Bool, true}

@@ -12,7 +12,7 @@ ghost use Rattle.lists.specs.Memory.{old, new};
 ghost use Rattle.lists.specs.Marks.{Has, Marks, Turns};
 ghost use Rattle.automaton.specs.Form.{lettersOf, view};
 ghost use Rattle.automaton.specs.Valid.{Valid};
-ghost use Rattle.form_starts.specs.Starts.{Begins, ArcStarts};
+ghost use Rattle.form_starts.specs.Starts.{StartsAt, ArcStarts};
 ghost use Rattle.trellis.specs.Reached.{entering as enteringOf, Reached};
 ghost use Rattle.trellis_steps.specs.Steps.{Onto, OtherLetter, Led, Behind, TargetOf, From, Within};
 
@@ -74,7 +74,7 @@ fn mark_targets(form: &[u32], own: usize, b: usize, e: usize, set: &mut [bool; 2
 
 // Marks the states on letters that may stand behind letter i, whose arcs stand from b up to e.
 fn mark_behind(form: &[u32], own: usize, i: usize, b: usize, e: usize, set: &mut [bool; 255])
-    requires { ⌜ Valid (now form) × Begins (now form) i b × Begins (now form) (i + 1) e × (length (now set) ≡ 255) ⌝ }
+    requires { ⌜ Valid (now form) × StartsAt (now form) i b × StartsAt (now form) (i + 1) e × (length (now set) ≡ 255) ⌝ }
     ensures { λ _. ⌜ Marks (Behind (view (old form)) own i) (old set) (new set) ⌝ }
 {
     if i == 0 {
@@ -86,37 +86,37 @@ fn mark_behind(form: &[u32], own: usize, i: usize, b: usize, e: usize, set: &mut
 
 // Marks the states that a step from state s leads to: itself, the blanks after its letter, and the letters that may stand behind it.
 // From a letter no arc leads to an equal label; in blanks `own` is the blank, which no letter has.
-fn mark_steps(form: &[u32], begins: &[usize], s: usize, set: &mut [bool; 255])
-    requires { ⌜ Valid (now form) × ArcStarts (now form) (now begins) × (s ≤ 2 * lettersOf (now form)) × (length (now set) ≡ 255) ⌝ }
+fn mark_steps(form: &[u32], starts: &[usize], s: usize, set: &mut [bool; 255])
+    requires { ⌜ Valid (now form) × ArcStarts (now form) (now starts) × (s ≤ 2 * lettersOf (now form)) × (length (now set) ≡ 255) ⌝ }
     ensures { λ _. ⌜ Marks (Onto (view (old form)) s) (old set) (new set) ⌝ }
 {
     let i = (s + 1) / 2;
     let own = entering(form, s);
     set[s] = true;
     set[2 * i] = true;
-    mark_behind(form, own, i, begins[i], begins[i + 1], set);
+    mark_behind(form, own, i, starts[i], starts[i + 1], set);
 }
 
 // Marks the states that a step from state s leads to, if it is in the set.
-fn mark_from(form: &[u32], begins: &[usize], from: &[bool; 255], s: usize, set: &mut [bool; 255])
-    requires { ⌜ Valid (now form) × ArcStarts (now form) (now begins) × (s ≤ 2 * lettersOf (now form)) × (length (now set) ≡ 255) ⌝ }
+fn mark_from(form: &[u32], starts: &[usize], from: &[bool; 255], s: usize, set: &mut [bool; 255])
+    requires { ⌜ Valid (now form) × ArcStarts (now form) (now starts) × (s ≤ 2 * lettersOf (now form)) × (length (now set) ≡ 255) ⌝ }
     ensures { λ _. ⌜ Marks (From (view (old form)) (old from) s) (old set) (new set) ⌝ }
 {
     if from[s] {
-        mark_steps(form, begins, s, set);
+        mark_steps(form, starts, s, set);
     }
 }
 
 // The states that a step from the set leads to.
-pub fn reached(form: &[u32], begins: &[usize], from: &[bool; 255]) -> [bool; 255]
-    requires { ⌜ Valid (now form) × ArcStarts (now form) (now begins) × Within (now form) (now from) ⌝ }
+pub fn reached(form: &[u32], starts: &[usize], from: &[bool; 255]) -> [bool; 255]
+    requires { ⌜ Valid (now form) × ArcStarts (now form) (now starts) × Within (now form) (now from) ⌝ }
     ensures { λ r. ⌜ Marks (Reached (view (old form)) (Has (old from))) (replicate 255 false) r ⌝ }
 {
     let last = 2 * letters(form);
     let mut set = [false; 255];
     let mut s = 0;
     while s <= last {
-        mark_from(form, begins, from, s, &mut set);
+        mark_from(form, starts, from, s, &mut set);
         s += 1;
     }
     set

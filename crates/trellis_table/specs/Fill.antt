@@ -1,5 +1,4 @@
--- The whole table, filled from the last row to the first. Assumes nothing.
--- Used by the contracts and the proofs; in decode_valid.
+-- The whole table, filled from the last row to the first.
 use Prim.Native.Nat.{ℕ, _+_, _*_, _≤_}
 use mathlib.Core.Path.{_≡_}
 use mathlib.Core.List.{List}

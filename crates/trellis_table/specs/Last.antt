@@ -1,5 +1,4 @@
--- The last row of the table: what there is to pay where no column is left. Assumes nothing.
--- Used by the contracts, the proofs and Fill.
+-- The last row of the table: what there is to pay where no column is left.
 use Prim.Native.Nat.{ℕ, _+_}
 use mathlib.Core.List.{List}
 use Rattle.lists.specs.Memory.{Outside}

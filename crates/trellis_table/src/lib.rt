@@ -1,5 +1,5 @@
 // The table of costs to go of Decode, filled backward, row by row (document 01, "Extended states and decoding").
-use form_starts::starts;
+use form_starts::arc_starts;
 use form_words::letters;
 use trellis_costs::last_cost;
 use trellis_row::fill_row;
@@ -38,16 +38,17 @@ fn fill_rows(
     work: &mut [u32],
     stride: usize,
 )
-    requires { ⌜ Sized (now form) (matrix (now costs) width count) (now work) stride × Row (view (now form)) (matrix (now costs) width count) (now work) (count * stride) count 0 ⌝ }
+    requires { ⌜ Sized (now form) (matrix (now costs) width count) (now work) stride × Row (view (now form))
+        (matrix (now costs) width count) (now work) (count * stride) count 0 ⌝ }
     ensures { λ _. ⌜ RowsFilled (old form) (matrix (old costs) width count) (old work) (new work) stride 0 ⌝ }
 {
-    let begins = starts(form);
+    let starts = arc_starts(form);
     let mut t = count;
     while 0 < t {
         t -= 1;
         fill_row(
             form,
-            &begins,
+            &starts,
             costs,
             t * width,
             work,

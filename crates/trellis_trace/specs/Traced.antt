@@ -1,6 +1,4 @@
 -- The whole trace: what it relies on, what it promises of the path memory, and where it stands before each column.
--- Assumes nothing.
--- Used by the contracts and the proofs; in decode_valid.
 use Prim.Native.Nat.{ℕ, _+_, _*_, _≤_, _<_}
 use mathlib.Core.Path.{_≡_}
 use mathlib.Core.List.{List}

@@ -1,6 +1,6 @@
 // The best path, traced forward through the table of costs to go (document 01, "Extended states and decoding"): the set of all
 // equally cheap states is taken on column by column, by the lowest label that keeps to the price.
-use form_starts::starts;
+use form_starts::arc_starts;
 use form_words::letters;
 use trellis_column::Front;
 use trellis_column::advance;
@@ -26,7 +26,7 @@ pub fn trace(
     requires { ⌜ Ready (now form) (matrix (now costs) width count) (now work) base stride × (count ≤ length (now path)) ⌝ }
     ensures { λ _. ⌜ Traced (view (old form)) (matrix (old costs) width count) (old path) (new path) ⌝ }
 {
-    let begins = starts(form);
+    let starts = arc_starts(form);
     let states = 2 * letters(form) + 1;
     let mut set = [false; 255];
     set[0] = true;
@@ -42,7 +42,7 @@ pub fn trace(
         let end = at + width;
         let row = base + (t + 1) * stride;
         let past = row + states;
-        front = advance(form, &begins, &costs[at..end], &work[row..past], front);
+        front = advance(form, &starts, &costs[at..end], &work[row..past], front);
         path[t] = front.label;
         t += 1;
     }

@@ -1,5 +1,4 @@
--- The pieces of a text by where its separators stand: the loop that goes from one separator to the next. Assumes nothing.
--- Used by the proofs; in vectors.
+-- The pieces of a text by where its separators stand: the loop that goes from one separator to the next.
 use mathlib.Core.Path.{_≡_, refl, sym, ap, _∙_}
 use mathlib.Core.List.{List, [], _∷_}
 use mathlib.Core.Bool.{Bool, true, false, cond}

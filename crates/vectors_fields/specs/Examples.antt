@@ -1,5 +1,4 @@
--- Lines and fields read by computation. Assumes nothing.
--- Computed examples: nothing uses them.
+-- Lines and fields read by computation.
 use mathlib.Core.Path.{_≡_, refl}
 use mathlib.Core.List.{[], _∷_}
 use mathlib.Core.Bool.{true, false}

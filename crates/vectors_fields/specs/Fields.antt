@@ -1,5 +1,4 @@
--- What a line of the vectors says: its fields, which have tabs between them, and the numbers in a field. Assumes nothing.
--- Used by the contracts, the proofs, Examples, Narrow and Numbers.
+-- What a line of the vectors says: its fields, which have tabs between them, and the numbers in a field.
 use mathlib.Core.Path.{_≡_}
 use mathlib.Core.List.{List, [], _∷_, map}
 use mathlib.Core.Bool.{Bool, false, cond, _&&_}

@@ -1,5 +1,4 @@
--- The first numbers of a list as bytes, cut to the room there is, and the loop that writes them. Assumes nothing.
--- Used by the proofs.
+-- The first numbers of a list as bytes, cut to the room there is, and the loop that writes them.
 use mathlib.Core.Path.{_≡_, ap, _∙_}
 use mathlib.Core.List.{List, _∷_, map}
 use Prim.Native.Nat.{ℕ, _+_, _<_, _≤_, min}

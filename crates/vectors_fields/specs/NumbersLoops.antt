@@ -1,5 +1,4 @@
--- The numbers of a field byte by byte, as the loop reads them, and the list of them cut to the room there is. Assumes nothing.
--- Used by the contracts and the proofs.
+-- The numbers of a field byte by byte, as the loop reads them, and the list of them cut to the room there is.
 use mathlib.Core.Path.{_≡_, refl, sym, ap, _∙_, subst}
 use mathlib.Core.List.{List, [], _∷_, _++_, map}
 use mathlib.Core.Bool.{Bool, true, false, cond}

@@ -1,4 +1,4 @@
--- `alphabet::check_text` meets its contract: the first check that holds, or none. Assumes nothing.
+-- `alphabet::check_text` meets its contract: the first check that holds, or none.
 use mathlib.Core.Path.{sym, _∙_}
 use borrow.Author.Needs.{needs}
 use borrow.Author.Tests.{not-true, not-false}

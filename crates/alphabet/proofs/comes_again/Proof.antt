@@ -1,4 +1,4 @@
--- `alphabet::comes_again` meets its contract: what is left of the list decides. Assumes nothing.
+-- `alphabet::comes_again` meets its contract: what is left of the list decides.
 use Prim.Native.Nat.{_-_}
 use mathlib.Core.Path.{_≡_, refl, sym, _∙_}
 use native.Mathlib.Omega.{arith}

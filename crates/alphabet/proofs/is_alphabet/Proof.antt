@@ -1,4 +1,4 @@
--- `alphabet::is_alphabet` meets its contract, test by test. Assumes nothing.
+-- `alphabet::is_alphabet` meets its contract, test by test.
 use mathlib.Core.Path.{sym, _∙_}
 use borrow.Author.Needs.{needs}
 use borrow.Author.Tests.{not-true, not-false}

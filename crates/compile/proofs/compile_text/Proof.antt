@@ -1,11 +1,11 @@
--- `compile::compile_text` meets its contract: the parser's refusal, too many letters, or the form. Assumes nothing.
+-- `compile::compile_text` meets its contract: the parser's refusal, too many letters, or the form.
 use mathlib.Core.Path.{sym, _∙_, subst}
 use lib.ListN.{length}
 use denote.Ref.{now}
 use Rattle.refusal.specs.declared.Refusal.the-variants.{Letters}
 use Rattle.refusal.specs.Report.{reported, Fills}
 use Rattle.refusal.specs.ReportLaws.{fills-refused}
-use Rattle.regex.specs.Read.{expressionOf}
+use Rattle.regex.specs.Parse.{expressionOf}
 use Rattle.compile.specs.Call.{read-form}
 use Rattle.compile.specs.Steps.{text-refused, text-many, text-compilable, text-form}
 use borrow.Author.Needs.{needs}

@@ -1,5 +1,4 @@
 -- `compile::write` meets its contract: the arrays built tell the automaton of the text's tree, and they are written as its form.
--- Assumes nothing.
 use mathlib.Core.Path.{_≡_, subst}
 use native.Mathlib.Omega.{arith}
 use lib.ListN.{length}

@@ -1,4 +1,4 @@
--- `confidence::cost` meets its contract. Assumes nothing.
+-- `confidence::cost` meets its contract.
 use mathlib.Core.Path.{sym, _∙_}
 use borrow.Author.Needs.{needs}
 use Rattle.confidence.specs.Loops.{cost-zero, cost-more}

@@ -1,4 +1,4 @@
--- `confidence::costs` meets its contract: the check, or the costs written. Assumes nothing.
+-- `confidence::costs` meets its contract: the check, or the costs written.
 use mathlib.Core.Path.{_∙_}
 use mathlib.Core.List.{[], map}
 use lib.ListN.{length}

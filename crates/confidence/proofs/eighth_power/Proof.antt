@@ -1,4 +1,4 @@
--- `confidence::eighth_power` meets its contract: three squares. Assumes nothing.
+-- `confidence::eighth_power` meets its contract: three squares.
 use Prim.Native.Nat.{_^_}
 use mathlib.Core.Path.{_≡_, _∙_}
 use native.Mathlib.Omega.{arith}

@@ -1,4 +1,4 @@
--- `confidence::largest_shift` meets its contract: the search goes down from 64, and what is left of it decides. Assumes nothing.
+-- `confidence::largest_shift` meets its contract: the search goes down from 64, and what is left of it decides.
 use Prim.Native.Nat.{_*_, _^_, _≤_}
 use mathlib.Core.Path.{_≡_, refl, sym, _∙_}
 use native.Mathlib.Omega.{arith}

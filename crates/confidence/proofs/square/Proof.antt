@@ -1,4 +1,4 @@
--- `confidence::square` meets its contract: the square of a fourth power of a byte fits. Assumes nothing.
+-- `confidence::square` meets its contract: the square of a fourth power of a byte fits.
 use native.Mathlib.Nat.{mul-le-mul}
 use native.Mathlib.Omega.{arith}
 use borrow.Author.Needs.{needs}

@@ -1,4 +1,4 @@
--- `confidence::write_costs` meets its contract: what is written, and the costs of the rest, make the whole. Assumes nothing.
+-- `confidence::write_costs` meets its contract: what is written, and the costs of the rest, make the whole.
 use Prim.Native.Nat.{_≤_, _+_, _-_}
 use mathlib.Core.List.{map}
 use native.Mathlib.Omega.{arith}

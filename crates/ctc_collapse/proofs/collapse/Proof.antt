@@ -1,4 +1,4 @@
--- `ctc_collapse::collapse` meets its contract: the first check that holds, or the collapse written. Assumes nothing.
+-- `ctc_collapse::collapse` meets its contract: the first check that holds, or the collapse written.
 use mathlib.Core.Path.{sym, _∙_}
 use mathlib.Core.List.{[], _∷_}
 use lib.ListN.{length}

@@ -1,4 +1,4 @@
--- `ctc_collapse::put_added` meets its contract, a lemma for each arm. Assumes nothing.
+-- `ctc_collapse::put_added` meets its contract, a lemma for each arm.
 use borrow.Author.Needs.{needs}
 use denote.Ref.{now}
 use Rattle.ctc_collapse.specs.Loops.{added-same, added-blank, added-new, added-room}

@@ -1,5 +1,5 @@
 -- `ctc_collapse::write_collapse` meets its contract: what is written, and what the rest of the path adds behind the last label, make the
--- whole. Assumes nothing.
+-- whole.
 use Prim.Native.Nat.{_≤_, _+_, _-_}
 use mathlib.Core.Path.{subst}
 use native.Mathlib.Omega.{arith}

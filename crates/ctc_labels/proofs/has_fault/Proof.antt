@@ -1,4 +1,4 @@
--- `ctc_labels::has_fault` meets its contract, a lemma for each answer. Assumes nothing.
+-- `ctc_labels::has_fault` meets its contract, a lemma for each answer.
 use mathlib.Core.Path.{sym, ap, _∙_}
 use mathlib.Core.Bool.{not}
 use borrow.Author.Needs.{needs}

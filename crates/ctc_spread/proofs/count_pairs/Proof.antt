@@ -1,4 +1,4 @@
--- `ctc_spread::count_pairs` meets its contract: the pairs counted and those of the rest make the whole. Assumes nothing.
+-- `ctc_spread::count_pairs` meets its contract: the pairs counted and those of the rest make the whole.
 use Prim.Native.Nat.{_+_, _≤_, _-_}
 use mathlib.Core.Path.{_≡_}
 use native.Mathlib.Omega.{arith}

@@ -1,4 +1,4 @@
--- `ctc_spread::one_if_equal` meets its contract, by its test. Assumes nothing.
+-- `ctc_spread::one_if_equal` meets its contract, by its test.
 use borrow.Author.Tests.{eq-eqb, ne-eqb}
 use Rattle.ctc_spread.proofs.one_if_equal.Statement.{statement}
 use Rattle.ctc_spread.proofs.one_if_equal.Tie as tie

@@ -1,4 +1,4 @@
--- `ctc_spread::put_spaced` meets its contract, a lemma for each arm. Assumes nothing.
+-- `ctc_spread::put_spaced` meets its contract, a lemma for each arm.
 use native.Mathlib.Omega.{arith}
 use lib.ListN.{length-set}
 use borrow.Author.Needs.{needs}

@@ -1,4 +1,4 @@
--- `ctc_spread::spread` meets its contract: the first check that holds, or the spread written. Assumes nothing.
+-- `ctc_spread::spread` meets its contract: the first check that holds, or the spread written.
 use Prim.Native.Nat.{_<_, _≤_}
 use mathlib.Core.Path.{sym, _∙_}
 use mathlib.Core.List.{[], _∷_}

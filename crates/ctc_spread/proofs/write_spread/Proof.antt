@@ -1,5 +1,4 @@
 -- `ctc_spread::write_spread` meets its contract: what is written, and the spread of the rest behind the last letter, make the whole.
--- Assumes nothing.
 use Prim.Native.Nat.{_≤_, _+_, _-_}
 use mathlib.Core.Path.{subst}
 use native.Mathlib.Omega.{arith}

@@ -1,4 +1,4 @@
--- `decode::decode_parts` meets its contract: the first check that holds, or what is read past them. Assumes nothing.
+-- `decode::decode_parts` meets its contract: the first check that holds, or what is read past them.
 use mathlib.Core.Path.{_≡_, sym, ap, ap₂, _∙_}
 use mathlib.Core.Bool.{true, not}
 use native.Mathlib.Omega.{arith}

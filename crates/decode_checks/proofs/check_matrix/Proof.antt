@@ -1,4 +1,4 @@
--- `decode_checks::check_matrix` meets its contract: the first check that holds, or none. Assumes nothing.
+-- `decode_checks::check_matrix` meets its contract: the first check that holds, or none.
 use mathlib.Core.Path.{_≡_, sym, _∙_}
 use mathlib.Core.Bool.{true, false}
 use native.Mathlib.Omega.{arith}

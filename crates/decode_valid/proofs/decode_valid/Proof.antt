@@ -1,5 +1,4 @@
 -- `decode_valid::decode_valid` meets its contract: the table is filled, and the path is traced through it unless there is none.
--- Assumes nothing.
 use Prim.Native.Nat.{_+_, _*_}
 use mathlib.Core.Path.{sym, ap}
 use native.Mathlib.Omega.{arith}

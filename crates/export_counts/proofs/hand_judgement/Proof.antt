@@ -1,4 +1,4 @@
--- `export_counts::hand_judgement` meets its contract. Assumes nothing.
+-- `export_counts::hand_judgement` meets its contract.
 use mathlib.Core.Path.{refl, ap}
 use borrow.Author.Needs.{needs}
 use Rattle.answers.specs.Judgement.{reported}

@@ -1,4 +1,4 @@
--- `export_counts::hand_number` meets its contract. Assumes nothing.
+-- `export_counts::hand_number` meets its contract.
 use mathlib.Core.Path.{sym, ap, _∙_}
 use borrow.Author.Needs.{needs}
 use Rattle.refusal.specs.declared.Counted.{Counted}

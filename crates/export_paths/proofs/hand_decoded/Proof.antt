@@ -1,4 +1,4 @@
--- `export_paths::hand_decoded` meets its contract. Assumes nothing.
+-- `export_paths::hand_decoded` meets its contract.
 use Prim.Native.Nat.{_^_, _<_}
 use mathlib.Core.Path.{refl, ap}
 use native.Mathlib.Omega.{arith}

@@ -1,4 +1,4 @@
--- `form_check::is_head` meets its contract, a test at a time. Assumes nothing.
+-- `form_check::is_head` meets its contract, a test at a time.
 use mathlib.Core.Path.{_≡_, sym, ap, ap₂, _∙_}
 use mathlib.Core.Bool.{true, _&&_}
 use lib.Dec.{eqb}

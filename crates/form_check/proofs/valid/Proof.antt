@@ -1,4 +1,4 @@
--- `form_check::valid` meets its contract: the five tests in their order, the last two in one loop. Assumes nothing.
+-- `form_check::valid` meets its contract: the five tests in their order, the last two in one loop.
 use mathlib.Core.Path.{sym, ap, _∙_}
 use mathlib.Core.Bool.{_&&_}
 use denote.Ref.{now}

@@ -1,5 +1,4 @@
 -- `form_encode::write_letters` meets its contract: the head's place, what is written and the letters still to come make the whole.
--- Assumes nothing.
 use Prim.Native.Nat.{_+_, _-_, _≤_, _<_}
 use mathlib.Core.Path.{subst}
 use mathlib.Core.List.{[], _∷_, _++_, map}

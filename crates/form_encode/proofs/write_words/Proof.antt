@@ -1,4 +1,4 @@
--- `form_encode::write_words` meets its contract: the head, the letters and the arcs are the form's words. Assumes nothing.
+-- `form_encode::write_words` meets its contract: the head, the letters and the arcs are the form's words.
 use mathlib.Core.Path.{_≡_, sym, ap, _∙_}
 use mathlib.Core.List.{_∷_, _++_}
 use native.Mathlib.Omega.{arith}

@@ -1,4 +1,4 @@
--- `form_encode_arcs::count_arcs` meets its contract: the arcs counted and those of the rows still to come make the whole. Assumes nothing.
+-- `form_encode_arcs::count_arcs` meets its contract: the arcs counted and those of the rows still to come make the whole.
 use Prim.Native.Nat.{_+_, _-_, _*_, _≤_}
 use mathlib.Core.Path.{_≡_, ap}
 use mathlib.Core.List.{flatMap}

@@ -1,4 +1,4 @@
--- `form_encode_arcs::count_row` meets its contract: the letters counted and those still to come make the whole. Assumes nothing.
+-- `form_encode_arcs::count_row` meets its contract: the letters counted and those still to come make the whole.
 use Prim.Native.Nat.{_+_, _-_, _<_, _≤_}
 use mathlib.Core.Path.{_≡_, ap}
 use native.Mathlib.Omega.{arith}

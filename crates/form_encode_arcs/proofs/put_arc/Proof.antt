@@ -1,4 +1,4 @@
--- `form_encode_arcs::put_arc` meets its contract, a lemma for each arm. Assumes nothing.
+-- `form_encode_arcs::put_arc` meets its contract, a lemma for each arm.
 use native.Mathlib.Omega.{arith}
 use borrow.Author.Needs.{needs}
 use denote.Ref.{now}

@@ -1,4 +1,4 @@
--- `form_sets::advance` meets its contract: the turns so far have marked what may stand behind their letters. Assumes nothing.
+-- `form_sets::advance` meets its contract: the turns so far have marked what may stand behind their letters.
 use Prim.Native.Nat.{_≤_, _+_, _-_}
 use mathlib.Core.Path.{_≡_, sym, subst}
 use mathlib.Core.Bool.{false}
@@ -14,10 +14,10 @@ use Rattle.form_sets.proofs.advance.Statement.{statement}
 use Rattle.form_sets.proofs.advance.Tie as tie
 
 abbrev Inv-loop : tie.InvT-loop
-Inv-loop form begins x set l next₀ i₀ next i = (l ≡ lettersOf form) × (i ≤ l + 1) × Marks (Turns (Left form x set) 0 i) (replicate 128 false) next
+Inv-loop form starts x set l next₀ i₀ next i = (l ≡ lettersOf form) × (i ≤ l + 1) × Marks (Turns (Left form x set) 0 i) (replicate 128 false) next
 
 abbrev μ-loop : tie.MeasureT-loop
-μ-loop form begins x set l next₀ i₀ next i = l + 1 - i
+μ-loop form starts x set l next₀ i₀ next i = l + 1 - i
 
 letters-requires : tie.Need-letters-requires Inv-loop μ-loop
 letters-requires c κs = let long = c .before .before .pre .0 .long in omega arith
@@ -58,7 +58,7 @@ mark-behind-requires c κs =
     let p = c .before .before .before .before .before .before .before .before .before .pre in
     let l = c .before .before .before .before .before .loop in
     let few = p .0 .head .letters-high in
-    (p .0, l .inv .2 .size, p .1 .begins (l .i) (omega arith), p .1 .begins (l .i + 1) (omega arith))
+    (p .0, l .inv .2 .size, p .1 .starts (l .i) (omega arith), p .1 .starts (l .i + 1) (omega arith))
 
 add-i : tie.Need-add-i Inv-loop μ-loop
 add-i c = let few = c .before .before .before .before .before .before .pre .0 .head .letters-high in omega arith

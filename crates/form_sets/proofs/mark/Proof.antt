@@ -1,4 +1,4 @@
--- `form_sets::mark` meets its contract, by its two arms. Assumes nothing.
+-- `form_sets::mark` meets its contract, by its two arms.
 use mathlib.Core.Path.{sym, _∙_}
 use native.Mathlib.Omega.{arith}
 use denote.Ref.{now}

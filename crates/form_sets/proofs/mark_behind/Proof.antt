@@ -1,4 +1,4 @@
--- `form_sets::mark_behind` meets its contract: the letters that may be first, or the targets of the arcs. Assumes nothing.
+-- `form_sets::mark_behind` meets its contract: the letters that may be first, or the targets of the arcs.
 use Prim.Native.Nat.{_≤_}
 use mathlib.Core.Path.{sym, subst}
 use native.Mathlib.Omega.{arith}

@@ -1,4 +1,4 @@
--- `form_sets::mark_first` meets its contract, by its two arms. Assumes nothing.
+-- `form_sets::mark_first` meets its contract, by its two arms.
 use mathlib.Core.Path.{sym, _∙_}
 use denote.Ref.{now}
 use Rattle.form_sets.specs.Loops.{begun-first, begun-other}

@@ -1,4 +1,4 @@
--- `form_starts::skip_below` meets its contract: the sources passed are below i. Assumes nothing.
+-- `form_starts::skip_below` meets its contract: the sources passed are below i.
 use Prim.Native.Nat.{ℕ, _≤_, _<_, _-_}
 use mathlib.Core.Path.{subst}
 use native.Mathlib.Omega.{arith}

@@ -1,4 +1,4 @@
--- `form_words::may_be_first` meets its contract: the bit is what the automaton says of the letter. Assumes nothing.
+-- `form_words::may_be_first` meets its contract: the bit is what the automaton says of the letter.
 use mathlib.Core.Path.{sym}
 use borrow.Author.Needs.{needs}
 use denote.Ref.{now}

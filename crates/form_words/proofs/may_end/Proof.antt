@@ -1,4 +1,4 @@
--- `form_words::may_end` meets its contract: the bit is what the automaton says of the letter, or of the empty word. Assumes nothing.
+-- `form_words::may_end` meets its contract: the bit is what the automaton says of the letter, or of the empty word.
 use Prim.Native.Nat.{_≤_}
 use mathlib.Core.Path.{sym, ap, _∙_}
 use native.Mathlib.Omega.{arith}

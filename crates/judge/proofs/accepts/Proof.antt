@@ -1,4 +1,4 @@
--- `judge::accepts` meets its contract: what is left of the word, from the present set, decides. Assumes nothing.
+-- `judge::accepts` meets its contract: what is left of the word, from the present set, decides.
 use Prim.Native.Nat.{_≤_, _-_}
 use mathlib.Core.Path.{sym, subst}
 use mathlib.Core.Logic.{_↔_}
@@ -15,13 +15,13 @@ use Rattle.judge.proofs.accepts.Statement.{statement}
 use Rattle.judge.proofs.accepts.Tie as tie
 
 abbrev Inv-loop : tie.InvT-loop
-Inv-loop form word begins set₀ n₀ set n = (n ≤ length word) × (Accepts (view form) word ↔ SpellsFrom (view form) set (drop n word))
+Inv-loop form word starts set₀ n₀ set n = (n ≤ length word) × (Accepts (view form) word ↔ SpellsFrom (view form) set (drop n word))
 
 abbrev μ-loop : tie.MeasureT-loop
-μ-loop form word begins set₀ n₀ set n = length word - n
+μ-loop form word starts set₀ n₀ set n = length word - n
 
-starts-requires : tie.Need-starts-requires Inv-loop μ-loop
-starts-requires c κs = valid-at (now (c .before .before .args .form)) (c .before .before .pre)
+arc-starts-requires : tie.Need-arc-starts-requires Inv-loop μ-loop
+arc-starts-requires c κs = valid-at (now (c .before .before .args .form)) (c .before .before .pre)
 
 no-letter-requires : tie.Need-no-letter-requires Inv-loop μ-loop
 no-letter-requires c κs = search needs
@@ -34,7 +34,7 @@ loop-holds c =
     (omega arith, subst (λ s. Accepts (view f) w ↔ SpellsFrom (view f) s w) (sym (c .no-letter .ensures)) (begin (view f) w))
 
 slice-aggregate-advance : tie.Need-slice-aggregate-advance Inv-loop μ-loop
-slice-aggregate-advance c = sym (c .before .before .before .before .starts .ensures .size)
+slice-aggregate-advance c = sym (c .before .before .before .before .arc-starts .ensures .size)
 
 shared-slice-read-wide : tie.Need-shared-slice-read-wide Inv-loop μ-loop
 shared-slice-read-wide c = omega arith
@@ -45,7 +45,7 @@ wide-requires c κs = search needs
 advance-requires : tie.Need-advance-requires Inv-loop μ-loop
 advance-requires c κs =
     let s = c .before .before .before .before .before .before .before .before .before in
-    (valid-at (now (s .args .form)) (s .pre), c .before .before .before .before .before .before .starts .ensures)
+    (valid-at (now (s .args .form)) (s .pre), c .before .before .before .before .before .before .arc-starts .ensures)
 
 add-n : tie.Need-add-n Inv-loop μ-loop
 add-n c = omega arith
@@ -81,7 +81,7 @@ accepts-spec =
     (tie.spec
     Inv-loop
     μ-loop
-    starts-requires
+    arc-starts-requires
     no-letter-requires
     loop-holds
     slice-aggregate-advance

@@ -1,4 +1,4 @@
--- `judge::judge` meets its contract: the first check that holds, or the answer. Assumes nothing.
+-- `judge::judge` meets its contract: the first check that holds, or the answer.
 use mathlib.Core.Path.{_≡_, sym, ap, _∙_}
 use mathlib.Core.Bool.{Bool, true, false}
 use native.Mathlib.Omega.{arith}

@@ -1,4 +1,4 @@
--- `kavurehy::kavurehy_costs` meets its contract. Assumes nothing.
+-- `kavurehy::kavurehy_costs` meets its contract.
 use borrow.Author.Needs.{needs}
 use Rattle.kavurehy.specs.HandedLaws.{fills-plain}
 use Rattle.kavurehy.proofs.kavurehy_costs.Statement.{statement}

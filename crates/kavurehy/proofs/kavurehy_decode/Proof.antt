@@ -1,4 +1,4 @@
--- `kavurehy::kavurehy_decode` meets its contract. Assumes nothing.
+-- `kavurehy::kavurehy_decode` meets its contract.
 use borrow.Author.Needs.{needs}
 use denote.Ref.{now}
 use Rattle.answers.specs.Decoded.{reported}

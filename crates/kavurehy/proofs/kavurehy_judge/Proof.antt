@@ -1,4 +1,4 @@
--- `kavurehy::kavurehy_judge` meets its contract. Assumes nothing.
+-- `kavurehy::kavurehy_judge` meets its contract.
 use borrow.Author.Needs.{needs}
 use Rattle.kavurehy.proofs.kavurehy_judge.Statement.{statement}
 use Rattle.kavurehy.proofs.kavurehy_judge.Tie as tie

@@ -1,4 +1,4 @@
--- `kavurehy::kavurehy_read` meets its contract. Assumes nothing.
+-- `kavurehy::kavurehy_read` meets its contract.
 use borrow.Author.Needs.{needs}
 use Rattle.kavurehy.specs.Bounds.{read-fits}
 use Rattle.kavurehy.proofs.kavurehy_read.Statement.{statement}

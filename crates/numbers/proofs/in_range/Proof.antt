@@ -1,4 +1,4 @@
--- `numbers::in_range` meets its contract, by its two tests. Assumes nothing.
+-- `numbers::in_range` meets its contract, by its two tests.
 use borrow.Author.Tests.{lt-leb, le-leb}
 use Rattle.numbers.proofs.in_range.Statement.{statement}
 use Rattle.numbers.proofs.in_range.Tie as tie

@@ -1,4 +1,4 @@
--- `positions_build::build` meets its contract. Assumes nothing.
+-- `positions_build::build` meets its contract.
 use borrow.Author.Needs.{needs}
 use denote.Ref.{now}
 use Rattle.positions_build.specs.WholeLaws.{text-found, text-room, build-returns}

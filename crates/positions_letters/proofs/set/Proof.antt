@@ -1,4 +1,4 @@
--- `positions_letters::set` meets its contract. Assumes nothing.
+-- `positions_letters::set` meets its contract.
 use borrow.Author.Needs.{needs}
 use denote.Ref.{now}
 use Rattle.positions.specs.Opened.{labelsIn}

@@ -1,5 +1,4 @@
 -- `positions_letters::write_labels` meets its contract: what stands in front, what is written and the labels still to come make the whole.
--- Assumes nothing.
 use Prim.Native.Nat.{_+_, _-_, _≤_}
 use mathlib.Core.Path.{subst}
 use mathlib.Core.List.{[], _++_}

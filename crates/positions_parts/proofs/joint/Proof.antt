@@ -1,4 +1,4 @@
--- `positions_parts::joint` meets its contract. Assumes nothing.
+-- `positions_parts::joint` meets its contract.
 use native.Mathlib.Omega.{arith}
 use borrow.Author.Needs.{needs}
 use Rattle.positions_parts.proofs.joint.Statement.{statement}

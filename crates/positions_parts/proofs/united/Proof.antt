@@ -1,4 +1,4 @@
--- `positions_parts::united` meets its contract. Assumes nothing.
+-- `positions_parts::united` meets its contract.
 use borrow.Author.Needs.{needs}
 use Rattle.positions_parts.specs.TogetherLaws.{united-on, united-off}
 use Rattle.positions_parts.proofs.united.Statement.{statement}

@@ -1,4 +1,4 @@
--- `read_text::read_form` meets its contract: the first check that holds, or what is read past them. Assumes nothing.
+-- `read_text::read_form` meets its contract: the first check that holds, or what is read past them.
 use mathlib.Core.Path.{_≡_, sym, ap, _∙_, subst}
 use lib.ListN.{length}
 use denote.Ref.{now}

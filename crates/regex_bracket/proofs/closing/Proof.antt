@@ -1,4 +1,4 @@
--- `regex_bracket::closing` meets its contract. Assumes nothing.
+-- `regex_bracket::closing` meets its contract.
 use borrow.Author.Needs.{needs}
 use denote.Ref.{now}
 use mathlib.Core.Path.{sym, _∙_}

@@ -1,4 +1,4 @@
--- `regex_count::added` meets its contract. Assumes nothing.
+-- `regex_count::added` meets its contract.
 use borrow.Author.Needs.{needs}
 use mathlib.Core.Path.{ap, sym, _∙_}
 use Rattle.regex_set.specs.declared.Part.the-variants as part
@@ -24,7 +24,7 @@ returns-2 : tie.Need-returns-2
 returns-2 c =
     let start = c .before .before .before .before in
     let g = c .before .before .rest2 .given in
-    ap (part.Read (g .0 .0)) (c .sum .ensures) ∙ ap (add (start .args .n)) (sym (g .1))
+    ap (part.Found (g .0 .0)) (c .sum .ensures) ∙ ap (add (start .args .n)) (sym (g .1))
 
 pub added-spec : {M : Type 1} → statement M
 added-spec = tie.close (tie.spec enum-known-rest enum-known-rest-2 sum-requires returns returns-2)

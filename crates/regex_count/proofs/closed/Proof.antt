@@ -1,4 +1,4 @@
--- `regex_count::closed` meets its contract. Assumes nothing.
+-- `regex_count::closed` meets its contract.
 use borrow.Author.Needs.{needs}
 use native.Mathlib.Omega.{arith}
 use denote.Ref.{now}

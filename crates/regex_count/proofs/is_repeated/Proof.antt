@@ -1,4 +1,4 @@
--- `regex_count::is_repeated` meets its contract. Assumes nothing.
+-- `regex_count::is_repeated` meets its contract.
 use borrow.Author.Needs.{needs}
 use denote.Ref.{now}
 use mathlib.Core.Path.{refl, ap, sym, _∙_}

@@ -1,4 +1,4 @@
--- `regex_count::product` meets its contract. Assumes nothing.
+-- `regex_count::product` meets its contract.
 use native.Mathlib.Omega.{arith}
 use Rattle.regex_count.specs.Sums.{product-none, product-zero, product-many, product-times, product-small}
 use Rattle.regex_count.proofs.product.Statement.{statement}

@@ -1,4 +1,4 @@
--- `regex_count::repeated` meets its contract. Assumes nothing.
+-- `regex_count::repeated` meets its contract.
 use borrow.Author.Needs.{needs}
 use mathlib.Core.Path.{ap, sym, _∙_}
 use Prim.Native.Nat.{_*_}
@@ -35,14 +35,14 @@ returns-2 : tie.Need-returns-2
 returns-2 c =
     let start = c .before .before .before .before in
     let g = c .before .before .r2 .given in
-    ap (part.Read (g .0 .1 .1 .0)) (c .product .ensures) ∙ ap (repeated (start .args .n)) (sym (g .1))
+    ap (part.Found (g .0 .1 .1 .0)) (c .product .ensures) ∙ ap (repeated (start .args .n)) (sym (g .1))
 
 returns-3 : tie.Need-returns-3
 returns-3 c =
     let start = c .before .before .before .before .before in
     let after-r3 = c .before .before .before in
     let g = after-r3 .r3 .given in
-    ap (part.Read (g .0 .1 .0)) (c .product2 .ensures ∙ ap (λ k. few (k * start .args .n)) (c .before .copies .ensures))
+    ap (part.Found (g .0 .1 .0)) (c .product2 .ensures ∙ ap (λ k. few (k * start .args .n)) (c .before .copies .ensures))
     ∙ ap (repeated (start .args .n)) (sym (g .1))
 
 pub repeated-spec : {M : Type 1} → statement M

@@ -1,4 +1,4 @@
--- `regex_count::sum` meets its contract. Assumes nothing.
+-- `regex_count::sum` meets its contract.
 use native.Mathlib.Omega.{arith}
 use Rattle.regex_count.proofs.sum.Statement.{statement}
 use Rattle.regex_count.proofs.sum.Tie as tie

@@ -1,4 +1,4 @@
--- `regex_items::are_items` meets its contract: the items from i on decide. Assumes nothing.
+-- `regex_items::are_items` meets its contract: the items from i on decide.
 use native.Mathlib.Omega.{arith}
 use denote.Ref.{now}
 use Prim.Native.Nat.{_≤_, _-_}

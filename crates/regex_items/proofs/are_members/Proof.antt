@@ -1,4 +1,4 @@
--- `regex_items::are_members` meets its contract. Assumes nothing.
+-- `regex_items::are_members` meets its contract.
 use borrow.Author.Needs.{needs}
 use denote.Ref.{now}
 use mathlib.Core.Path.{sym, ap, _∙_}

@@ -1,4 +1,4 @@
--- `regex_items::is_range` meets its contract. Assumes nothing.
+-- `regex_items::is_range` meets its contract.
 use borrow.Author.Needs.{needs}
 use denote.Ref.{now}
 use Rattle.regex_items.specs.ItemsLaws.{ranges-short, ranges-by}

@@ -1,4 +1,4 @@
--- `regex_items::is_reserved` meets its contract: what is left inside decides. Assumes nothing.
+-- `regex_items::is_reserved` meets its contract: what is left inside decides.
 use native.Mathlib.Omega.{arith}
 use denote.Ref.{now}
 use Prim.Native.Nat.{_≤_, _-_}

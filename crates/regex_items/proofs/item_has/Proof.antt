@@ -1,4 +1,4 @@
--- `regex_items::item_has` meets its contract. Assumes nothing.
+-- `regex_items::item_has` meets its contract.
 use borrow.Author.Needs.{needs}
 use mathlib.Core.Path.{ap}
 use lib.Dec.{leb}

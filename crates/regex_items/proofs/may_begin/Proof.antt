@@ -1,4 +1,4 @@
--- `regex_items::may_begin` meets its contract. Assumes nothing.
+-- `regex_items::may_begin` meets its contract.
 use Rattle.regex_items.proofs.may_begin.Statement.{statement}
 use Rattle.regex_items.proofs.may_begin.Tie as tie
 

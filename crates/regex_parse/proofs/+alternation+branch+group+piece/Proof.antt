@@ -1,5 +1,5 @@
 -- `alternation`, `branch`, `piece` and `group` meet their contracts, together. The measure is 4 × the unread text, and 3, 2, 1 or 0 for
--- the function: it falls at each call. Assumes nothing.
+-- the function: it falls at each call.
 mod Measure
 mod Alternation
 mod Branch

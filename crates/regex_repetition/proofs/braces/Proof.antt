@@ -1,4 +1,4 @@
--- `regex_repetition::braces` meets its contract. Assumes nothing.
+-- `regex_repetition::braces` meets its contract.
 use borrow.Author.Needs.{needs}
 use denote.Ref.{now}
 use mathlib.Core.Path.{_∙_}

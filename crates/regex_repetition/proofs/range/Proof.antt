@@ -1,4 +1,4 @@
--- `regex_repetition::range` meets its contract. Assumes nothing.
+-- `regex_repetition::range` meets its contract.
 use Rattle.regex_repetition.specs.CountLaws.{ranged-order, ranged-none, ranged-much, ranged-is}
 use Rattle.regex_repetition.proofs.range.Statement.{statement}
 use Rattle.regex_repetition.proofs.range.Tie as tie

@@ -1,4 +1,4 @@
--- `regex_repetition::repetition` meets its contract. Assumes nothing.
+-- `regex_repetition::repetition` meets its contract.
 use borrow.Author.Needs.{needs}
 use denote.Ref.{now}
 use mathlib.Core.Path.{sym, ap, _∙_}

@@ -1,4 +1,4 @@
--- `regex_set::set` meets its contract. Assumes nothing.
+-- `regex_set::set` meets its contract.
 use borrow.Author.Needs.{needs}
 use denote.Ref.{now}
 use mathlib.Core.Path.{sym, ap, _∙_}
@@ -58,7 +58,7 @@ returns-3 c =
     let A = now (start .args .alphabet) in
     let text = now (start .args .text) in
     let at = start .args .at in
-    ap (part.Read (after-e .e .given .0 .0)) (c .capped-at-128 .ensures) ∙ part-labels A text (drop at text) _ (after-labels .count-labels .result)
+    ap (part.Found (after-e .e .given .0 .0)) (c .capped-at-128 .ensures) ∙ part-labels A text (drop at text) _ (after-labels .count-labels .result)
     (sym (after-e .e .given .1) ∙ after-set-end .set-end .ensures) (after-labels .count-labels .ensures) (c .before .if1 .left)
 
 pub set-spec : {M : Type 1} → statement M

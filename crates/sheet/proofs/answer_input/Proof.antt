@@ -1,4 +1,4 @@
--- `sheet::answer_input` meets its contract: a whole input is answered by the bytes that were read, a failed one by none. Assumes nothing.
+-- `sheet::answer_input` meets its contract: a whole input is answered by the bytes that were read, a failed one by none.
 use mathlib.Core.Path.{refl, sym, subst}
 use mathlib.Core.List.{[]}
 use denote.Ref.{now}

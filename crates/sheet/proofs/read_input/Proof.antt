@@ -1,5 +1,4 @@
 -- `sheet::read_input` meets its contract: what is read so far is within the buffer, and each turn reads at least a byte.
--- Assumes nothing.
 use Prim.Native.Nat.{_≤_, _-_}
 use mathlib.Core.Path.{_≡_, sym}
 use native.Mathlib.Omega.{arith}

@@ -1,5 +1,4 @@
--- `sheet_answer::answer` meets its contract: 18 for what is no sheet, else what is printed for the lines and the costs of the sheet. Assumes
--- nothing.
+-- `sheet_answer::answer` meets its contract: 18 for what is no sheet, else what is printed for the lines and the costs of the sheet.
 use Prim.Native.Nat.{ℕ, _+_, _-_, _*_}
 use mathlib.Core.Path.{sym, subst}
 use mathlib.Core.List.{List}

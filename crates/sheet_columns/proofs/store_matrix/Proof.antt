@@ -1,4 +1,4 @@
--- `sheet_columns::store_matrix` meets its contract: the first column gives the width of the others. Assumes nothing.
+-- `sheet_columns::store_matrix` meets its contract: the first column gives the width of the others.
 use mathlib.Core.Path.{subst}
 use native.Mathlib.Omega.{arith}
 use borrow.Author.Needs.{needs}

@@ -1,4 +1,4 @@
--- `sheet_lines::print_reading` meets its contract: the lines of the price, the word and the path. Assumes nothing.
+-- `sheet_lines::print_reading` meets its contract: the lines of the price, the word and the path.
 use Prim.Native.Nat.{ℕ, _+_, _≤_}
 use mathlib.Core.Path.{refl}
 use mathlib.Core.List.{List, _++_}

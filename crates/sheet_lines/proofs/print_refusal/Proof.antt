@@ -1,4 +1,4 @@
--- `sheet_lines::print_refusal` meets its contract: the word and the line of the number. Assumes nothing.
+-- `sheet_lines::print_refusal` meets its contract: the word and the line of the number.
 use Prim.Native.Nat.{ℕ, _+_, _≤_}
 use mathlib.Core.Path.{_≡_, sym, ap}
 use mathlib.Core.List.{List, _++_}

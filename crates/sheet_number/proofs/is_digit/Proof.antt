@@ -1,4 +1,4 @@
--- `sheet_number::is_digit` meets its contract, by its two tests. Assumes nothing.
+-- `sheet_number::is_digit` meets its contract, by its two tests.
 use borrow.Author.Tests.{lt-leb, le-leb}
 use Rattle.sheet_number.proofs.is_digit.Statement.{statement}
 use Rattle.sheet_number.proofs.is_digit.Tie as tie

@@ -1,4 +1,4 @@
--- `sheet_number::is_padded` meets its contract, by its two tests. Assumes nothing.
+-- `sheet_number::is_padded` meets its contract, by its two tests.
 use borrow.Author.Tests.{lt-leb, le-leb}
 use Rattle.sheet_number.proofs.is_padded.Statement.{statement}
 use Rattle.sheet_number.proofs.is_padded.Tie as tie

@@ -1,4 +1,4 @@
--- `sheet_number::is_separator` meets its contract, by its two tests. Assumes nothing.
+-- `sheet_number::is_separator` meets its contract, by its two tests.
 use borrow.Author.Tests.{eq-eqb, ne-eqb}
 use Rattle.sheet_number.proofs.is_separator.Statement.{statement}
 use Rattle.sheet_number.proofs.is_separator.Tie as tie

@@ -1,4 +1,4 @@
--- `sheet_number::line_end` meets its contract: the first newline is the line's end. Assumes nothing.
+-- `sheet_number::line_end` meets its contract: the first newline is the line's end.
 use denote.Ref.{now}
 use borrow.Author.Needs.{needs}
 use Rattle.sheet_number.specs.PlacesLaws.{line-found}

@@ -1,4 +1,4 @@
--- `sheet_number::read_cost` meets its contract, a lemma for each return. Assumes nothing.
+-- `sheet_number::read_cost` meets its contract, a lemma for each return.
 use mathlib.Core.Path.{sym, _∙_}
 use borrow.Author.Needs.{needs}
 use borrow.Author.Tests.{not-true, not-false}

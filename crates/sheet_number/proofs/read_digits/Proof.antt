@@ -1,4 +1,4 @@
--- `sheet_number::read_digits` meets its contract: the bytes in front of i are digits and make v. Assumes nothing.
+-- `sheet_number::read_digits` meets its contract: the bytes in front of i are digits and make v.
 use Prim.Native.Nat.{_+_, _-_, _<_, _≤_}
 use mathlib.Core.Path.{_≡_, sym, _∙_}
 use mathlib.Core.Bool.{true}

@@ -1,5 +1,4 @@
 -- `sheet_print::print_answer` meets its contract: the line of the refusal, or the lines of the path and the word in the lent memory.
--- Assumes nothing.
 use Prim.Native.Nat.{_≤_}
 use mathlib.Core.Path.{sym, subst}
 use lib.ListN.{length}

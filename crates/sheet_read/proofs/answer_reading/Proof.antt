@@ -1,5 +1,5 @@
 -- `sheet_read::answer_reading` meets its contract: what is printed of Read's answer, with the path and the word as it left them in the lent
--- memory. Assumes nothing.
+-- memory.
 use Prim.Native.Nat.{ℕ}
 use mathlib.Core.Path.{_≡_}
 use mathlib.Core.List.{List}

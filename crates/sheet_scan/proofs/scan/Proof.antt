@@ -1,4 +1,4 @@
--- `sheet_scan::scan` meets its contract, a lemma for each return. Assumes nothing.
+-- `sheet_scan::scan` meets its contract, a lemma for each return.
 use mathlib.Core.Path.{refl, subst}
 use native.Mathlib.Omega.{arith}
 use borrow.Author.Needs.{needs}

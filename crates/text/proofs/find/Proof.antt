@@ -1,4 +1,4 @@
--- `text::find` meets its contract: the text from i on has the first such sign where the text from the start on has it. Assumes nothing.
+-- `text::find` meets its contract: the text from i on has the first such sign where the text from the start on has it.
 use native.Mathlib.Omega.{arith}
 use denote.Ref.{now}
 use Prim.Native.Nat.{_-_, _+_}

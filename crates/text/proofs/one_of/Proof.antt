@@ -1,4 +1,4 @@
--- `text::one_of` meets its contract: the signs from i on decide. Assumes nothing.
+-- `text::one_of` meets its contract: the signs from i on decide.
 use native.Mathlib.Omega.{arith}
 use denote.Ref.{now}
 use Prim.Native.Nat.{_≤_, _-_}

@@ -1,4 +1,4 @@
--- `text::peek` meets its contract. Assumes nothing.
+-- `text::peek` meets its contract.
 use borrow.Author.Needs.{needs}
 use denote.Ref.{now}
 use mathlib.Core.Path.{sym}

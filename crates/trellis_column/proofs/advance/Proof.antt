@@ -1,4 +1,4 @@
--- `trellis_column::advance` meets its contract: some state is kept, so there is a lowest label. Assumes nothing.
+-- `trellis_column::advance` meets its contract: some state is kept, so there is a lowest label.
 use Prim.Native.Nat.{_≤_}
 use native.Mathlib.Omega.{arith}
 use denote.Ref.{now}

@@ -1,4 +1,4 @@
--- `trellis_column::lowest` meets its contract: the least of what the turns so far offered. Assumes nothing.
+-- `trellis_column::lowest` meets its contract: the least of what the turns so far offered.
 use Prim.Native.Nat.{_≤_, _+_, _*_, _-_}
 use mathlib.Core.Path.{_≡_, sym, subst}
 use native.Mathlib.Omega.{arith}

@@ -1,4 +1,4 @@
--- `trellis_column::offered` meets its contract: the label, where the three tests pass. Assumes nothing.
+-- `trellis_column::offered` meets its contract: the label, where the three tests pass.
 use Prim.Native.Nat.{_≤_}
 use native.Mathlib.Omega.{arith}
 use denote.Ref.{now}

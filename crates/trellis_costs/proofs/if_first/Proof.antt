@@ -1,4 +1,4 @@
--- `trellis_costs::if_first` meets its contract. Assumes nothing.
+-- `trellis_costs::if_first` meets its contract.
 use mathlib.Core.Path.{sym, ap, _∙_}
 use borrow.Author.Needs.{needs}
 use Rattle.trellis_costs.specs.Allowed.{if-first}

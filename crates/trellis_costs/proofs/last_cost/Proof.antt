@@ -1,4 +1,4 @@
--- `trellis_costs::last_cost` meets its contract. Assumes nothing.
+-- `trellis_costs::last_cost` meets its contract.
 use mathlib.Core.Path.{sym, ap, _∙_}
 use borrow.Author.Needs.{needs}
 use Rattle.trellis.specs.Cells.{ending}

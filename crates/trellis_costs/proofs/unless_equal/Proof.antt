@@ -1,4 +1,4 @@
--- `trellis_costs::unless_equal` meets its contract. Assumes nothing.
+-- `trellis_costs::unless_equal` meets its contract.
 use mathlib.Core.Path.{sym, ap, _∙_}
 use mathlib.Core.Bool.{cond}
 use borrow.Author.Needs.{needs}

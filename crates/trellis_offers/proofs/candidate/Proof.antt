@@ -1,4 +1,4 @@
--- `trellis_offers::candidate` meets its contract. Assumes nothing.
+-- `trellis_offers::candidate` meets its contract.
 use Prim.Native.Nat.{_+_, _*_, _-_}
 use mathlib.Core.Path.{ap, _∙_}
 use native.Mathlib.Omega.{arith}

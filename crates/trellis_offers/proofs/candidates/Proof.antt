@@ -1,4 +1,4 @@
--- `trellis_offers::candidates` meets its contract: the candidates of the letters that are passed. Assumes nothing.
+-- `trellis_offers::candidates` meets its contract: the candidates of the letters that are passed.
 use Prim.Native.Nat.{_+_, _-_, _≤_}
 use mathlib.Core.Path.{_≡_, subst}
 use native.Mathlib.Omega.{arith}

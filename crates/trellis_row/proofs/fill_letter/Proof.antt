@@ -1,4 +1,4 @@
--- `trellis_row::fill_letter` meets its contract. Assumes nothing.
+-- `trellis_row::fill_letter` meets its contract.
 use Prim.Native.Nat.{_+_, _*_, min}
 use mathlib.Core.Path.{ap, _∙_}
 use native.Mathlib.Omega.{arith}
@@ -49,8 +49,8 @@ along-arcs-requires c κs =
       candidates = p .0 .candidates;
       low = p .1;
       high = p .2;
-      first = p .0 .begins .begins i (omega arith);
-      next = p .0 .begins .begins (i + 1) (omega arith);
+      first = p .0 .begun .starts i (omega arith);
+      next = p .0 .begun .starts (i + 1) (omega arith);
     }
 
 mul-least : tie.Need-mul-least

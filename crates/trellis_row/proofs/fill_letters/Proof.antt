@@ -1,4 +1,4 @@
--- `trellis_row::fill_letters` meets its contract: the states of the letters that are passed. Assumes nothing.
+-- `trellis_row::fill_letters` meets its contract: the states of the letters that are passed.
 use Prim.Native.Nat.{_+_, _-_, _≤_}
 use mathlib.Core.Path.{_≡_, subst}
 use native.Mathlib.Omega.{arith}
@@ -10,10 +10,10 @@ use Rattle.trellis_row.proofs.fill_letters.Statement.{statement}
 use Rattle.trellis_row.proofs.fill_letters.Tie as tie
 
 abbrev Inv-loop : tie.InvT-loop
-Inv-loop form begins candidates blank work₀ here next l i₀ work i = (1 ≤ i) × (i ≤ l + 1) × LettersFilled form candidates blank work₀ work here next i
+Inv-loop form starts candidates blank work₀ here next l i₀ work i = (1 ≤ i) × (i ≤ l + 1) × LettersFilled form candidates blank work₀ work here next i
 
 abbrev μ-loop : tie.MeasureT-loop
-μ-loop form begins candidates blank work₀ here next l i₀ work i = l + 1 - i
+μ-loop form starts candidates blank work₀ here next l i₀ work i = l + 1 - i
 
 letters-requires : tie.Need-letters-requires Inv-loop μ-loop
 letters-requires c κs = let h = c .before .before .before .before .pre .valid .long in omega arith
@@ -31,7 +31,7 @@ fill-letter-requires c κs =
     let kept = l .inv .2 .outside in (
       record {
         valid = p .valid;
-        begins = p .begins;
+        begun = p .begun;
         candidates = p .candidates;
         apart = p .apart;
         row = bounded-kept (now (a .form)) (now (a .candidates)) (a .blank) (now (a .work)) (a .here) (a .next) (p .apart) (l .work) kept (p .row);

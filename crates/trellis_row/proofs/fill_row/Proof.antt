@@ -1,4 +1,4 @@
--- `trellis_row::fill_row` meets its contract. Assumes nothing.
+-- `trellis_row::fill_row` meets its contract.
 use Prim.Native.Nat.{_+_, _≤_, min}
 use mathlib.Core.Path.{_≡_, ap, subst, _∙_}
 use native.Mathlib.Omega.{arith}
@@ -46,7 +46,7 @@ slice-aggregate-fill-letters c = search needs
 fill-letters-requires : tie.Need-fill-letters-requires
 fill-letters-requires c κs =
     let p = c .before .before .before .before .before .before .before .before .before .before .before .before .before .before .pre in
-    record { valid = p .ahead .valid; begins = p .begins; candidates = c .before .before .before .before .before .before .before .candidates .ensures .good; apart = p .apart; row = p .ahead .row }
+    record { valid = p .ahead .valid; begun = p .begun; candidates = c .before .before .before .before .before .before .before .candidates .ensures .good; apart = p .apart; row = p .ahead .row }
 
 mul-work : tie.Need-mul-work
 mul-work c = omega arith

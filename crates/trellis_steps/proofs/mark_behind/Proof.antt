@@ -1,4 +1,4 @@
--- `trellis_steps::mark_behind` meets its contract: the first letters, or the targets of the letter's arcs. Assumes nothing.
+-- `trellis_steps::mark_behind` meets its contract: the first letters, or the targets of the letter's arcs.
 use native.Mathlib.Omega.{arith}
 use mathlib.Core.Path.{sym, subst}
 use denote.Ref.{now}

@@ -1,4 +1,4 @@
--- `trellis_steps::mark_from` meets its contract, by its two arms. Assumes nothing.
+-- `trellis_steps::mark_from` meets its contract, by its two arms.
 use denote.Ref.{now}
 use borrow.Author.Needs.{needs}
 use Rattle.automaton.specs.Form.{view}

@@ -1,4 +1,4 @@
--- `trellis_steps::mark_letter` meets its contract, by its two arms. Assumes nothing.
+-- `trellis_steps::mark_letter` meets its contract, by its two arms.
 use mathlib.Core.Path.{sym, _∙_}
 use native.Mathlib.Omega.{arith}
 use denote.Ref.{now}

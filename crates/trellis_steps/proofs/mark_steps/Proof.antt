@@ -1,4 +1,4 @@
--- `trellis_steps::mark_steps` meets its contract: the two states, then the letters behind. Assumes nothing.
+-- `trellis_steps::mark_steps` meets its contract: the two states, then the letters behind.
 use Prim.Native.Nat.{_+_, _*_, _/_}
 use mathlib.Core.Path.{subst}
 use mathlib.Core.Bool.{true}
@@ -51,7 +51,7 @@ mark-behind-requires c κs =
     let p = c .before .before .before .before .before .before .pre in
     let high = p .0 .head .letters-high in
     let i = (a .s + 1) / 2 in
-    (p .0, p .1 .begins i (omega arith), p .1 .begins (i + 1) (omega arith), simp length-set (p .3))
+    (p .0, p .1 .starts i (omega arith), p .1 .starts (i + 1) (omega arith), simp length-set (p .3))
 
 returns : tie.Need-returns
 returns c =

@@ -1,4 +1,4 @@
--- `trellis_steps::reached` meets its contract: the turns so far have marked what steps from their states lead to. Assumes nothing.
+-- `trellis_steps::reached` meets its contract: the turns so far have marked what steps from their states lead to.
 use Prim.Native.Nat.{_≤_, _+_, _*_, _-_}
 use mathlib.Core.Path.{_≡_}
 use mathlib.Core.Bool.{false}
@@ -15,10 +15,10 @@ use Rattle.trellis_steps.proofs.reached.Statement.{statement}
 use Rattle.trellis_steps.proofs.reached.Tie as tie
 
 abbrev Inv-loop : tie.InvT-loop
-Inv-loop form begins from last set₀ s₀ set s = (last ≡ 2 * lettersOf form) × (s ≤ last + 1) × Marks (Turns (From (view form) from) 0 s) (replicate 255 false) set
+Inv-loop form starts from last set₀ s₀ set s = (last ≡ 2 * lettersOf form) × (s ≤ last + 1) × Marks (Turns (From (view form) from) 0 s) (replicate 255 false) set
 
 abbrev μ-loop : tie.MeasureT-loop
-μ-loop form begins from last set₀ s₀ set s = last + 1 - s
+μ-loop form starts from last set₀ s₀ set s = last + 1 - s
 
 letters-requires : tie.Need-letters-requires Inv-loop μ-loop
 letters-requires c κs = let long = c .before .before .pre .0 .long in omega arith

@@ -1,4 +1,4 @@
--- `trellis_table::fill` meets its contract: the last row, and then the others. Assumes nothing.
+-- `trellis_table::fill` meets its contract: the last row, and then the others.
 use native.Mathlib.Omega.{arith}
 use borrow.Author.Needs.{needs}
 use denote.Ref.{now}

@@ -1,4 +1,4 @@
--- `trellis_table::fill_last` meets its contract: the states that are passed. Assumes nothing.
+-- `trellis_table::fill_last` meets its contract: the states that are passed.
 use Prim.Native.Nat.{_+_, _*_, _-_, _<_, _≤_}
 use mathlib.Core.Path.{_≡_, subst}
 use native.Mathlib.Omega.{arith}

@@ -1,4 +1,4 @@
--- `trellis_table::fill_rows` meets its contract: the rows from that of column t on. Assumes nothing.
+-- `trellis_table::fill_rows` meets its contract: the rows from that of column t on.
 use Prim.Native.Nat.{_+_, _*_, _-_, _<_, _≤_}
 use mathlib.Core.Path.{_≡_, sym, subst}
 use native.Mathlib.Omega.{arith}
@@ -12,13 +12,13 @@ use Rattle.trellis_table.proofs.fill_rows.Statement.{statement}
 use Rattle.trellis_table.proofs.fill_rows.Tie as tie
 
 abbrev Inv-loop : tie.InvT-loop
-Inv-loop form costs width count work₀ stride begins t₀ work t = (t ≤ count) × RowsFilled form (matrix costs width count) work₀ work stride t
+Inv-loop form costs width count work₀ stride starts t₀ work t = (t ≤ count) × RowsFilled form (matrix costs width count) work₀ work stride t
 
 abbrev μ-loop : tie.MeasureT-loop
-μ-loop form costs width count work₀ stride begins t₀ work t = t
+μ-loop form costs width count work₀ stride starts t₀ work t = t
 
-starts-requires : tie.Need-starts-requires Inv-loop μ-loop
-starts-requires c κs = c .before .before .before .pre .0 .valid
+arc-starts-requires : tie.Need-arc-starts-requires Inv-loop μ-loop
+arc-starts-requires c κs = c .before .before .before .pre .0 .valid
 
 loop-holds : tie.Need-loop-holds Inv-loop μ-loop
 loop-holds c =
@@ -48,7 +48,7 @@ done c =
     subst (RowsFilled (now (a .form)) (matrix (now (a .costs)) (a .width) (a .count)) (now (a .work)) (l .work) (a .stride)) e (l .inv .1)
 
 slice-aggregate-fill-row : tie.Need-slice-aggregate-fill-row Inv-loop μ-loop
-slice-aggregate-fill-row c = sym (c .before .before .before .starts .ensures .size)
+slice-aggregate-fill-row c = sym (c .before .before .before .arc-starts .ensures .size)
 
 mul-fill-row : tie.Need-mul-fill-row Inv-loop μ-loop
 mul-fill-row c = let h = costs (c .before) in omega (arith, c .before .before .before .before .before .before .before .good)
@@ -70,7 +70,7 @@ fill-row-requires c κs =
     let t = c .before .before in
     let wide = p .row in
     record {
-      begins = c .before .before .before .before .starts .ensures;
+      begun = c .before .before .before .before .arc-starts .ensures;
       ahead =
           record {
             valid = p .valid;
@@ -111,7 +111,7 @@ fill-rows-spec =
     (tie.spec
     Inv-loop
     μ-loop
-    starts-requires
+    arc-starts-requires
     loop-holds
     sub-t
     slice-aggregate-fill-row

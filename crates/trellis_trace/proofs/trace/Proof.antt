@@ -1,4 +1,4 @@
--- `trellis_trace::trace` meets its contract: what is written leads to the front, column by column. Assumes nothing.
+-- `trellis_trace::trace` meets its contract: what is written leads to the front, column by column.
 use Prim.Native.Nat.{_≤_, _+_, _*_, _-_}
 use mathlib.Core.Path.{refl, sym}
 use native.Mathlib.Omega.{arith}
@@ -11,10 +11,10 @@ use Rattle.trellis_trace.proofs.trace.Statement.{statement}
 use Rattle.trellis_trace.proofs.trace.Tie as tie
 
 abbrev Inv-loop : tie.InvT-loop
-Inv-loop form costs width count work base stride path₀ begins states price front₀ t₀ path front t = Standing form (matrix costs width count) path₀ t front path
+Inv-loop form costs width count work base stride path₀ starts states price front₀ t₀ path front t = Standing form (matrix costs width count) path₀ t front path
 
 abbrev μ-loop : tie.MeasureT-loop
-μ-loop form costs width count work base stride path₀ begins states price front₀ t₀ path front t = count - t
+μ-loop form costs width count work base stride path₀ starts states price front₀ t₀ path front t = count - t
 
 -- the column and the row lie inside
 column : (c : tie.In-loop Inv-loop μ-loop) → c .before .loop .t * c .before .before .before .before .before .before .before .before .before .args .width + c .before .before .before .before .before .before .before .before .before .args .width ≤ length (now (c .before .before .before .before .before .before .before .before .before .args .costs))
@@ -25,8 +25,8 @@ row :
     → c .before .before .before .before .before .before .before .before .before .args .base + (c .before .loop .t + 1) * c .before .before .before .before .before .before .before .before .before .args .stride + (2 * c .before .before .before .letters .result + 1) ≤ length (now (c .before .before .before .before .before .before .before .before .before .args .work))
 row c = let e = c .before .before .before .letters .ensures in let h = row-inside (c .before .before .before .before .before .before .before .before .before .pre .0) (c .before .loop .t) (c .loop-test .taken) in omega arith
 
-starts-requires : tie.Need-starts-requires Inv-loop μ-loop
-starts-requires c κs = c .before .before .before .before .pre .0 .valid
+arc-starts-requires : tie.Need-arc-starts-requires Inv-loop μ-loop
+arc-starts-requires c κs = c .before .before .before .before .pre .0 .valid
 
 letters-requires : tie.Need-letters-requires Inv-loop μ-loop
 letters-requires c κs = let l = c .before .before .before .before .before .pre .0 .valid .long in omega arith
@@ -68,7 +68,7 @@ add-past : tie.Need-add-past Inv-loop μ-loop
 add-past c = let h = row (c) in omega (arith, c .before .before .before .before .before .before .before .before .before .good)
 
 slice-aggregate-advance : tie.Need-slice-aggregate-advance Inv-loop μ-loop
-slice-aggregate-advance c = sym (c .before .before .before .before .before .starts .ensures .size)
+slice-aggregate-advance c = sym (c .before .before .before .before .before .arc-starts .ensures .size)
 
 mul-advance : tie.Need-mul-advance Inv-loop μ-loop
 mul-advance c = let h = column (c .before) in omega (arith, c .before .before .before .before .before .before .before .before .before .before .good)
@@ -105,7 +105,7 @@ advance-requires c κs =
     let n = c .before .before .before .before .before .before .letters .result in
     let e = c .before .before .before .before .before .before .letters .ensures in
     let parts = parts-of ready (l .t) there at (at + a .width) begin (begin + (2 * n + 1)) refl refl refl (omega arith) in
-    (standing-sized ready (l .t) there parts (l .inv), c .before .before .before .before .before .before .before .starts .ensures, l .inv .within, standing-kept ready (l .t) there parts (l .inv))
+    (standing-sized ready (l .t) there parts (l .inv), c .before .before .before .before .before .before .before .arc-starts .ensures, l .inv .within, standing-kept ready (l .t) there parts (l .inv))
 
 slice-write-path : tie.Need-slice-write-path Inv-loop μ-loop
 slice-write-path c =
@@ -145,7 +145,7 @@ trace-spec =
     (tie.spec
     Inv-loop
     μ-loop
-    starts-requires
+    arc-starts-requires
     letters-requires
     mul-states
     add-states

@@ -1,4 +1,4 @@
--- `vectors::all` stays within its list and ends. Assumes nothing.
+-- `vectors::all` stays within its list and ends.
 use Prim.Native.Nat.{_≤_, _-_}
 use native.Mathlib.Omega.{arith}
 use lib.ListN.{length}

@@ -1,4 +1,4 @@
--- `vectors_fields::field` meets its contract. Assumes nothing.
+-- `vectors_fields::field` meets its contract.
 use borrow.Author.Needs.{needs}
 use mathlib.Core.Path.{_≡_, sym, ap, _∙_}
 use Prim.Native.Nat.{_-_}

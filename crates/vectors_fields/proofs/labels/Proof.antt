@@ -1,4 +1,4 @@
--- `vectors_fields::labels` meets its contract. Assumes nothing.
+-- `vectors_fields::labels` meets its contract.
 use borrow.Author.Needs.{needs}
 use Rattle.vectors_fields.specs.FieldsLaws.{counts}
 use Rattle.vectors_fields.specs.Narrow.{wrote-front}

@@ -1,4 +1,4 @@
--- `vectors_fields::longer` meets its contract. Assumes nothing.
+-- `vectors_fields::longer` meets its contract.
 use borrow.Author.Needs.{needs}
 use borrow.Author.Tests.{eq-eqb, ne-eqb, lt-ltb, le-ltb, not-true, not-false}
 use Rattle.vectors_fields.proofs.longer.Statement.{statement}

@@ -1,4 +1,4 @@
--- `vectors_fields::narrow` meets its contract: as many numbers as the loop has passed are written as bytes. Assumes nothing.
+-- `vectors_fields::narrow` meets its contract: as many numbers as the loop has passed are written as bytes.
 use Prim.Native.Nat.{_-_, _≤_}
 use native.Mathlib.Omega.{arith}
 use denote.Ref.{now}

@@ -1,4 +1,4 @@
--- `vectors_fields::push` meets its contract. Assumes nothing.
+-- `vectors_fields::push` meets its contract.
 use native.Mathlib.Omega.{arith}
 use denote.Ref.{now}
 use lib.ListN.{length-set}

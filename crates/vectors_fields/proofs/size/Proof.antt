@@ -1,4 +1,4 @@
--- `vectors_fields::size` meets its contract. Assumes nothing.
+-- `vectors_fields::size` meets its contract.
 use borrow.Author.Needs.{needs}
 use mathlib.Core.Path.{sym, ap, _∙_}
 use mathlib.Core.Bool.{false}

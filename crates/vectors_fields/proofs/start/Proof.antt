@@ -1,4 +1,4 @@
--- `vectors_fields::start` meets its contract: the field wanted is a field of the line from `at` on. Assumes nothing.
+-- `vectors_fields::start` meets its contract: the field wanted is a field of the line from `at` on.
 use mathlib.Core.Path.{_≡_, _∙_}
 use Prim.Native.Nat.{_-_, _≤_}
 use native.Mathlib.Omega.{arith}

@@ -1,10 +1,10 @@
--- `alternation` at each place of its code, where what it calls meets its contract below the measure. Assumes nothing.
+-- `alternation` at each place of its code, where what it calls meets its contract below the measure.
 use mathlib.Core.Path.{_≡_, sym, _∙_}
 use native.Mathlib.Omega.{arith}
 use lib.ListN.{getD}
 use denote.Ref.{now}
 use borrow.Author.Needs.{needs}
-use Rattle.regex.specs.Read.{m-branch}
+use Rattle.regex.specs.Parse.{m-branch}
 use Rattle.text.specs.TextLaws.{byte-is}
 use Rattle.positions_build.specs.Made.{reading, branch-found}
 use Rattle.positions_build.specs.BranchCalls.{branch-room, alternation-found, alternation-room, alternation-returns-branch, alternation-returns-choice}

@@ -1,9 +1,9 @@
--- `branch` at each place of its code, where what it calls meets its contract below the measure. Assumes nothing.
+-- `branch` at each place of its code, where what it calls meets its contract below the measure.
 use mathlib.Core.Path.{sym, _∙_}
 use native.Mathlib.Omega.{arith}
 use denote.Ref.{now}
 use borrow.Author.Needs.{needs}
-use Rattle.regex.specs.Read.{m-piece}
+use Rattle.regex.specs.Parse.{m-piece}
 use Rattle.positions_build.specs.Made.{reading, piece-found}
 use Rattle.positions_build.specs.BranchCalls.{first-copy, piece-room, next-found, next-room, branch-returns-piece, branch-returns-joint}
 use Prim.Native.Nat.{ℕ}

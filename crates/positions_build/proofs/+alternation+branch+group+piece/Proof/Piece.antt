@@ -1,4 +1,4 @@
--- `piece` at each place of its code, where what it calls meets its contract below the measure. Assumes nothing.
+-- `piece` at each place of its code, where what it calls meets its contract below the measure.
 use mathlib.Core.Path.{_∙_}
 use native.Mathlib.Omega.{arith}
 use denote.Ref.{now}

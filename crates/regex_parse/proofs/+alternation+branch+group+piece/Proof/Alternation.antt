@@ -1,10 +1,10 @@
--- `alternation` at each place of its code, where what it calls meets its contract below the measure. Assumes nothing.
+-- `alternation` at each place of its code, where what it calls meets its contract below the measure.
 use mathlib.Core.Path.{sym, ap, _∙_}
 use Prim.Native.Nat.{ℕ}
 use native.Mathlib.Omega.{arith}
 use denote.Ref.{now}
 use borrow.Author.Needs.{needs}
-use Rattle.regex.specs.Read.{m-branch}
+use Rattle.regex.specs.Parse.{m-branch}
 use Rattle.text.specs.TextLaws.{byte-is}
 use Rattle.regex_count.specs.Parts.{add}
 use Rattle.regex_parse.specs.Parts.{Found, part-found}

@@ -1,9 +1,9 @@
--- `piece` at each place of its code, where what it calls meets its contract below the measure. Assumes nothing.
+-- `piece` at each place of its code, where what it calls meets its contract below the measure.
 use mathlib.Core.Path.{sym, ap, _∙_}
 use Prim.Native.Nat.{ℕ}
 use denote.Ref.{now}
 use borrow.Author.Needs.{needs}
-use Rattle.regex.specs.Read.{m-group}
+use Rattle.regex.specs.Parse.{m-group}
 use Rattle.regex_count.specs.Parts.{repeated}
 use Rattle.regex_parse.specs.Parts.{Found, part-found}
 use Rattle.regex_parse.specs.Cycle.{piece-refused, piece-plain, piece-repeated}

@@ -1,4 +1,4 @@
--- `vectors::parts::room` is the length of a part of memory. Assumes nothing.
+-- `vectors::parts::room` is the length of a part of memory.
 use mathlib.Core.Path.{sym}
 use native.Mathlib.Omega.{arith}
 use lib.ListN.{length-replicate}

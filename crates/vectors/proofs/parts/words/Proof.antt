@@ -1,4 +1,4 @@
--- `vectors::parts::words` lends a part that is within its list. Assumes nothing.
+-- `vectors::parts::words` lends a part that is within its list.
 use mathlib.Core.Path.{sym}
 use native.Mathlib.Omega.{arith}
 use lib.Seq.{length-take-le}

@@ -1,4 +1,4 @@
--- `vectors::show::bytes` stays within its list and ends. Assumes nothing.
+-- `vectors::show::bytes` stays within its list and ends.
 use Prim.Native.Nat.{_-_}
 use borrow.Author.Needs.{needs}
 use Rattle.vectors.proofs.show.bytes.Statement.{statement}

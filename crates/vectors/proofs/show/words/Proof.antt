@@ -1,4 +1,4 @@
--- `vectors::show::words` stays within its list and ends. Assumes nothing.
+-- `vectors::show::words` stays within its list and ends.
 use Prim.Native.Nat.{_-_}
 use borrow.Author.Needs.{needs}
 use Rattle.vectors.proofs.show.words.Statement.{statement}

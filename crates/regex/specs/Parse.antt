@@ -1,14 +1,12 @@
 -- From text to tree, or to the refusal of the leftmost fault (document 01, "Expression text" and rows 4 to 8 of "What is turned away").
--- Assumes nothing.
--- Used by 9 files of specs/; in positions_build, compile, regex_count, sheet_answer, regex_parse and read.
 use mathlib.Core.List.{List, [], _∷_}
 use mathlib.Core.Bool.{Bool, true, false}
 use Prim.Native.Nat.{ℕ, zero, suc, _+_, _*_}
 use lib.ListN.{length}
-use Rattle.refusal.specs.declared.Refusal.the-variants as row
+use Rattle.refusal.specs.declared.Refusal.the-variants as refusal
 use Rattle.text.specs.Bytes.{bytes}
 use Rattle.regex.specs.Tree.{Tree, set, group, times, join, either}
-use Rattle.regex.specs.Text.{Reads, found, fault, then}
+use Rattle.regex.specs.Parsing.{Parsing, found, fault, then}
 use Rattle.text.specs.Text.{next, one-of, rest}
 use Rattle.regex.specs.Sets.{labelled-set}
 use Rattle.regex.specs.Repetition.{repeats, repetition}
@@ -24,22 +22,22 @@ ends [] = true
 ends (b ∷ s) = one-of (bytes "|)") b
 
 -- "Groups `( )` nest, at most 16 open together": s begins with the `(`, and d more may be opened
-unfoldable pub grouped : (ℕ → List ℕ → Reads Tree) → ℕ → List ℕ → Reads Tree
-grouped content zero s = fault row.Depth s
+unfoldable pub grouped : (ℕ → List ℕ → Parsing Tree) → ℕ → List ℕ → Parsing Tree
+grouped content zero s = fault refusal.Depth s
 grouped content (suc d) s = then (content d (rest s)) (λ r s₁.
-    elim (next ")" s₁) [ true ↦ found (group r) (rest s₁) | false ↦ fault row.MisplacedSign s₁ ])
+    elim (next ")" s₁) [ true ↦ found (group r) (rest s₁) | false ↦ fault refusal.MisplacedSign s₁ ])
 
 -- One step of the reading, where d more groups may be opened and `read` says what is read of less text, or of as much in a closer mode:
 -- the tree and the unread text, or the refusal and the text from the fault on. A `)` that is missing is misplaced where it should stand.
-unfoldable pub step : List ℕ → (Mode → ℕ → List ℕ → Reads Tree) → Mode → ℕ → List ℕ → Reads Tree
-step A read m-alternation d s = then (read m-branch d s) (λ r s₁.
-    elim (next "|" s₁) [ true ↦ then (read m-alternation d (rest s₁)) (λ t s₂. found (either r t) s₂) | false ↦ found r s₁ ])
-step A read m-branch d s = then (read m-piece d s) (λ r s₁.
-    elim (ends s₁) [ true ↦ found r s₁ | false ↦ then (read m-branch d s₁) (λ t s₂. found (join r t) s₂) ])
-step A read m-piece d s = then (read m-group d s) (λ r s₁.
+unfoldable pub step : List ℕ → (Mode → ℕ → List ℕ → Parsing Tree) → Mode → ℕ → List ℕ → Parsing Tree
+step A parse m-alternation d s = then (parse m-branch d s) (λ r s₁.
+    elim (next "|" s₁) [ true ↦ then (parse m-alternation d (rest s₁)) (λ t s₂. found (either r t) s₂) | false ↦ found r s₁ ])
+step A parse m-branch d s = then (parse m-piece d s) (λ r s₁.
+    elim (ends s₁) [ true ↦ found r s₁ | false ↦ then (parse m-branch d s₁) (λ t s₂. found (join r t) s₂) ])
+step A parse m-piece d s = then (parse m-group d s) (λ r s₁.
     elim (repeats s₁) [ true ↦ then (repetition s₁) (λ c s₂. found (times r c) s₂) | false ↦ found r s₁ ])
-step A read m-group d s =
-    elim (next "(" s) [ true ↦ grouped (read m-alternation) d s | false ↦ then (labelled-set A s) (λ c s₁. found (set c) s₁) ]
+step A parse m-group d s =
+    elim (next "(" s) [ true ↦ grouped (parse m-alternation) d s | false ↦ then (labelled-set A s) (λ c s₁. found (set c) s₁) ]
 
 -- the modes from the closest to the loosest
 abbrev pub rank : Mode → ℕ
@@ -53,20 +51,20 @@ abbrev pub measure : Mode → List ℕ → ℕ
 measure m s = 4 * length s + rank m
 
 -- k steps deep
-unfoldable pub go : List ℕ → ℕ → Mode → ℕ → List ℕ → Reads Tree
-go A zero m d s = fault row.MisplacedSign s
+unfoldable pub go : List ℕ → ℕ → Mode → ℕ → List ℕ → Parsing Tree
+go A zero m d s = fault refusal.MisplacedSign s
 go A (suc k) m d s = step A (go A k) m d s
 
 -- What is read of a text over the alphabet A, where d more groups may be opened. The depth is always enough: `read A` is the one function
 -- with `read A m d s ≡ step A (read A) m d s` (Steps).
-unfoldable pub read : List ℕ → Mode → ℕ → List ℕ → Reads Tree
-read A m d s = go A (suc (measure m s)) m d s
+unfoldable pub parse : List ℕ → Mode → ℕ → List ℕ → Parsing Tree
+parse A m d s = go A (suc (measure m s)) m d s
 
 -- behind the expression nothing is left: a stray `)` is misplaced
-unfoldable pub whole : Tree → List ℕ → Reads Tree
+unfoldable pub whole : Tree → List ℕ → Parsing Tree
 whole t [] = found t []
-whole t (b ∷ s) = fault row.MisplacedSign (b ∷ s)
+whole t (b ∷ s) = fault refusal.MisplacedSign (b ∷ s)
 
 -- The tree of a text over the alphabet A, with nothing left unread, or the refusal and the text from the fault on.
-unfoldable pub expressionOf : List ℕ → List ℕ → Reads Tree
-expressionOf A s = then (read A m-alternation 16 s) whole
+unfoldable pub expressionOf : List ℕ → List ℕ → Parsing Tree
+expressionOf A s = then (parse A m-alternation 16 s) whole

@@ -1,16 +1,16 @@
--- `form_starts::starts` meets its contract: the starts noted so far are right, and the sources passed are below i. Assumes nothing.
+-- `form_starts::starts` meets its contract: the starts noted so far are right, and the sources passed are below i.
 use Prim.Native.Nat.{ℕ, _≤_, _<_, _-_}
 use mathlib.Core.Path.{_≡_, refl, _∙_}
 use native.Mathlib.Omega.{arith}
 use lib.ListN.{length, getD, length-set}
 use denote.Ref.{now}
-use Rattle.form_starts.specs.Starts.{Begins}
-use Rattle.form_starts.specs.Loops.{Passed, skipped-begins, begins-passed, begins-more}
-use Rattle.form_starts.proofs.starts.Statement.{statement}
-use Rattle.form_starts.proofs.starts.Tie as tie
+use Rattle.form_starts.specs.Starts.{StartsAt}
+use Rattle.form_starts.specs.Loops.{Passed, skipped-starts, starts-passed, starts-more}
+use Rattle.form_starts.proofs.arc_starts.Statement.{statement}
+use Rattle.form_starts.proofs.arc_starts.Tie as tie
 
 abbrev Inv-loop : tie.InvT-loop
-Inv-loop form s₀ n₀ i₀ s n i = (i ≤ 129) × (length s ≡ 129) × Passed form i n × ((j : ℕ) → j < i → Begins form j (getD s j 0))
+Inv-loop form s₀ n₀ i₀ s n i = (i ≤ 129) × (length s ≡ 129) × Passed form i n × ((j : ℕ) → j < i → StartsAt form j (getD s j 0))
 
 abbrev μ-loop : tie.MeasureT-loop
 μ-loop form s₀ n₀ i₀ s n i = 129 - i
@@ -48,16 +48,16 @@ loop-again c =
     let valid = c .before .before .before .before .before .pre in
     let l = c .before .before .loop in
     let r = c .skip-below .result in
-    let b : Begins f (l .i) r = skipped-begins f valid (l .i) (l .n) r (l .inv .2) (c .skip-below .ensures) in
-    (omega arith, length-set (l .s) (l .i) r ∙ l .inv .1, begins-passed f valid (l .i) r b, begins-more f (l .s) (l .i) r (l .inv .1) (omega arith) (l .inv .3) b)
+    let b : StartsAt f (l .i) r = skipped-starts f valid (l .i) (l .n) r (l .inv .2) (c .skip-below .ensures) in
+    (omega arith, length-set (l .s) (l .i) r ∙ l .inv .1, starts-passed f valid (l .i) r b, starts-more f (l .s) (l .i) r (l .inv .1) (omega arith) (l .inv .3) b)
 
 returns : tie.Need-returns Inv-loop μ-loop
 returns c =
     let l = c .before .loop in
-    record { size = l .inv .1; begins = λ i h. l .inv .3 i (omega arith) }
+    record { size = l .inv .1; starts = λ i h. l .inv .3 i (omega arith) }
 
-pub starts-spec : {M : Type 1} → statement M
-starts-spec =
+pub arc-starts-spec : {M : Type 1} → statement M
+arc-starts-spec =
     tie.close
     (tie.spec
     Inv-loop
