@@ -17,7 +17,7 @@ use Rattle.refusal.specs.declared.Checked.{Checked}
 use Rattle.refusal.specs.declared.Checked.the-variants.{Passed, Refused}
 use Rattle.refusal.specs.Verdict.{Verdict, passed, refused, unless, if-passed, first-refusal}
 use Rattle.refusal.specs.Report.{Report}
-use Rattle.answers.specs.Decoded.{parse as answer}
+use Rattle.answers.specs.Decoded.{read as answer}
 use Rattle.ctc.specs.Collapse.{merge, without-blanks, collapse}
 use Rattle.automaton.specs.Automaton.{Accepts}
 use Rattle.automaton.specs.Form.{encode, view, lettersOf, alphabetOf, followOf, endsOf}
