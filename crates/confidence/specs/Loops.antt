@@ -57,8 +57,8 @@ limit-small n limit l e =
 
 -- The list of costs.
 
-pub cost-turn : (cs : List ℕ) (i : ℕ) → i < length cs → map cost-of (drop i cs) ≡ cost-of (getD cs i 0) ∷ map cost-of (drop (i + 1) cs)
-cost-turn cs i l = ap (map cost-of) (drop-here 0 cs i l)
+pub cost-step : (cs : List ℕ) (i : ℕ) → i < length cs → map cost-of (drop i cs) ≡ cost-of (getD cs i 0) ∷ map cost-of (drop (i + 1) cs)
+cost-step cs i l = ap (map cost-of) (drop-here 0 cs i l)
 
 pub cost-end : (cs : List ℕ) (i : ℕ) → length cs ≤ i → map cost-of (drop i cs) ≡ []
 cost-end cs i l = ap (map cost-of) (drop-all cs i l)

@@ -42,8 +42,8 @@ module _ (a x n : ℕ) (word : List ℕ) where
 
 -- What is still to be written at index i.
 
-pub after-turn : (a : ℕ) (p : List ℕ) (i : ℕ) → i < length p → after a (drop i p) ≡ added a (getD p i 0) ++ after (getD p i 0) (drop (i + 1) p)
-after-turn a p i l = ap (after a) (drop-here 0 p i l) ∙ after-added a (getD p i 0) (drop (i + 1) p)
+pub after-step : (a : ℕ) (p : List ℕ) (i : ℕ) → i < length p → after a (drop i p) ≡ added a (getD p i 0) ++ after (getD p i 0) (drop (i + 1) p)
+after-step a p i l = ap (after a) (drop-here 0 p i l) ∙ after-added a (getD p i 0) (drop (i + 1) p)
 
 pub after-end : (a : ℕ) (p : List ℕ) (i : ℕ) → length p ≤ i → after a (drop i p) ≡ []
 unfolding after

@@ -39,9 +39,9 @@ module _ (a x n : ℕ) (path : List ℕ) where
 
 -- What is still to be written at index i.
 
-pub spread-turn :
+pub spread-step :
     (a : ℕ) (w : List ℕ) (i : ℕ) → i < length w → spread-after a (drop i w) ≡ spaced a (getD w i 0) ++ spread-after (getD w i 0) (drop (i + 1) w)
-spread-turn a w i l = ap (spread-after a) (drop-here 0 w i l) ∙ spread-spaced a (getD w i 0) (drop (i + 1) w)
+spread-step a w i l = ap (spread-after a) (drop-here 0 w i l) ∙ spread-spaced a (getD w i 0) (drop (i + 1) w)
 
 pub spread-end : (a : ℕ) (w : List ℕ) (i : ℕ) → length w ≤ i → spread-after a (drop i w) ≡ []
 unfolding spread-after
@@ -55,10 +55,10 @@ at-most-one x y = by (eqb x y)
     by true = omega arith
     by false = omega arith
 
-pub pairs-turn :
+pub pairs-step :
     (w : List ℕ) (i : ℕ) → i + 1 < length w → pairs (drop i w) ≡ cond (eqb (getD w i 0) (getD w (i + 1) 0)) 1 0 + pairs (drop (i + 1) w)
 unfolding pairs
-pairs-turn w i l =
+pairs-step w i l =
     ap pairs (drop-here 0 w i (omega arith) ∙ ap (λ q. getD w i 0 ∷ q) next)
     ∙ ap (λ q. cond (eqb (getD w i 0) (getD w (i + 1) 0)) 1 0 + pairs q) (sym next)
   where

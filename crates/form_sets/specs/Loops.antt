@@ -9,7 +9,7 @@ use lib.ListN.{length, getD, drop, set, replicate}
 use Rattle.lists.specs.OrderLaws.{same-truth, not-both}
 use Rattle.lists.specs.EachLaws.{drop-here, drop-all}
 use Rattle.lists.specs.MarksLaws.{has-none, marks-none, marks-one, marks-same}
-use Rattle.lists.specs.Marks.{Has, Marks, Turns}
+use Rattle.lists.specs.Marks.{Has, Marks, Iterations}
 use Rattle.automaton.specs.Automaton.{Automaton, Spells, Accepts}
 use Rattle.automaton.specs.Proper.{Proper}
 use Rattle.automaton.specs.Accepted.{accepts}
@@ -82,17 +82,17 @@ module _ (f : List ℕ) (x : ℕ) where
     pub begun-other : followOf f 0 j ≡ false → Marks (Begun f x j) s s
     begun-other e = marks-none (Begun f x j) s (λ k q. not-both (followOf f 0 j) (sym (ap (followOf f 0) (q .0)) ∙ q .1 .0) e)
 
-  pub all-begun : (s t : List Bool) (n : ℕ) → lettersOf f < n → Marks (Turns (Begun f x) 1 n) s t → Marks (Enters (view f) x 0) s t
+  pub all-begun : (s t : List Bool) (n : ℕ) → lettersOf f < n → Marks (Iterations (Begun f x) 1 n) s t → Marks (Enters (view f) x 0) s t
   all-begun s t n h m =
-      marks-same (Turns (Begun f x) 1 n) (Enters (view f) x 0) s t
+      marks-same (Iterations (Begun f x) 1 n) (Enters (view f) x 0) s t
       (λ k q. q .3 .1)
       (λ k q. let r = first-letter f k (q .0) in (k, r .0, omega arith, (refl, q)))
       m
 
   pub all-reached :
-      (s t : List Bool) (i b e : ℕ) → 1 ≤ i → StartsAt f i b → StartsAt f (i + 1) e → Marks (Turns (Reached f x) b e) s t → Marks (Enters (view f) x i) s t
+      (s t : List Bool) (i b e : ℕ) → 1 ≤ i → StartsAt f i b → StartsAt f (i + 1) e → Marks (Iterations (Reached f x) b e) s t → Marks (Enters (view f) x i) s t
   all-reached s t i b e l first next m =
-      marks-same (Turns (Reached f x) b e) (Enters (view f) x i) s t
+      marks-same (Iterations (Reached f x) b e) (Enters (view f) x i) s t
       (λ k (n, low, high, q).
       let p = first .past in
       let r = next .inside in (
@@ -107,7 +107,7 @@ module _ (f : List ℕ) (x : ℕ) where
       m
 
   pub all-left :
-      Valid f → (s t : List Bool) (n : ℕ) → lettersOf f < n → Marks (Turns (Left f x s) 0 n) (replicate 128 false) t → Advanced (view f) x s t
+      Valid f → (s t : List Bool) (n : ℕ) → lettersOf f < n → Marks (Iterations (Left f x s) 0 n) (replicate 128 false) t → Advanced (view f) x s t
   all-left valid s t n h m =
       record {
         size = m .size;
@@ -115,7 +115,7 @@ module _ (f : List ℕ) (x : ℕ) where
         only = λ j g. by j (m .only j g);
       }
     where
-      by : (j : ℕ) → Has (replicate 128 false) j ⊎ Turns (Left f x s) 0 n j → (i : ℕ) × Has s i × Enters (view f) x i j
+      by : (j : ℕ) → Has (replicate 128 false) j ⊎ Iterations (Left f x s) 0 n j → (i : ℕ) × Has s i × Enters (view f) x i j
       by j (inl g) = absurd (has-none 128 j g)
       by j (inr q) = (q .0, q .3 .0, q .3 .1)
 

@@ -10,7 +10,7 @@ ghost use mathlib.Core.Bool.{true};
 ghost use Prim.Native.Nat.{_+_, _<_, _≤_};
 ghost use lib.ListN.{length};
 ghost use Rattle.lists.specs.Memory.{old, new};
-ghost use Rattle.lists.specs.Marks.{Marks, Turns};
+ghost use Rattle.lists.specs.Marks.{Marks, Iterations};
 ghost use Rattle.automaton.specs.Form.{lettersOf, view};
 ghost use Rattle.automaton.specs.Valid.{Valid};
 ghost use Rattle.form_starts.specs.Starts.{StartsAt, ArcStarts};
@@ -52,7 +52,7 @@ fn mark_firsts(form: &[u32], x: usize, set: &mut [bool; 128])
 // Marks the targets of label x of the arcs from b up to e.
 fn mark_targets(form: &[u32], x: usize, b: usize, e: usize, set: &mut [bool; 128])
     requires { ⌜ Valid (now form) × (length (now set) ≡ 128) × (lettersOf (now form) < b) × (b ≤ e) × (e ≤ length (now form)) ⌝ }
-    ensures { λ _. ⌜ Marks (Turns (Reached (old form) x) b e) (old set) (new set) ⌝ }
+    ensures { λ _. ⌜ Marks (Iterations (Reached (old form) x) b e) (old set) (new set) ⌝ }
 {
     let mut n = b;
     while n < e {

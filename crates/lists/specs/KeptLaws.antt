@@ -10,11 +10,11 @@ use Rattle.lists.specs.Memory.{Stored}
 
 -- The arc at place n.
 module _ (w n : ℕ) (form : List ℕ) where
-  pub arc-stored : (t : Bool) (v : ℕ) → t ≡ true → v ≡ w → Stored (keeping t w []) n form (set form n v) (n + 1)
-  arc-stored t v e q = rw (e, q) (record { next = refl; memory = refl })
+  pub kept-stored : (t : Bool) (v : ℕ) → t ≡ true → v ≡ w → Stored (keeping t w []) n form (set form n v) (n + 1)
+  kept-stored t v e q = rw (e, q) (record { next = refl; memory = refl })
 
-  pub arc-absent : (t : Bool) → t ≡ false → Stored (keeping t w []) n form form n
-  arc-absent t e = rw e (record { next = omega arith; memory = refl })
+  pub kept-absent : (t : Bool) → t ≡ false → Stored (keeping t w []) n form form n
+  kept-absent t e = rw e (record { next = omega arith; memory = refl })
 
-  pub arc-room : (t : Bool) → t ≡ true → n + length (keeping t w []) ≤ length form → n < length form
-  arc-room t e h = let l = ap (λ b. length (keeping b w [])) e in omega arith
+  pub kept-room : (t : Bool) → t ≡ true → n + length (keeping t w []) ≤ length form → n < length form
+  kept-room t e h = let l = ap (λ b. length (keeping b w [])) e in omega arith

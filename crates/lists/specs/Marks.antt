@@ -18,5 +18,5 @@ pub record Marks (P : ℕ → Type 0) (before after : List Bool) : Type 0 where
   pub only : (k : ℕ) → Has after k → Has before k ⊎ P k
 
 -- A loop whose turn i marks the places that Q i names: the turns from m on, up to n.
-abbrev pub Turns : (ℕ → ℕ → Type 0) → ℕ → ℕ → ℕ → Type 0
-Turns Q m n k = (i : ℕ) × (m ≤ i) × (i < n) × Q i k
+abbrev pub Iterations : (ℕ → ℕ → Type 0) → ℕ → ℕ → ℕ → Type 0
+Iterations Q m n k = (i : ℕ) × (m ≤ i) × (i < n) × Q i k

@@ -8,7 +8,7 @@ use native.Mathlib.Omega.{arith}
 use lib.ListN.{length, getD, set, replicate, length-set}
 use lib.Seq.{getD-set-same, getD-set-other}
 use Rattle.lists.specs.OrderLaws.{eq-or-ne}
-use Rattle.lists.specs.Marks.{Has, Marks, Turns}
+use Rattle.lists.specs.Marks.{Has, Marks, Iterations}
 
 pub has-none : (n k : ℕ) → Has (replicate n false) k → ⊥
 has-none zero k h = let z : _≡_ {A = ℕ} 0 1 = cc in omega arith
@@ -67,19 +67,19 @@ marks-then P Q s t u m n =
     only k (inr q) = inr (inr q)
 
 module _ (Q : ℕ → ℕ → Type 0) (m : ℕ) where
-  pub turns-none : (s : List Bool) → Marks (Turns Q m m) s s
-  turns-none s = marks-none (Turns Q m m) s (λ k t. let l = t .1 in let h = t .2 in omega arith)
+  pub iterations-none : (s : List Bool) → Marks (Iterations Q m m) s s
+  iterations-none s = marks-none (Iterations Q m m) s (λ k t. let l = t .1 in let h = t .2 in omega arith)
 
-  pub turns-more : (n : ℕ) (s t u : List Bool) → m ≤ n → Marks (Turns Q m n) s t → Marks (Q n) t u → Marks (Turns Q m (n + 1)) s u
-  turns-more n s t u l a b = marks-same (λ k. Turns Q m n k ⊎ Q n k) (Turns Q m (n + 1)) s u there back (marks-then (Turns Q m n) (Q n) s t u a b)
+  pub iterations-more : (n : ℕ) (s t u : List Bool) → m ≤ n → Marks (Iterations Q m n) s t → Marks (Q n) t u → Marks (Iterations Q m (n + 1)) s u
+  iterations-more n s t u l a b = marks-same (λ k. Iterations Q m n k ⊎ Q n k) (Iterations Q m (n + 1)) s u there back (marks-then (Iterations Q m n) (Q n) s t u a b)
     where
-      there : (k : ℕ) → Turns Q m n k ⊎ Q n k → Turns Q m (n + 1) k
+      there : (k : ℕ) → Iterations Q m n k ⊎ Q n k → Iterations Q m (n + 1) k
       there k (inl q) = (q .0, q .1, let h = q .2 in omega arith, q .3)
       there k (inr q) = (n, l, omega arith, q)
 
-      back : (k : ℕ) → Turns Q m (n + 1) k → Turns Q m n k ⊎ Q n k
+      back : (k : ℕ) → Iterations Q m (n + 1) k → Iterations Q m n k ⊎ Q n k
       back k (i, low, high, q) = by (eq-or-ne i n)
         where
-          by : (i ≡ n) ⊎ (i ≡ n → ⊥) → Turns Q m n k ⊎ Q n k
+          by : (i ≡ n) ⊎ (i ≡ n → ⊥) → Iterations Q m n k ⊎ Q n k
           by (inl e) = inr (subst (λ j. Q j k) e q)
           by (inr d) = inl (i, low, omega arith, q)

@@ -16,10 +16,10 @@ module _ (a b : List Bool) where
   abbrev pub Either : ℕ → Bool → Type 0
   Either i v = v ≡ (member a i || member b i)
 
-  pub unite-turn :
+  pub unite-step :
       (i : ℕ) (present : List Bool) (v : Bool) → i < length a → Upto false Either a i present → v ≡ (member present i || member b i)
       → Upto false Either a (i + 1) (set present i v)
-  unite-turn i present v l u e = upto-set false Either a i present v l u (e ∙ ap (λ t. t || member b i) (u .rest i (omega arith)))
+  unite-step i present v l u e = upto-set false Either a i present v l u (e ∙ ap (λ t. t || member b i) (u .rest i (omega arith)))
 
   pub unite-all : (i : ℕ) (present : List Bool) → length b ≤ i → Upto false Either a i present → Union a b present
   unite-all i present l u = record { size = u .size; at = λ k. by k (lt-or-le k i) }
@@ -39,10 +39,10 @@ module _ (from to : List Bool) (before : List (List Bool)) where
   none : (i : ℕ) → member from i ≡ false → Arcs i (getD before i [])
   none i e j = sym (ap (λ t. arc before i j || (t && member to j)) e ∙ or-false (arc before i j))
 
-  pub link-turn :
+  pub link-step :
       (i : ℕ) (present : List (List Bool)) (row : List Bool) → i < length before → Upto [] Arcs before i present → member from i ≡ true
       → Union (getD present i []) to row → Upto [] Arcs before (i + 1) (set present i row)
-  link-turn i present row l u e m =
+  link-step i present row l u e m =
       upto-set [] Arcs before i present row l u
       (λ j. m .at j ∙ ap (λ r. member r j || member to j) (u .rest i (omega arith)) ∙ sym (ap (λ t. arc before i j || (t && member to j)) e))
 

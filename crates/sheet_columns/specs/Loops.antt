@@ -16,12 +16,12 @@ use Rattle.lists.specs.OrderLaws.{and-left, and-right, and-both}
 use Rattle.lists.specs.WrittenLaws.{stored-size, stored-then}
 use Rattle.lists.specs.Memory.{Stored}
 use Rattle.sheet_format.specs.Sheet.{both}
-use Rattle.sheet_format.specs.Rows.{rows-end, rows-some, beside, put}
-use Rattle.sheet_format.specs.ColumnLines.{rows}
+use Rattle.sheet_format.specs.ColumnLinesLaws.{columnsIn-end, columnsIn-some, beside, put}
+use Rattle.sheet_format.specs.ColumnLines.{columnsIn}
 use Rattle.sheet_number.specs.Digits.{ReadCost}
 use Rattle.sheet_number.specs.DigitsLaws.{cost-begins}
 use Rattle.sheet_number.specs.declared.Cost.the-variants as cost
-use Rattle.sheet_columns.specs.Rests.{cost-rows, no-column}
+use Rattle.sheet_columns.specs.Rests.{cost-columns, no-column}
 use Rattle.sheet_columns.specs.declared.Column.{Column}
 use Rattle.sheet_columns.specs.declared.Column.the-variants as column
 use Rattle.sheet_columns.specs.declared.Columns.{Columns}
@@ -84,12 +84,12 @@ module _ (input : List ℕ) (at m : ℕ) (before : List ℕ) where
   column-bad n = (λ c cs e. absurd (no-column input at n c cs e), spoilt-none before)
 
   module _ (v e : ℕ) (h : ReadCost input at (cost.Is v e)) where
-    begins : rows (drop at input) ≡ put (some v) (getD input e 0) (rows (drop (e + 1) input))
-    begins = cost-rows input at v e h
+    begins : columnsIn (drop at input) ≡ put (some v) (getD input e 0) (columnsIn (drop (e + 1) input))
+    begins = cost-columns input at v e h
 
     pub column-full : m ≡ 16384 → StoredColumn input at m before before column.Bad
     column-full l = (
-      (λ c cs q. let n = put-some v (getD input e 0) (rows (drop (e + 1) input)) c cs (sym begins ∙ q) in omega arith),
+      (λ c cs q. let n = put-some v (getD input e 0) (columnsIn (drop (e + 1) input)) c cs (sym begins ∙ q) in omega arith),
       spoilt-none before,
     )
 
@@ -99,7 +99,7 @@ module _ (input : List ℕ) (at m : ℕ) (before : List ℕ) where
         let k = h .within in
         record {
           costs = v ∷ [];
-          is = begins ∙ put-newline v (getD input e 0) (rows (drop (e + 1) input)) b;
+          is = begins ∙ put-newline v (getD input e 0) (columnsIn (drop (e + 1) input)) b;
           stored = record { next = refl; memory = refl };
           from = omega arith;
           within = omega arith;
@@ -119,9 +119,9 @@ module _ (input : List ℕ) (at m : ℕ) (before : List ℕ) where
           costs = v ∷ s .costs;
           is =
               begins
-              ∙ put-space (some v) (getD input e 0) (rows (drop (e + 1) input)) b
+              ∙ put-space (some v) (getD input e 0) (columnsIn (drop (e + 1) input)) b
               ∙ ap (beside (some v)) (s .is)
-              ∙ beside-some v (s .costs) (rows (drop f input));
+              ∙ beside-some v (s .costs) (columnsIn (drop f input));
           stored = record { next = omega arith; memory = s .stored .memory ∙ ap (λ k. sets (set before m v) k (s .costs)) (add-one m) };
           from = omega arith;
           within = s .within;
@@ -130,7 +130,7 @@ module _ (input : List ℕ) (at m : ℕ) (before : List ℕ) where
         }
     column-more after column.Bad room b s = (
       (λ c cs q.
-          let o = rows (drop (e + 1) input) in
+          let o = columnsIn (drop (e + 1) input) in
           let k = beside-back v o c cs (sym (put-space (some v) (getD input e 0) o b) ∙ sym begins ∙ q) in
           let l = s .0 (k .0) cs (k .1) in
           let n = ap length (k .2) in
@@ -156,7 +156,7 @@ module _ (w : ℕ) (input : List ℕ) (at m n : ℕ) (before : List ℕ) where
   columns-end l k =
       record {
         columns = [];
-        are = ap rows (drop-all input at l) ∙ rows-end;
+        are = ap columnsIn (drop-all input at l) ∙ columnsIn-end;
         equal = refl;
         counted = omega arith;
         stored = record { next = refl; memory = refl };
@@ -167,8 +167,8 @@ module _ (w : ℕ) (input : List ℕ) (at m n : ℕ) (before : List ℕ) where
       (after : List ℕ) → at < length input → StoredColumn input at m before after column.Bad → StoredColumns w input at m n before after columns.Bad
   columns-bad after l h = (λ cs e q. by cs e, h .1)
     where
-      by : (cs : List (List ℕ)) → rows (drop at input) ≡ some cs → 16384 < m + length (flatten cs)
-      by [] e = absurd (rows-some (drop at input) (let k = length-drop at input in omega arith) e)
+      by : (cs : List (List ℕ)) → columnsIn (drop at input) ≡ some cs → 16384 < m + length (flatten cs)
+      by [] e = absurd (columnsIn-some (drop at input) (let k = length-drop at input in omega arith) e)
       by (c ∷ cs) e = let k = h .0 c cs e in let s = flatten-more c (c ∷ cs) cs refl in omega arith
 
   module _ (middle : List ℕ) (e f : ℕ) (h : StoredColumn input at m before middle (column.Ends e f)) where
@@ -179,7 +179,7 @@ module _ (w : ℕ) (input : List ℕ) (at m n : ℕ) (before : List ℕ) where
     unfolding all
     columns-unequal d = (
       (λ cs q t.
-          let k = both-back (h .costs) (rows (drop e input)) cs (sym (h .is) ∙ q) in
+          let k = both-back (h .costs) (columnsIn (drop e input)) cs (sym (h .is) ∙ q) in
           let u : wide w (h .costs ∷ k .0) ≡ true = rw (k .2) at t in
           let v = eqb-true (length (h .costs)) w (and-left (eqb (length (h .costs)) w) (wide w (k .0)) u) in
           let s = size in
@@ -207,7 +207,7 @@ module _ (w : ℕ) (input : List ℕ) (at m n : ℕ) (before : List ℕ) where
         }
     columns-more after columns.Bad d s = (
       (λ cs q t.
-          let k = both-back (h .costs) (rows (drop e input)) cs (sym (h .is) ∙ q) in
+          let k = both-back (h .costs) (columnsIn (drop e input)) cs (sym (h .is) ∙ q) in
           let u : wide w (h .costs ∷ k .0) ≡ true = rw (k .2) at t in
           let l = s .0 (k .0) (k .1) (and-right (eqb (length (h .costs)) w) (wide w (k .0)) u) in
           let z = size in

@@ -14,8 +14,8 @@ use Rattle.lists.specs.OrderLaws.{and-left, and-right, and-both}
 use Rattle.lists.specs.WrittenLaws.{written-none, stored-then}
 use Rattle.lists.specs.Memory.{written}
 use Rattle.sheet_format.specs.Sheet.{both, equal-columns, fitting}
-use Rattle.sheet_format.specs.Rows.{rows-end, rows-some}
-use Rattle.sheet_format.specs.ColumnLines.{rows}
+use Rattle.sheet_format.specs.ColumnLinesLaws.{columnsIn-end, columnsIn-some}
+use Rattle.sheet_format.specs.ColumnLines.{columnsIn}
 use Rattle.sheet_columns.specs.Storing.{StoredColumn, StoredColumns, wide}
 use Rattle.sheet_columns.specs.Loops.{spoilt-stored, both-back, flatten-more}
 use Rattle.sheet_columns.specs.declared.Column.the-variants as column
@@ -33,7 +33,7 @@ module _ (if-none : ℕ) (input : List ℕ) (at : ℕ) (before : List ℕ) where
   matrix-none l =
       record {
         columns = [];
-        are = ap rows (drop-all input at (omega arith)) ∙ rows-end;
+        are = ap columnsIn (drop-all input at (omega arith)) ∙ columnsIn-end;
         fits = refl;
         is-width = refl;
         is-count = refl;
@@ -44,8 +44,8 @@ module _ (if-none : ℕ) (input : List ℕ) (at : ℕ) (before : List ℕ) where
       (after : List ℕ) → at < length input → StoredColumn input at 0 before after column.Bad → StoredMatrix if-none input at before after body.Bad
   matrix-bad after l h = (by, h .1)
     where
-      by : (cs : List (List ℕ)) → rows (drop at input) ≡ some cs → fitting cs ≡ true → ⊥
-      by [] e q = rows-some (drop at input) (let k = length-drop at input in omega arith) e
+      by : (cs : List (List ℕ)) → columnsIn (drop at input) ≡ some cs → fitting cs ≡ true → ⊥
+      by [] e q = columnsIn-some (drop at input) (let k = length-drop at input in omega arith) e
       by (c ∷ cs) e q =
           let k = h .0 c cs e in
           let s = flatten-more c (c ∷ cs) cs refl in
@@ -60,7 +60,7 @@ module _ (if-none : ℕ) (input : List ℕ) (at : ℕ) (before : List ℕ) where
         (after : List ℕ) → StoredColumns w input e w 1 middle after columns.Bad → StoredMatrix if-none input at before after body.Bad
     matrix-unequal after s = (
       (λ cs q t.
-          let k = both-back (h .costs) (rows (drop e input)) cs (sym (h .is) ∙ q) in
+          let k = both-back (h .costs) (columnsIn (drop e input)) cs (sym (h .is) ∙ q) in
           let ds = h .costs ∷ k .0 in
           let u : fitting ds ≡ true = rw (k .2) at t in
           let v : wide w (k .0) ≡ true = rw first (and-left (equal-columns ds) (leb (length (flatten ds)) 16384) u) in

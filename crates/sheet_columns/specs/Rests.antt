@@ -14,8 +14,8 @@ use borrow.Author.Tests.{eqb-true, eq-eqb}
 use Rattle.lists.specs.EachLaws.{drop-here}
 use Rattle.lists.specs.OrderLaws.{and-left, and-right, or-either, or-left, or-right}
 use Rattle.text.specs.Digits.{digits}
-use Rattle.sheet_format.specs.Rows.{FirstCost, rows-back, put, rows-put}
-use Rattle.sheet_format.specs.ColumnLines.{Free, rows}
+use Rattle.sheet_format.specs.ColumnLinesLaws.{FirstCost, columnsIn-back, put, columnsIn-put}
+use Rattle.sheet_format.specs.ColumnLines.{Free, columnsIn}
 use Rattle.sheet_number.specs.Places.{part}
 use Rattle.sheet_number.specs.PlacesLaws.{part-rest}
 use Rattle.sheet_number.specs.Digits.{digit, separator, CostAt, ReadCost}
@@ -36,19 +36,19 @@ is-separator : (b : ℕ) → (b ≡ 32) ⊎ (b ≡ 10) → separator b ≡ true
 is-separator b (inl e) = or-left (eqb b 32) (eqb b 10) (eq-eqb b 32 e)
 is-separator b (inr e) = or-right (eqb b 32) (eqb b 10) (eq-eqb b 10 e)
 
-pub cost-rows :
+pub cost-columns :
     (input : List ℕ) (at v e : ℕ) → ReadCost input at (cost.Is v e)
-    → rows (drop at input) ≡ put (some v) (getD input e 0) (rows (drop (e + 1) input))
-cost-rows input at v e h =
+    → columnsIn (drop at input) ≡ put (some v) (getD input e 0) (columnsIn (drop (e + 1) input))
+cost-columns input at v e h =
     let f = cost-begins input at e v h in
     let p = part at e input in
     let b = getD input e 0 in
     let d = cost-back p v (h .is) .are in
     let s : drop at input ≡ p ++ (b ∷ drop (e + 1) input) =
     part-rest input at e (omega arith) ∙ ap (λ r. p ++ r) (drop-here 0 input e (h .within)) in
-    ap rows s
-    ∙ rows-put p b (drop (e + 1) input) (digits-free 10 p (omega arith) d) (digits-free 32 p (omega arith) d) (separator-is b (h .ends))
-    ∙ ap (λ x. put x b (rows (drop (e + 1) input))) (h .is)
+    ap columnsIn s
+    ∙ columnsIn-put p b (drop (e + 1) input) (digits-free 10 p (omega arith) d) (digits-free 32 p (omega arith) d) (separator-is b (h .ends))
+    ∙ ap (λ x. put x b (columnsIn (drop (e + 1) input))) (h .is)
 
 first-cost : (input : List ℕ) (at : ℕ) (f : FirstCost (drop at input)) → CostAt input at (at + length (f .text)) (f .cost)
 first-cost input at f =
@@ -69,5 +69,5 @@ first-cost input at f =
     }
 
 pub no-column :
-    (input : List ℕ) (at : ℕ) → ReadCost input at cost.Not → (c : List ℕ) (cs : List (List ℕ)) → rows (drop at input) ≡ some (c ∷ cs) → ⊥
-no-column input at n c cs e = let f = rows-back (drop at input) c cs e in n (at + length (f .text)) (f .cost) (first-cost input at f)
+    (input : List ℕ) (at : ℕ) → ReadCost input at cost.Not → (c : List ℕ) (cs : List (List ℕ)) → columnsIn (drop at input) ≡ some (c ∷ cs) → ⊥
+no-column input at n c cs e = let f = columnsIn-back (drop at input) c cs e in n (at + length (f .text)) (f .cost) (first-cost input at f)

@@ -10,7 +10,7 @@ use lib.Dec.{eqb}
 use Rattle.lists.specs.Lists.{all}
 use Rattle.lists.specs.Memory.{Stored}
 use Rattle.sheet_format.specs.Sheet.{both}
-use Rattle.sheet_format.specs.ColumnLines.{rows}
+use Rattle.sheet_format.specs.ColumnLines.{columnsIn}
 use Rattle.sheet_columns.specs.declared.Column.{Column}
 use Rattle.sheet_columns.specs.declared.Column.the-variants as column
 use Rattle.sheet_columns.specs.declared.Columns.{Columns}
@@ -26,7 +26,7 @@ pub record Spoilt (before after : List ℕ) : Type 0 where
 -- the first column of the rest goes to the places from m up to f, and the rest behind its line begins at e
 pub record OneColumn (input : List ℕ) (at m : ℕ) (before after : List ℕ) (e f : ℕ) : Type 0 where
   pub costs : List ℕ
-  pub is : rows (drop at input) ≡ both (some costs) (rows (drop e input))
+  pub is : columnsIn (drop at input) ≡ both (some costs) (columnsIn (drop e input))
   pub stored : Stored costs m before after f
   pub from : at < e
   pub within : e ≤ length input
@@ -36,7 +36,7 @@ pub record OneColumn (input : List ℕ) (at m : ℕ) (before after : List ℕ) (
 abbrev pub StoredColumn : List ℕ → ℕ → ℕ → List ℕ → List ℕ → Column → Type 0
 StoredColumn input at m before after (column.Ends e f) = OneColumn input at m before after e f
 StoredColumn input at m before after column.Bad =
-    ((c : List ℕ) (cs : List (List ℕ)) → rows (drop at input) ≡ some (c ∷ cs) → 16384 < m + length c) × Spoilt before after
+    ((c : List ℕ) (cs : List (List ℕ)) → columnsIn (drop at input) ≡ some (c ∷ cs) → 16384 < m + length c) × Spoilt before after
 
 -- All column lines from a place on, each with w costs; m costs and n columns stand in front.
 
@@ -45,7 +45,7 @@ wide w cs = all (λ d. eqb (length d) w) cs
 
 pub record SomeColumns (w : ℕ) (input : List ℕ) (at m n : ℕ) (before after : List ℕ) (count : ℕ) : Type 0 where
   pub columns : List (List ℕ)
-  pub are : rows (drop at input) ≡ some columns
+  pub are : columnsIn (drop at input) ≡ some columns
   pub equal : wide w columns ≡ true
   pub counted : count ≡ n + length columns
   pub stored : Stored (flatten columns) m before after (m + length (flatten columns))
@@ -54,4 +54,4 @@ pub record SomeColumns (w : ℕ) (input : List ℕ) (at m n : ℕ) (before after
 abbrev pub StoredColumns : ℕ → List ℕ → ℕ → ℕ → ℕ → List ℕ → List ℕ → Columns → Type 0
 StoredColumns w input at m n before after (columns.Count count) = SomeColumns w input at m n before after count
 StoredColumns w input at m n before after columns.Bad =
-    ((cs : List (List ℕ)) → rows (drop at input) ≡ some cs → wide w cs ≡ true → 16384 < m + length (flatten cs)) × Spoilt before after
+    ((cs : List (List ℕ)) → columnsIn (drop at input) ≡ some cs → wide w cs ≡ true → 16384 < m + length (flatten cs)) × Spoilt before after

@@ -17,5 +17,5 @@ columnsOf none = none
 columnsOf (some ls) = every columnOf ls
 
 -- the columns of a sheet's rest
-abbrev pub rows : List ℕ → Option (List (List ℕ))
-rows s = columnsOf (linesOf s)
+abbrev pub columnsIn : List ℕ → Option (List (List ℕ))
+columnsIn s = columnsOf (linesOf s)

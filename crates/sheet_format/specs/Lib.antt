@@ -1,6 +1,6 @@
 pub mod Sheet
 pub mod Examples
 pub mod ColumnLines
-pub mod Rows
+pub mod ColumnLinesLaws
 pub mod Limits
 pub mod Parts

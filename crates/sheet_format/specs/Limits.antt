@@ -14,8 +14,8 @@ use Rattle.lists.specs.Lists.{all}
 use Rattle.lists.specs.OrderLaws.{lt-or-le}
 use Rattle.lists.specs.Cases.{provided}
 use Rattle.sheet_format.specs.Sheet.{onto, pieces, both, every, linesOf, costOf, columnOf, Sheet, equal-columns, fitting, laid, sheetFrom, sheetOf}
-use Rattle.sheet_format.specs.Rows.{lines-end, lines-none, rows-end, rows-line}
-use Rattle.sheet_format.specs.ColumnLines.{Free, columnsOf, rows}
+use Rattle.sheet_format.specs.ColumnLinesLaws.{lines-end, lines-none, columnsIn-end, columnsIn-line}
+use Rattle.sheet_format.specs.ColumnLines.{Free, columnsOf, columnsIn}
 
 -- the text is no sheet
 abbrev none-of : Option Sheet → Bool
@@ -71,11 +71,11 @@ nought : columnOf (48 ∷ []) ≡ some (0 ∷ [])
 unfolding columnOf every both pieces onto costOf provided
 nought = refl
 
-many-rows : (n : ℕ) → rows (many n) ≡ some (zeros n)
+many-columns : (n : ℕ) → columnsIn (many n) ≡ some (zeros n)
 unfolding many both
-many-rows zero = rows-end
-many-rows (suc n) =
-    rows-line (48 ∷ []) (many n) (λ e. omega arith, tt) ∙ ap (λ c. both c (rows (many n))) nought ∙ ap (both (some (0 ∷ []))) (many-rows n)
+many-columns zero = columnsIn-end
+many-columns (suc n) =
+    columnsIn-line (48 ∷ []) (many n) (λ e. omega arith, tt) ∙ ap (λ c. both c (columnsIn (many n))) nought ∙ ap (both (some (0 ∷ []))) (many-columns n)
 
 many-fit : (n : ℕ) → fitting (zeros n) ≡ leb n 16384
 unfolding all flatten
@@ -101,7 +101,7 @@ limit-of-costs n l =
     (le-leb (length (10 ∷ (10 ∷ many n))) 65535 (let h = many-size n in omega arith))
     ∙ ap (λ o. none-of (sheetFrom o)) (lines-end [] (10 ∷ many n) tt ∙ ap (both (some [])) (lines-end [] (many n) tt))
     ∙ by (linesOf (many n))
-    ∙ ap (λ o. none-of (laid [] [] o)) (many-rows n)
+    ∙ ap (λ o. none-of (laid [] [] o)) (many-columns n)
     ∙ ap (λ t. none-of (provided t (some (record { alphabet = []; text = []; columns = zeros n })))) (many-fit n)
     ∙ provided-most n 16384 (record { alphabet = []; text = []; columns = zeros n })
   where

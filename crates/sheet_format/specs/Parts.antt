@@ -13,7 +13,7 @@ use Rattle.lists.specs.Lists.{all}
 use Rattle.lists.specs.OrderLaws.{and-left, and-right, and-both}
 use Rattle.lists.specs.Cases.{provided}
 use Rattle.sheet_format.specs.Sheet.{every, linesOf, columnOf, Sheet, equal-columns, fitting, laid, sheetFrom, most-bytes, sheetOf, widthOr, matrixOf}
-use Rattle.sheet_format.specs.Rows.{FirstLine, lines-back}
+use Rattle.sheet_format.specs.ColumnLinesLaws.{FirstLine, lines-back}
 
 -- what was provided was given, and the condition holds
 pub provided-back : {X : Type 0} (t : Bool) (x : Option X) (y : X) → provided t x ≡ some y → (t ≡ true) × (x ≡ some y)

@@ -13,8 +13,8 @@ use Rattle.lists.specs.OrderLaws.{eq-or-ne, true-or-false}
 use Rattle.lists.specs.Memory.{written}
 use Rattle.lists.specs.Cases.{provided}
 use Rattle.sheet_format.specs.Sheet.{both, linesOf, Sheet, fitting, laid, sheetFrom, most-bytes, sheetOf, widthOr, matrixOf}
-use Rattle.sheet_format.specs.Rows.{lines-end, lines-open, lines-none}
-use Rattle.sheet_format.specs.ColumnLines.{columnsOf, rows}
+use Rattle.sheet_format.specs.ColumnLinesLaws.{lines-end, lines-open, lines-none}
+use Rattle.sheet_format.specs.ColumnLines.{columnsOf, columnsIn}
 use Rattle.sheet_number.specs.Places.{part, LineEnd}
 use Rattle.sheet_number.specs.PlacesLaws.{part-length, part-rest}
 use Rattle.sheet_columns.specs.Matrices.{StoredMatrix}
@@ -79,7 +79,7 @@ module _ (input : List ℕ) (l : length input ≤ most-bytes) where
         (lines-short input (a + 1) e k q)
 
     module _ (e : ℕ) (k : LineEnd input (a + 1) e) (el : e < length input) where
-      both-lines : sheetOf input ≡ laid (part 0 a input) (part (a + 1) e input) (rows (drop (e + 1) input))
+      both-lines : sheetOf input ≡ laid (part 0 a input) (part (a + 1) e input) (columnsIn (drop (e + 1) input))
       unfolding sheetFrom both laid columnsOf
       both-lines =
           first-line ∙ ap (λ x. sheetFrom (both (some (part 0 a input)) x)) (lines-at input (a + 1) e k el) ∙ by (linesOf (drop (e + 1) input))
@@ -94,7 +94,7 @@ module _ (input : List ℕ) (l : length input ≤ most-bytes) where
       module _ (before after : List ℕ) where
         pub sheet-unfit : StoredMatrix (a + 1) input (e + 1) before after body.Bad → sheetOf input ≡ none
         unfolding laid provided
-        sheet-unfit s = both-lines ∙ by (rows (drop (e + 1) input)) (s .0)
+        sheet-unfit s = both-lines ∙ by (columnsIn (drop (e + 1) input)) (s .0)
           where
             by :
                 (o : Option (List (List ℕ))) → ((cs : List (List ℕ)) → o ≡ some cs → fitting cs ≡ true → ⊥)

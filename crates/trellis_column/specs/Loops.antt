@@ -10,7 +10,7 @@ use Rattle.lists.specs.OrderLaws.{not-both}
 use Rattle.lists.specs.LeastLaws.{least-none, least-one, least-same}
 use Rattle.lists.specs.Least.{Least, Among}
 use Rattle.lists.specs.MarksLaws.{has-none, marks-none, marks-one, marks-same}
-use Rattle.lists.specs.Marks.{Has, Marks, Turns}
+use Rattle.lists.specs.Marks.{Has, Marks, Iterations}
 use Rattle.automaton.specs.Automaton.{Automaton}
 use Rattle.automaton.specs.Form.{alphabetOf, view}
 use Rattle.automaton.specs.ValidLaws.{valid-proper}
@@ -68,13 +68,13 @@ module _ (A : Automaton) (column row : List ℕ) (v : ℕ) (near : List Bool) (n
   offered-all = least-same (Offered A column row v near) (λ x o. (o .0, o .3)) (λ x o. (o .0, omega arith, within (o .0) (o .1 .0), o .1))
 
   pub picked-all :
-      (x : ℕ) (set after : List Bool) → Marks (Turns (Picks A column row v near x) 0 n) set after → Marks (OfLabel A column row v near x) set after
-  picked-all x set after = marks-same (Turns (Picks A column row v near x) 0 n) (OfLabel A column row v near x) set after there back
+      (x : ℕ) (set after : List Bool) → Marks (Iterations (Picks A column row v near x) 0 n) set after → Marks (OfLabel A column row v near x) set after
+  picked-all x set after = marks-same (Iterations (Picks A column row v near x) 0 n) (OfLabel A column row v near x) set after there back
     where
-      there : (k : ℕ) → Turns (Picks A column row v near x) 0 n k → OfLabel A column row v near x k
+      there : (k : ℕ) → Iterations (Picks A column row v near x) 0 n k → OfLabel A column row v near x k
       there k (u, low, high, q) = q .1
 
-      back : (k : ℕ) → OfLabel A column row v near x k → Turns (Picks A column row v near x) 0 n k
+      back : (k : ℕ) → OfLabel A column row v near x k → Iterations (Picks A column row v near x) 0 n k
       back k o = (k, omega arith, within k (o .0), (refl, o))
 
 -- The column as a whole: the states that are reached from the set, of which some are kept.

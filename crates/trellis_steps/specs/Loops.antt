@@ -8,7 +8,7 @@ use native.Mathlib.Omega.{arith}
 use lib.ListN.{length, getD, set as put}
 use Rattle.lists.specs.OrderLaws.{not-both}
 use Rattle.lists.specs.MarksLaws.{marks-none, marks-one, marks-same, marks-then}
-use Rattle.lists.specs.Marks.{Has, Marks, Turns}
+use Rattle.lists.specs.Marks.{Has, Marks, Iterations}
 use Rattle.automaton.specs.Automaton.{Automaton}
 use Rattle.automaton.specs.Proper.{Proper}
 use Rattle.automaton.specs.Form.{lettersOf, alphabetOf, view, target}
@@ -82,20 +82,20 @@ module _ (A : Automaton) (own j : ℕ) (set : List Bool) where
 -- All letters behind letter i: the first letters, or the targets of its arcs.
 
 module _ (f : List ℕ) (valid : Valid f) (own : ℕ) (set after : List Bool) where
-  pub firsts-marked : Marks (Turns (Led (view f) own 0) 1 (lettersOf f + 1)) set after → Marks (Behind (view f) own 0) set after
-  firsts-marked = marks-same (Turns (Led (view f) own 0) 1 (lettersOf f + 1)) (Behind (view f) own 0) set after there back
+  pub firsts-marked : Marks (Iterations (Led (view f) own 0) 1 (lettersOf f + 1)) set after → Marks (Behind (view f) own 0) set after
+  firsts-marked = marks-same (Iterations (Led (view f) own 0) 1 (lettersOf f + 1)) (Behind (view f) own 0) set after there back
     where
-      there : (u : ℕ) → Turns (Led (view f) own 0) 1 (lettersOf f + 1) u → Behind (view f) own 0 u
+      there : (u : ℕ) → Iterations (Led (view f) own 0) 1 (lettersOf f + 1) u → Behind (view f) own 0 u
       there u (j, low, high, q) = (j, q)
 
-      back : (u : ℕ) → Behind (view f) own 0 u → Turns (Led (view f) own 0) 1 (lettersOf f + 1) u
+      back : (u : ℕ) → Behind (view f) own 0 u → Iterations (Led (view f) own 0) 1 (lettersOf f + 1) u
       back u (j, q) = let t = follow-target f valid 0 j (q .0) in (j, t .0, (let h = t .1 in omega arith), q)
 
   module _ (i b e : ℕ) (letter : 1 ≤ i) (first : StartsAt f i b) (next : StartsAt f (i + 1) e) where
-    pub targets-marked : Marks (Turns (TargetOf f own) b e) set after → Marks (Behind (view f) own i) set after
-    targets-marked = marks-same (Turns (TargetOf f own) b e) (Behind (view f) own i) set after there back
+    pub targets-marked : Marks (Iterations (TargetOf f own) b e) set after → Marks (Behind (view f) own i) set after
+    targets-marked = marks-same (Iterations (TargetOf f own) b e) (Behind (view f) own i) set after there back
       where
-        there : (u : ℕ) → Turns (TargetOf f own) b e u → Behind (view f) own i u
+        there : (u : ℕ) → Iterations (TargetOf f own) b e u → Behind (view f) own i u
         there u (n, low, high, q) =
             let p = first .past in
             let h = next .inside in
@@ -103,7 +103,7 @@ module _ (f : List ℕ) (valid : Valid f) (own : ℕ) (set after : List Bool) wh
             record { index = n; past = omega arith; inside = omega arith; from = range-source f i b e first next n low high; to = refl } in
             (target (getD f n 0), (arc-follow f i (target (getD f n 0)) letter a, q))
 
-        back : (u : ℕ) → Behind (view f) own i u → Turns (TargetOf f own) b e u
+        back : (u : ℕ) → Behind (view f) own i u → Iterations (TargetOf f own) b e u
         back u (j, (g, q)) =
             let a = follow-arc f i j letter g in
             let r = source-range f i b e first next (a .index) (a .past) (a .inside) (a .from) in
@@ -133,12 +133,12 @@ module _ (A : Automaton) (from : List Bool) where
   from-not s set e = marks-none (From A from s) set (λ u q. not-both (getD from s false) (q .0) e)
 
   pub reached-marked :
-      (n : ℕ) (set after : List Bool) → ((s : ℕ) → Has from s → s < n) → Marks (Turns (From A from) 0 n) set after
+      (n : ℕ) (set after : List Bool) → ((s : ℕ) → Has from s → s < n) → Marks (Iterations (From A from) 0 n) set after
       → Marks (Reached A (Has from)) set after
-  reached-marked n set after within = marks-same (Turns (From A from) 0 n) (Reached A (Has from)) set after there back
+  reached-marked n set after within = marks-same (Iterations (From A from) 0 n) (Reached A (Has from)) set after there back
     where
-      there : (u : ℕ) → Turns (From A from) 0 n u → Reached A (Has from) u
+      there : (u : ℕ) → Iterations (From A from) 0 n u → Reached A (Has from) u
       there u (s, low, high, q) = (s, q .0, q .1)
 
-      back : (u : ℕ) → Reached A (Has from) u → Turns (From A from) 0 n u
+      back : (u : ℕ) → Reached A (Has from) u → Iterations (From A from) 0 n u
       back u (s, h, q) = (s, omega arith, within s h, (h, q))

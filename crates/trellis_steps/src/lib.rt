@@ -9,7 +9,7 @@ ghost use mathlib.Core.Bool.{false};
 ghost use Prim.Native.Nat.{_+_, _*_, _<_, _≤_};
 ghost use lib.ListN.{length, replicate};
 ghost use Rattle.lists.specs.Memory.{old, new};
-ghost use Rattle.lists.specs.Marks.{Has, Marks, Turns};
+ghost use Rattle.lists.specs.Marks.{Has, Marks, Iterations};
 ghost use Rattle.automaton.specs.Form.{lettersOf, view};
 ghost use Rattle.automaton.specs.Valid.{Valid};
 ghost use Rattle.form_starts.specs.Starts.{StartsAt, ArcStarts};
@@ -63,7 +63,7 @@ fn mark_firsts(form: &[u32], own: usize, set: &mut [bool; 255])
 // Marks the states on the targets of the arcs from b up to e.
 fn mark_targets(form: &[u32], own: usize, b: usize, e: usize, set: &mut [bool; 255])
     requires { ⌜ Valid (now form) × (lettersOf (now form) < b) × (b ≤ e) × (e ≤ length (now form)) × (length (now set) ≡ 255) ⌝ }
-    ensures { λ _. ⌜ Marks (Turns (TargetOf (old form) own) b e) (old set) (new set) ⌝ }
+    ensures { λ _. ⌜ Marks (Iterations (TargetOf (old form) own) b e) (old set) (new set) ⌝ }
 {
     let mut n = b;
     while n < e {

@@ -7,7 +7,7 @@ use denote.Ref.{now}
 use borrow.Author.Needs.{needs}
 use Rattle.lists.specs.FillingLoops.{Filling, filling-none, filling-more, filling-length, filling-all}
 use Rattle.confidence.specs.Cost.{cost-of}
-use Rattle.confidence.specs.Loops.{cost-turn, cost-end}
+use Rattle.confidence.specs.Loops.{cost-step, cost-end}
 use Rattle.confidence.proofs.write_costs.Statement.{statement}
 use Rattle.confidence.proofs.write_costs.Tie as tie
 
@@ -52,7 +52,7 @@ loop-again c =
       omega arith,
       rw (c .cost .ensures)
           (filling-more (map cost-of f) (now (c .before .before .before .before .before .before .args .costs)) (l .costs) (map cost-of (drop (l .i + 1) f)) (l .i) (cost-of (getD f (l .i) 0))
-          (rw (cost-turn f (l .i) (c .before .before .loop-test .taken)) at (l .inv .1))),
+          (rw (cost-step f (l .i) (c .before .before .loop-test .taken)) at (l .inv .1))),
     )
 
 same-length : tie.Need-same-length Inv-loop μ-loop

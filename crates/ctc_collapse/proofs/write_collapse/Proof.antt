@@ -9,7 +9,7 @@ use Rattle.lists.specs.FillingLoops.{Filling, filling-none, filling-stored, fil
 use Rattle.ctc.specs.Collapse.{collapse}
 use Rattle.ctc.specs.CollapseLaws.{after, collapse-after, collapse-shorter}
 use Rattle.ctc_collapse.specs.Added.{added}
-use Rattle.ctc_collapse.specs.Loops.{after-turn, after-end}
+use Rattle.ctc_collapse.specs.Loops.{after-step, after-end}
 use Rattle.ctc_collapse.proofs.write_collapse.Statement.{statement}
 use Rattle.ctc_collapse.proofs.write_collapse.Tie as tie
 
@@ -34,7 +34,7 @@ put-added-requires c κs =
     let p = now (c .before .before .before .before .before .before .args .path) in
     let l = c .before .before .before .loop in
     filling-room (collapse p) (now (c .before .before .before .before .before .before .args .word)) (added (l .a) (getD p (l .i) 0)) (l .word) (after (getD p (l .i) 0) (drop (l .i + 1) p)) (l .n)
-    (rw (after-turn (l .a) p (l .i) (c .before .before .loop-test .taken)) at (l .inv .1))
+    (rw (after-step (l .a) p (l .i) (c .before .before .loop-test .taken)) at (l .inv .1))
 
 add-i : tie.Need-add-i Inv-loop μ-loop
 add-i c = omega arith
@@ -50,7 +50,7 @@ loop-again c =
       omega arith,
       filling-stored (collapse p) (now (c .before .before .before .before .before .before .before .before .before .args .word)) (added (l .a) (getD p (l .i) 0)) (l .word) (put .last .0)
           (after (getD p (l .i) 0) (drop (l .i + 1) p)) (l .n) (put .result)
-          (rw (after-turn (l .a) p (l .i) (c .before .before .before .before .before .loop-test .taken)) at (l .inv .1)) (put .ensures),
+          (rw (after-step (l .a) p (l .i) (c .before .before .before .before .before .loop-test .taken)) at (l .inv .1)) (put .ensures),
     )
 
 same-length : tie.Need-same-length Inv-loop μ-loop

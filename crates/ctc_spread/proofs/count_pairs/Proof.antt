@@ -6,7 +6,7 @@ use lib.ListN.{length, drop, getD}
 use denote.Ref.{now}
 use borrow.Author.Needs.{needs}
 use Rattle.ctc.specs.Spread.{pairs}
-use Rattle.ctc_spread.specs.Loops.{pairs-turn, pairs-end, at-most-one}
+use Rattle.ctc_spread.specs.Loops.{pairs-step, pairs-end, at-most-one}
 use Rattle.ctc_spread.proofs.count_pairs.Statement.{statement}
 use Rattle.ctc_spread.proofs.count_pairs.Tie as tie
 
@@ -54,7 +54,7 @@ loop-again c =
     let i = c .before .before .before .before .loop .i in
     let e = c .one-if-equal .ensures in
     let b = at-most-one (getD w i 0) (getD w (i + 1) 0) in
-    let t = pairs-turn w i (c .before .before .before .loop-test .taken) in
+    let t = pairs-step w i (c .before .before .before .loop-test .taken) in
     (omega arith, omega arith, omega arith)
 
 returns : tie.Need-returns Inv-loop μ-loop

@@ -8,7 +8,7 @@ use Rattle.lists.specs.FillingLoops.{Filling, filling-none, filling-stored, fil
 use Rattle.ctc.specs.Spread.{spread}
 use Rattle.ctc.specs.SpreadLaws.{spread-after, spread-from}
 use Rattle.ctc_spread.specs.Spaced.{spaced}
-use Rattle.ctc_spread.specs.Loops.{spread-turn, spread-end}
+use Rattle.ctc_spread.specs.Loops.{spread-step, spread-end}
 use Rattle.ctc_spread.proofs.write_spread.Statement.{statement}
 use Rattle.ctc_spread.proofs.write_spread.Tie as tie
 
@@ -33,7 +33,7 @@ put-spaced-requires c κs =
     let l = c .before .before .before .loop in
     let x = getD w (l .i) 0 in
     filling-room (spread w) (now (c .before .before .before .before .before .before .args .path)) (spaced (l .a) x) (l .path) (spread-after x (drop (l .i + 1) w)) (l .n)
-    (rw (spread-turn (l .a) w (l .i) (c .before .before .loop-test .taken)) at (l .inv .1))
+    (rw (spread-step (l .a) w (l .i) (c .before .before .loop-test .taken)) at (l .inv .1))
 
 add-i : tie.Need-add-i Inv-loop μ-loop
 add-i c = omega arith
@@ -49,7 +49,7 @@ loop-again c =
     let put = c .before .before .put-spaced in (
       omega arith,
       filling-stored (spread w) (now (c .before .before .before .before .before .before .before .before .before .args .path)) (spaced (l .a) x) (l .path) (put .last .0) (spread-after x (drop (l .i + 1) w)) (l .n) (put .result)
-          (rw (spread-turn (l .a) w (l .i) (c .before .before .before .before .before .loop-test .taken)) at (l .inv .1)) (put .ensures),
+          (rw (spread-step (l .a) w (l .i) (c .before .before .before .before .before .loop-test .taken)) at (l .inv .1)) (put .ensures),
     )
 
 same-length : tie.Need-same-length Inv-loop μ-loop

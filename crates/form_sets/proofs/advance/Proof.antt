@@ -6,15 +6,15 @@ use mathlib.Core.Logic.{⊎-elim}
 use native.Mathlib.Omega.{arith}
 use lib.ListN.{replicate}
 use denote.Ref.{now}
-use Rattle.lists.specs.MarksLaws.{turns-none, turns-more}
-use Rattle.lists.specs.Marks.{Marks, Turns}
+use Rattle.lists.specs.MarksLaws.{iterations-none, iterations-more}
+use Rattle.lists.specs.Marks.{Marks, Iterations}
 use Rattle.automaton.specs.Form.{lettersOf}
 use Rattle.form_sets.specs.Loops.{Left, left-behind, left-out, all-left}
 use Rattle.form_sets.proofs.advance.Statement.{statement}
 use Rattle.form_sets.proofs.advance.Tie as tie
 
 abbrev Inv-loop : tie.InvT-loop
-Inv-loop form starts x set l next₀ i₀ next i = (l ≡ lettersOf form) × (i ≤ l + 1) × Marks (Turns (Left form x set) 0 i) (replicate 128 false) next
+Inv-loop form starts x set l next₀ i₀ next i = (l ≡ lettersOf form) × (i ≤ l + 1) × Marks (Iterations (Left form x set) 0 i) (replicate 128 false) next
 
 abbrev μ-loop : tie.MeasureT-loop
 μ-loop form starts x set l next₀ i₀ next i = l + 1 - i
@@ -25,7 +25,7 @@ letters-requires c κs = let long = c .before .before .pre .0 .long in omega ari
 loop-holds : tie.Need-loop-holds Inv-loop μ-loop
 loop-holds c =
     let a = c .before .before .before .args in
-    (c .letters .ensures, omega arith, turns-none (Left (now (a .form)) (a .x) (a .t3)) 0 (replicate 128 false))
+    (c .letters .ensures, omega arith, iterations-none (Left (now (a .form)) (a .x) (a .t3)) 0 (replicate 128 false))
 
 array-read-if1 : tie.Need-array-read-if1 Inv-loop μ-loop
 array-read-if1 c = let few = c .before .before .before .before .before .pre .0 .head .letters-high in omega arith
@@ -76,7 +76,7 @@ loop-again c =
     (λ w. subst (Marks (Left f (a .x) (a .t3) (l .i)) (l .next)) (sym (w .5)) (left-behind f (a .x) (a .t3) (l .next) (w .4 .last .1 .1 .1 .1 .1 .0) (l .i) (w .0 .taken) (w .4 .ensures)))
     (λ w. subst (Marks (Left f (a .x) (a .t3) (l .i)) (l .next)) (sym (w .1)) (left-out f (a .x) (a .t3) (l .next) (l .i) (w .0 .left)))
     (c .if1 .came) in
-    (l .inv .0, omega arith, turns-more (Left f (a .x) (a .t3)) 0 (l .i) (replicate 128 false) (l .next) (c .if1 .next) (omega arith) (l .inv .2) turn)
+    (l .inv .0, omega arith, iterations-more (Left f (a .x) (a .t3)) 0 (l .i) (replicate 128 false) (l .next) (c .if1 .next) (omega arith) (l .inv .2) turn)
 
 returns : tie.Need-returns Inv-loop μ-loop
 returns c =

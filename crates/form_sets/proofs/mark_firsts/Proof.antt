@@ -3,8 +3,8 @@ use Prim.Native.Nat.{_≤_, _+_, _-_}
 use mathlib.Core.Path.{_≡_, _∙_}
 use native.Mathlib.Omega.{arith}
 use denote.Ref.{now}
-use Rattle.lists.specs.MarksLaws.{turns-none, turns-more}
-use Rattle.lists.specs.Marks.{Marks, Turns}
+use Rattle.lists.specs.MarksLaws.{iterations-none, iterations-more}
+use Rattle.lists.specs.Marks.{Marks, Iterations}
 use Rattle.automaton.specs.Form.{lettersOf}
 use Rattle.form_sets.specs.Sets.{Begun}
 use Rattle.form_sets.specs.Loops.{all-begun}
@@ -12,7 +12,7 @@ use Rattle.form_sets.proofs.mark_firsts.Statement.{statement}
 use Rattle.form_sets.proofs.mark_firsts.Tie as tie
 
 abbrev Inv-loop : tie.InvT-loop
-Inv-loop form x set₀ l j₀ set j = (l ≡ lettersOf form) × (1 ≤ j) × (j ≤ l + 1) × Marks (Turns (Begun form x) 1 j) set₀ set
+Inv-loop form x set₀ l j₀ set j = (l ≡ lettersOf form) × (1 ≤ j) × (j ≤ l + 1) × Marks (Iterations (Begun form x) 1 j) set₀ set
 
 abbrev μ-loop : tie.MeasureT-loop
 μ-loop form x set₀ l j₀ set j = l + 1 - j
@@ -23,7 +23,7 @@ letters-requires c κs = let long = c .before .pre .0 .long in omega arith
 loop-holds : tie.Need-loop-holds Inv-loop μ-loop
 loop-holds c =
     let a = c .before .before .args in
-    (c .letters .ensures, omega arith, omega arith, turns-none (Begun (now (a .form)) (a .x)) 1 (now (a .set)))
+    (c .letters .ensures, omega arith, omega arith, iterations-none (Begun (now (a .form)) (a .x)) 1 (now (a .set)))
 
 mark-first-requires : tie.Need-mark-first-requires Inv-loop μ-loop
 mark-first-requires c κs =
@@ -44,7 +44,7 @@ loop-again c =
       l .inv .0,
       omega arith,
       omega arith,
-      turns-more (Begun (now (a .form)) (a .x)) 1 (l .j) (now (a .set)) (l .set) (c .mark-first .last .1 .1 .1 .0) (l .inv .1) (l .inv .3) (c .mark-first .ensures),
+      iterations-more (Begun (now (a .form)) (a .x)) 1 (l .j) (now (a .set)) (l .set) (c .mark-first .last .1 .1 .1 .0) (l .inv .1) (l .inv .3) (c .mark-first .ensures),
     )
 
 returns : tie.Need-returns Inv-loop μ-loop

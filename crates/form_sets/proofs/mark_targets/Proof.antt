@@ -3,14 +3,14 @@ use Prim.Native.Nat.{_≤_, _-_}
 use mathlib.Core.Path.{_≡_, subst, _∙_}
 use native.Mathlib.Omega.{arith}
 use denote.Ref.{now}
-use Rattle.lists.specs.MarksLaws.{turns-none, turns-more}
-use Rattle.lists.specs.Marks.{Marks, Turns}
+use Rattle.lists.specs.MarksLaws.{iterations-none, iterations-more}
+use Rattle.lists.specs.Marks.{Marks, Iterations}
 use Rattle.form_sets.specs.Sets.{Labelled, Reached}
 use Rattle.form_sets.proofs.mark_targets.Statement.{statement}
 use Rattle.form_sets.proofs.mark_targets.Tie as tie
 
 abbrev Inv-loop : tie.InvT-loop
-Inv-loop form x b e set₀ n₀ set n = (b ≤ n) × (n ≤ e) × Marks (Turns (Reached form x) b n) set₀ set
+Inv-loop form x b e set₀ n₀ set n = (b ≤ n) × (n ≤ e) × Marks (Iterations (Reached form x) b n) set₀ set
 
 abbrev μ-loop : tie.MeasureT-loop
 μ-loop form x b e set₀ n₀ set n = e - n
@@ -19,7 +19,7 @@ loop-holds : tie.Need-loop-holds Inv-loop μ-loop
 loop-holds c =
     let a = c .before .args in
     let p = c .before .pre in
-    (omega arith, p .3, turns-none (Reached (now (a .form)) (a .x)) (a .b) (now (a .set)))
+    (omega arith, p .3, iterations-none (Reached (now (a .form)) (a .x)) (a .b) (now (a .set)))
 
 target-requires : tie.Need-target-requires Inv-loop μ-loop
 target-requires c κs = let p = c .before .before .before .pre in omega arith
@@ -46,7 +46,7 @@ loop-again c =
     let l = c .before .before .before .before .loop in (
       omega arith,
       omega arith,
-      turns-more (Reached (now (a .form)) (a .x)) (a .b) (l .n) (now (a .set)) (l .set) (c .mark .last .1 .1 .1 .0) (l .inv .0) (l .inv .2)
+      iterations-more (Reached (now (a .form)) (a .x)) (a .b) (l .n) (now (a .set)) (l .set) (c .mark .last .1 .1 .1 .0) (l .inv .0) (l .inv .2)
           (subst (λ j. Marks (Labelled (now (a .form)) (a .x) j) (l .set) (c .mark .last .1 .1 .1 .0)) (c .before .before .target .ensures) (c .mark .ensures)),
     )
 
@@ -55,7 +55,7 @@ returns c =
     let a = c .before .before .before .args in
     let l = c .before .loop in
     let end : l .n ≡ a .e = omega arith in
-    subst (λ n. Marks (Turns (Reached (now (a .form)) (a .x)) (a .b) n) (now (a .set)) (l .set)) end (l .inv .2)
+    subst (λ n. Marks (Iterations (Reached (now (a .form)) (a .x)) (a .b) n) (now (a .set)) (l .set)) end (l .inv .2)
 
 pub mark-targets-spec : {M : Type 1} → statement M
 mark-targets-spec =

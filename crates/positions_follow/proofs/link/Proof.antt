@@ -6,7 +6,7 @@ use native.Mathlib.Omega.{arith}
 use lib.ListN.{length}
 use denote.Ref.{now}
 use Rattle.lists.specs.UptoLoops.{Upto, upto-none}
-use Rattle.positions_follow.specs.Loops.{Arcs, link-turn, link-pass, link-all}
+use Rattle.positions_follow.specs.Loops.{Arcs, link-step, link-pass, link-all}
 use Rattle.positions_follow.proofs.link.Statement.{statement}
 use Rattle.positions_follow.proofs.link.Tie as tie
 
@@ -45,7 +45,7 @@ loop-again c =
     let l = c .before .before .before .loop in (
       omega arith,
       ⊎-elim
-          (λ w. rw (w .3) (link-turn (now (s .from)) (now (s .to)) (now (s .follow)) (l .i) (l .follow) (w .2 .last .0) (omega arith) (l .inv .1) (w .0 .taken) (w .2 .ensures)))
+          (λ w. rw (w .3) (link-step (now (s .from)) (now (s .to)) (now (s .follow)) (l .i) (l .follow) (w .2 .last .0) (omega arith) (l .inv .1) (w .0 .taken) (w .2 .ensures)))
           (λ w. rw (w .1) (link-pass (now (s .from)) (now (s .to)) (now (s .follow)) (l .i) (l .follow) (l .inv .1) (w .0 .left)))
           (c .if1 .came),
     )

@@ -6,7 +6,7 @@ use lib.ListN.{length}
 use borrow.Author.Needs.{needs}
 use denote.Ref.{now}
 use Rattle.lists.specs.UptoLoops.{Upto, upto-none}
-use Rattle.positions_follow.specs.Loops.{Either, unite-turn, unite-all}
+use Rattle.positions_follow.specs.Loops.{Either, unite-step, unite-all}
 use Rattle.positions_follow.proofs.unite.Statement.{statement}
 use Rattle.positions_follow.proofs.unite.Tie as tie
 
@@ -42,7 +42,7 @@ loop-again c =
     let s = c .before .before .before .before .before .before .before .args in
     let l = c .before .before .before .before .loop in
     let r = c .either in
-    (omega arith, unite-turn (now (s .a)) (now (s .b)) (l .i) (l .a) (r .result) (omega arith) (l .inv .1) (r .ensures))
+    (omega arith, unite-step (now (s .a)) (now (s .b)) (l .i) (l .a) (r .result) (omega arith) (l .inv .1) (r .ensures))
 
 same-length : tie.Need-same-length Inv-loop μ-loop
 same-length c = c .before .loop .inv .1 .size

@@ -6,8 +6,8 @@ use native.Mathlib.Omega.{arith}
 use lib.ListN.{replicate}
 use denote.Ref.{now}
 use borrow.Author.Needs.{needs}
-use Rattle.lists.specs.MarksLaws.{turns-none, turns-more}
-use Rattle.lists.specs.Marks.{Marks, Turns}
+use Rattle.lists.specs.MarksLaws.{iterations-none, iterations-more}
+use Rattle.lists.specs.Marks.{Marks, Iterations}
 use Rattle.automaton.specs.Form.{lettersOf, view}
 use Rattle.trellis_column.specs.Column.{Picks}
 use Rattle.trellis_column.specs.Loops.{picked-all}
@@ -16,7 +16,7 @@ use Rattle.trellis_column.proofs.picked.Tie as tie
 
 abbrev Inv-loop : tie.InvT-loop
 Inv-loop form column row v near x last set₀ u₀ set u =
-    (last ≡ 2 * lettersOf form) × (u ≤ last + 1) × Marks (Turns (Picks (view form) column row v near x) 0 u) (replicate 255 false) set
+    (last ≡ 2 * lettersOf form) × (u ≤ last + 1) × Marks (Iterations (Picks (view form) column row v near x) 0 u) (replicate 255 false) set
 
 abbrev μ-loop : tie.MeasureT-loop
 μ-loop form column row v near x last set₀ u₀ set u = last + 1 - u
@@ -30,7 +30,7 @@ mul-last c = search needs
 loop-holds : tie.Need-loop-holds Inv-loop μ-loop
 loop-holds c =
     let a = c .before .before .before .before .args in
-    (omega arith, omega arith, turns-none (Picks (view (now (a .form))) (now (a .column)) (now (a .row)) (a .v) (now (a .near)) (a .x)) 0 (replicate 255 false))
+    (omega arith, omega arith, iterations-none (Picks (view (now (a .form))) (now (a .column)) (now (a .row)) (a .v) (now (a .near)) (a .x)) 0 (replicate 255 false))
 
 pick-requires : tie.Need-pick-requires Inv-loop μ-loop
 pick-requires c κs =
@@ -49,7 +49,7 @@ loop-again c =
     let l = c .before .before .before .loop in (
       l .inv .0,
       omega arith,
-      turns-more (Picks (view (now (a .form))) (now (a .column)) (now (a .row)) (a .v) (now (a .near)) (a .x)) 0 (l .u) (replicate 255 false) (l .set)
+      iterations-more (Picks (view (now (a .form))) (now (a .column)) (now (a .row)) (a .v) (now (a .near)) (a .x)) 0 (l .u) (replicate 255 false) (l .set)
           (c .pick .last .1 .1 .1 .1 .1 .1 .1 .0) (omega arith) (l .inv .2) (c .pick .ensures),
     )
 

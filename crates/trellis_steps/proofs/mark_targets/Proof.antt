@@ -3,15 +3,15 @@ use Prim.Native.Nat.{_≤_, _-_}
 use mathlib.Core.Path.{_≡_, subst, _∙_}
 use native.Mathlib.Omega.{arith}
 use denote.Ref.{now}
-use Rattle.lists.specs.MarksLaws.{turns-none, turns-more}
-use Rattle.lists.specs.Marks.{Marks, Turns}
+use Rattle.lists.specs.MarksLaws.{iterations-none, iterations-more}
+use Rattle.lists.specs.Marks.{Marks, Iterations}
 use Rattle.automaton.specs.Form.{view}
 use Rattle.trellis_steps.specs.Steps.{OtherLetter, TargetOf}
 use Rattle.trellis_steps.proofs.mark_targets.Statement.{statement}
 use Rattle.trellis_steps.proofs.mark_targets.Tie as tie
 
 abbrev Inv-loop : tie.InvT-loop
-Inv-loop form own b e set₀ n₀ set n = (b ≤ n) × (n ≤ e) × Marks (Turns (TargetOf form own) b n) set₀ set
+Inv-loop form own b e set₀ n₀ set n = (b ≤ n) × (n ≤ e) × Marks (Iterations (TargetOf form own) b n) set₀ set
 
 abbrev μ-loop : tie.MeasureT-loop
 μ-loop form own b e set₀ n₀ set n = e - n
@@ -20,7 +20,7 @@ loop-holds : tie.Need-loop-holds Inv-loop μ-loop
 loop-holds c =
     let a = c .before .args in
     let p = c .before .pre in
-    (omega arith, p .2, turns-none (TargetOf (now (a .form)) (a .own)) (a .b) (now (a .set)))
+    (omega arith, p .2, iterations-none (TargetOf (now (a .form)) (a .own)) (a .b) (now (a .set)))
 
 target-requires : tie.Need-target-requires Inv-loop μ-loop
 target-requires c κs = let p = c .before .before .before .pre in omega arith
@@ -46,7 +46,7 @@ loop-again c =
     let after = c .mark-letter .last .1 .1 .1 .0 in (
       omega arith,
       omega arith,
-      turns-more (TargetOf (now (a .form)) (a .own)) (a .b) (l .n) (now (a .set)) (l .set) after (l .inv .0) (l .inv .2)
+      iterations-more (TargetOf (now (a .form)) (a .own)) (a .b) (l .n) (now (a .set)) (l .set) after (l .inv .0) (l .inv .2)
           (subst (λ j. Marks (OtherLetter (view (now (a .form))) (a .own) j) (l .set) after) (c .before .before .target .ensures) (c .mark-letter .ensures)),
     )
 
@@ -55,7 +55,7 @@ returns c =
     let a = c .before .before .before .args in
     let l = c .before .loop in
     let end : l .n ≡ a .e = omega arith in
-    subst (λ n. Marks (Turns (TargetOf (now (a .form)) (a .own)) (a .b) n) (now (a .set)) (l .set)) end (l .inv .2)
+    subst (λ n. Marks (Iterations (TargetOf (now (a .form)) (a .own)) (a .b) n) (now (a .set)) (l .set)) end (l .inv .2)
 
 pub mark-targets-spec : {M : Type 1} → statement M
 mark-targets-spec = tie.close (tie.spec Inv-loop μ-loop loop-holds target-requires mark-letter-requires add-n loop-less loop-again returns)

@@ -6,8 +6,8 @@ use native.Mathlib.Omega.{arith}
 use lib.ListN.{replicate}
 use denote.Ref.{now}
 use borrow.Author.Needs.{needs}
-use Rattle.lists.specs.MarksLaws.{turns-none, turns-more}
-use Rattle.lists.specs.Marks.{Marks, Turns}
+use Rattle.lists.specs.MarksLaws.{iterations-none, iterations-more}
+use Rattle.lists.specs.Marks.{Marks, Iterations}
 use Rattle.automaton.specs.Form.{lettersOf, view}
 use Rattle.trellis_steps.specs.Steps.{From}
 use Rattle.trellis_steps.specs.Loops.{reached-marked}
@@ -15,7 +15,7 @@ use Rattle.trellis_steps.proofs.reached.Statement.{statement}
 use Rattle.trellis_steps.proofs.reached.Tie as tie
 
 abbrev Inv-loop : tie.InvT-loop
-Inv-loop form starts from last set₀ s₀ set s = (last ≡ 2 * lettersOf form) × (s ≤ last + 1) × Marks (Turns (From (view form) from) 0 s) (replicate 255 false) set
+Inv-loop form starts from last set₀ s₀ set s = (last ≡ 2 * lettersOf form) × (s ≤ last + 1) × Marks (Iterations (From (view form) from) 0 s) (replicate 255 false) set
 
 abbrev μ-loop : tie.MeasureT-loop
 μ-loop form starts from last set₀ s₀ set s = last + 1 - s
@@ -29,7 +29,7 @@ mul-last c = search needs
 loop-holds : tie.Need-loop-holds Inv-loop μ-loop
 loop-holds c =
     let a = c .before .before .before .args in
-    (omega arith, omega arith, turns-none (From (view (now (a .form))) (now (a .from))) 0 (replicate 255 false))
+    (omega arith, omega arith, iterations-none (From (view (now (a .form))) (now (a .from))) 0 (replicate 255 false))
 
 mark-from-requires : tie.Need-mark-from-requires Inv-loop μ-loop
 mark-from-requires c κs =
@@ -49,7 +49,7 @@ loop-again c =
     let l = c .before .before .before .loop in (
       l .inv .0,
       omega arith,
-      turns-more (From (view (now (a .form))) (now (a .from))) 0 (l .s) (replicate 255 false) (l .set) (c .mark-from .last .1 .1 .1 .1 .0) (omega arith) (l .inv .2)
+      iterations-more (From (view (now (a .form))) (now (a .from))) 0 (l .s) (replicate 255 false) (l .set) (c .mark-from .last .1 .1 .1 .1 .0) (omega arith) (l .inv .2)
           (c .mark-from .ensures),
     )
 

@@ -12,7 +12,7 @@ use borrow.Author.Tests.{ne-eqb, eq-eqb}
 use Rattle.lists.specs.EachLaws.{each-append}
 use Rattle.lists.specs.OrderLaws.{eq-or-ne}
 use Rattle.sheet_format.specs.Sheet.{onto, pieces, both, every, closed, linesOf, costOf, columnOf}
-use Rattle.sheet_format.specs.ColumnLines.{Free, columnsOf, rows}
+use Rattle.sheet_format.specs.ColumnLines.{Free, columnsOf, columnsIn}
 
 -- Pieces.
 
@@ -147,14 +147,14 @@ unfolding both
 both-none none = refl
 both-none (some a) = refl
 
-pub rows-end : rows [] ≡ some []
+pub columnsIn-end : columnsIn [] ≡ some []
 unfolding columnsOf closed pieces every
-rows-end = refl
+columnsIn-end = refl
 
 -- the first column ends with this line
-pub rows-line : (p s : List ℕ) → Free 10 p → rows (p ++ (10 ∷ s)) ≡ both (columnOf p) (rows s)
+pub columnsIn-line : (p s : List ℕ) → Free 10 p → columnsIn (p ++ (10 ∷ s)) ≡ both (columnOf p) (columnsIn s)
 unfolding columnsOf both every
-rows-line p s f = ap columnsOf (lines-end p s f) ∙ by (linesOf s)
+columnsIn-line p s f = ap columnsOf (lines-end p s f) ∙ by (linesOf s)
   where
     by : (o : Option (List (List ℕ))) → columnsOf (both (some p) o) ≡ both (columnOf p) (columnsOf o)
     by none = sym (both-none (columnOf p))
@@ -191,9 +191,9 @@ free-snoc : (p : List ℕ) → Free 10 p → Free 10 (p ++ (32 ∷ []))
 free-snoc p f = each-append (λ b. b ≡ 10 → ⊥) p (32 ∷ []) f (λ e. omega arith, tt)
 
 -- a space stands behind the first cost
-pub rows-space : (p s : List ℕ) → Free 10 p → Free 32 p → rows (p ++ (32 ∷ s)) ≡ beside (costOf p) (rows s)
+pub columnsIn-space : (p s : List ℕ) → Free 10 p → Free 32 p → columnsIn (p ++ (32 ∷ s)) ≡ beside (costOf p) (columnsIn s)
 unfolding columnsOf longer every
-rows-space p s f g =
+columnsIn-space p s f g =
     ap columnsOf (ap linesOf (sym (append-assoc p (32 ∷ []) s)) ∙ front p f) ∙ by (linesOf s)
   where
     front : (p : List ℕ) → Free 10 p → linesOf ((p ++ (32 ∷ [])) ++ s) ≡ longer (p ++ (32 ∷ [])) (linesOf s)
@@ -245,9 +245,9 @@ pub record FirstCost (s : List ℕ) : Type 0 where
   pub is-cost : costOf text ≡ some cost
   pub is-separator : (separator ≡ 32) ⊎ (separator ≡ 10)
 
-pub rows-back : (s c : List ℕ) (cs : List (List ℕ)) → rows s ≡ some (c ∷ cs) → FirstCost s
+pub columnsIn-back : (s c : List ℕ) (cs : List (List ℕ)) → columnsIn s ≡ some (c ∷ cs) → FirstCost s
 unfolding columnsOf columnOf every
-rows-back s c cs e = by (linesOf s) refl e
+columnsIn-back s c cs e = by (linesOf s) refl e
   where
     first : (l : List ℕ) (ls : List (List ℕ)) → FirstLine s l ls → Some 32 l → (d : List ℕ) → columnOf l ≡ some d → FirstCost s
     first l ls f o d h =
@@ -287,10 +287,10 @@ rows-back s c cs e = by (linesOf s) refl e
 abbrev pub put : Option ℕ → ℕ → Option (List (List ℕ)) → Option (List (List ℕ))
 put x b o = cond (eqb b 10) (both (both x (some [])) o) (beside x o)
 
-pub rows-put :
-    (p : List ℕ) (b : ℕ) (s : List ℕ) → Free 10 p → Free 32 p → (b ≡ 32) ⊎ (b ≡ 10) → rows (p ++ (b ∷ s)) ≡ put (costOf p) b (rows s)
-rows-put p b s f g (inl e) = rw e (rows-space p s f g)
-rows-put p b s f g (inr e) = rw e (rows-line p s f ∙ ap (λ c. both c (rows s)) (column-one p g))
+pub columnsIn-put :
+    (p : List ℕ) (b : ℕ) (s : List ℕ) → Free 10 p → Free 32 p → (b ≡ 32) ⊎ (b ≡ 10) → columnsIn (p ++ (b ∷ s)) ≡ put (costOf p) b (columnsIn s)
+columnsIn-put p b s f g (inl e) = rw e (columnsIn-space p s f g)
+columnsIn-put p b s f g (inr e) = rw e (columnsIn-line p s f ∙ ap (λ c. both c (columnsIn s)) (column-one p g))
 
 -- a rest that is not empty has a column, or none are read
 both-some : {A : Type 0} (x : Option A) (o : Option (List A)) → both x o ≡ some [] → ⊥
@@ -299,15 +299,15 @@ both-some none o e = let z : _≡_ {A = ℕ} 0 1 = cc in omega arith
 both-some (some a) none e = let z : _≡_ {A = ℕ} 0 1 = cc in omega arith
 both-some (some a) (some bs) e = let z : _≡_ {A = ℕ} 0 1 = cc in omega arith
 
-pub rows-some : (s : List ℕ) → 0 < length s → rows s ≡ some [] → ⊥
+pub columnsIn-some : (s : List ℕ) → 0 < length s → columnsIn s ≡ some [] → ⊥
 unfolding columnsOf longer every
-rows-some [] l e = absurd (omega arith)
-rows-some (b ∷ s) l e =
-    ⊎-elim (λ q. both-some (columnOf []) (rows s) (sym (line q) ∙ e))
+columnsIn-some [] l e = absurd (omega arith)
+columnsIn-some (b ∷ s) l e =
+    ⊎-elim (λ q. both-some (columnOf []) (columnsIn s) (sym (line q) ∙ e))
     (λ q. by (linesOf s) (sym (ap columnsOf (lines-longer b [] s (q, tt))) ∙ e)) (eq-or-ne b 10)
   where
-    line : b ≡ 10 → rows (b ∷ s) ≡ both (columnOf []) (rows s)
-    line q = ap (λ a. rows (a ∷ s)) q ∙ rows-line [] s tt
+    line : b ≡ 10 → columnsIn (b ∷ s) ≡ both (columnOf []) (columnsIn s)
+    line q = ap (λ a. columnsIn (a ∷ s)) q ∙ columnsIn-line [] s tt
 
     by : (o : Option (List (List ℕ))) → columnsOf (longer (b ∷ []) o) ≡ some [] → ⊥
     by none e = let z : _≡_ {A = ℕ} 0 1 = cc in omega arith
