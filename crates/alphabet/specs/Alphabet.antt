@@ -1,5 +1,5 @@
--- What an alphabet is, and what is checked of an alphabet and a text before the text is read (document 01, "What is turned away", rows 1 to
--- 3).
+-- What an alphabet is, and the checks of an alphabet and a text before the text is parsed (document 01, "What is turned away", refusals 1
+-- to 3).
 use Prim.Native.Nat.{ℕ}
 use mathlib.Core.Bool.{Bool, true, not, _&&_}
 use mathlib.Core.List.{List, [], _∷_}
@@ -18,7 +18,7 @@ distinct (b ∷ A) = not (any (eqb b) A) && distinct A
 abbrev pub is-alphabet : List ℕ → Bool
 is-alphabet A = in-range 1 95 (length A) && (all (in-range 32 126) A && distinct A)
 
--- rows 1, 2 and 3
+-- refusals 1, 2 and 3
 abbrev pub text-checks : (A s : List ℕ) → List Check
 text-checks A s =
     check (not (is-alphabet A)) Alphabet

@@ -1,4 +1,4 @@
--- Rows 1 to 3 at their limits, and their order, computed.
+-- Refusals 1 to 3 at their limits, and their order, computed.
 use Prim.Native.Nat.{ℕ}
 use mathlib.Core.Path.{_≡_, refl}
 use mathlib.Core.Bool.{true, false}
@@ -15,12 +15,12 @@ use Rattle.alphabet.specs.Alphabet.{distinct, is-alphabet, text-checks}
 abbrev ab : List ℕ
 ab = 97 ∷ 98 ∷ []
 
--- what the checks make of an alphabet and a text
+-- what the checks say of an alphabet and a text
 abbrev said : List ℕ → List ℕ → Checked
 said A s = first-refusal (text-checks A s)
 
 record Examples : Type 0 where
-  -- none, one, all 95, one more (a byte too high, or one twice)
+  -- no byte, one, all 95, one more (a byte too high, or one twice)
   sizes : map is-alphabet ([] ∷ (97 ∷ []) ∷ numbers 32 95 ∷ numbers 32 96 ∷ (32 ∷ numbers 32 95) ∷ []) ≡ false ∷ true ∷ true ∷ false ∷ false ∷ []
   alphabet-bytes : map (λ b. is-alphabet (97 ∷ b ∷ [])) (31 ∷ 32 ∷ 126 ∷ 127 ∷ []) ≡ false ∷ true ∷ true ∷ false ∷ []
   twice : map is-alphabet ((97 ∷ 97 ∷ []) ∷ (97 ∷ 98 ∷ 97 ∷ []) ∷ ab ∷ []) ≡ false ∷ false ∷ true ∷ []
@@ -28,7 +28,7 @@ record Examples : Type 0 where
       map (λ n. said ab (replicate n 97)) (0 ∷ 1 ∷ 255 ∷ 256 ∷ []) ≡ Refused TextLength ∷ Passed ∷ Passed ∷ Refused TextLength ∷ []
   text-bytes :
       map (λ b. said ab (97 ∷ b ∷ [])) (31 ∷ 32 ∷ 126 ∷ 127 ∷ []) ≡ Refused TextByte ∷ Passed ∷ Passed ∷ Refused TextByte ∷ []
-  -- two faults: 1 before 2, 1 before 3, 2 before 3
+  -- two faults: refusal 1 before 2, 1 before 3, 2 before 3
   alphabet-and-length : said [] [] ≡ Refused Alphabet
   alphabet-and-byte : said [] (9 ∷ []) ≡ Refused Alphabet
   length-and-byte : said ab (replicate 256 9) ≡ Refused TextLength

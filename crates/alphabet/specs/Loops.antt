@@ -1,4 +1,4 @@
--- The alphabet's test for equal bytes, turn by turn, and the checks of the text one by one.
+-- The alphabet's test for equal bytes, one iteration at a time.
 use Prim.Native.Nat.{ℕ, _+_, _<_, _≤_}
 use mathlib.Core.Path.{_≡_, ap, _∙_}
 use mathlib.Core.Bool.{true, false, not, _&&_, _||_}
@@ -9,7 +9,7 @@ use Rattle.lists.specs.EachLaws.{drop-here, drop-all}
 use Rattle.lists.specs.Lists.{any}
 use Rattle.alphabet.specs.Alphabet.{distinct}
 
--- Does a byte come again? What is left of the list decides.
+-- Does a byte occur again? The rest of the list decides.
 module _ (b : ℕ) (xs : List ℕ) (i : ℕ) where
   pub again-here : i < length xs → eqb b (getD xs i 0) ≡ true → any (eqb b) (drop i xs) ≡ true
   unfolding any

@@ -1,4 +1,4 @@
--- Rows 1, 2 and 3, test by test.
+-- Refusals 1, 2 and 3, test by test.
 use Prim.Native.Nat.{ℕ, _<_, _≤_}
 use mathlib.Core.Path.{_≡_, sym, ap, _∙_}
 use mathlib.Core.Bool.{true, false, not, _&&_, and-false}
@@ -57,7 +57,7 @@ module _ (A s : List ℕ) where
       unfolding first-refusal
       text-passed e = past-length ∙ first-fails (not (all (in-range 32 126) s)) TextByte [] (ap not e)
 
-  -- past the checks the alphabet is one
+  -- past the checks the alphabet has at most 95 bytes
   pub text-alphabet : Passed ≡ first-refusal (text-checks A s) → length A ≤ 95
   text-alphabet e =
       let a = first-passed (not (is-alphabet A)) Alphabet (check (not (in-range 1 255 (length s))) TextLength ∷ bytes) (sym e) in

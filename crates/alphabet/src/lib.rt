@@ -10,7 +10,7 @@ ghost use Rattle.lists.specs.Lists.{any};
 ghost use Rattle.refusal.specs.Verdict.{first-refusal};
 ghost use Rattle.alphabet.specs.Alphabet.{distinct, is-alphabet, text-checks};
 
-// Does the byte stand in the list, from an index on?
+// Is the byte in the list, from an index on?
 fn comes_again(list: &[u8], from: usize, b: u8) -> bool
     ensures { λ r. ⌜ r ≡ any (eqb b) (drop from (old list)) ⌝ }
 {
@@ -24,7 +24,7 @@ fn comes_again(list: &[u8], from: usize, b: u8) -> bool
     false
 }
 
-// Is no byte there twice?
+// Is no byte in the list twice?
 fn are_distinct(list: &[u8]) -> bool
     ensures { λ r. ⌜ r ≡ distinct (old list) ⌝ }
 {
@@ -55,7 +55,7 @@ fn is_alphabet(list: &[u8]) -> bool
     are_distinct(list)
 }
 
-// Rows 1, 2 and 3.
+// The checks of an alphabet and a text: refusals 1, 2 and 3.
 pub fn check_text(alphabet: &[u8], text: &[u8]) -> Checked
     ensures { λ r. ⌜ r ≡ first-refusal (text-checks (old alphabet) (old text)) ⌝ }
 {

@@ -11,7 +11,7 @@ use Rattle.answers.specs.Decoded.{reported as of-decode}
 use Rattle.answers.specs.Reading.{reported as of-read}
 
 record Examples : Type 0 where
-  -- Decode: price 7 and a word of 2; Read: besides a form of 5 words
+  -- Decode: price 7 and a word of length 2; Read: also a form of 5 words
   decoded-path : of-decode (decoded.Path 7 2) ≡ record { number = 0; price = 7; filled = 2; form = 0 }
   decoded-refused : of-decode (decoded.Refused Work) ≡ record { number = 15; price = 0; filled = 0; form = 0 }
   read-path : of-read (reading.Path 7 2 5) ≡ record { number = 0; price = 7; filled = 2; form = 5 }

@@ -1,4 +1,4 @@
--- What Judge reports: of its answer, and of the verdict on a form and a word.
+-- What Judge reports, by its answer and by the verdict on a form and a word.
 use Prim.Native.Nat.{ℕ}
 use mathlib.Core.Bool.{Bool, true, false}
 use Rattle.refusal.specs.Number.{numberOf}
@@ -6,7 +6,7 @@ use Rattle.refusal.specs.Verdict.{Verdict, passed, refused}
 use Rattle.answers.specs.declared.Judged.{Judged}
 use Rattle.answers.specs.declared.Judged.the-variants.{Accepted, Rejected, Refused}
 
--- 0 or the refusal's number, and whether the word was accepted: no at a refusal
+-- 0 or the refusal's number, and whether the word was accepted (false at a refusal)
 pub record Judgement : Type 0 where
   pub number : ℕ
   pub accepted : Bool

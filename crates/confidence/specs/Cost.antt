@@ -1,4 +1,4 @@
--- The cost of a confidence byte (document 01, "Confidences and the sheet program"), and what the call on a list of them fills.
+-- The cost of a confidence byte (document 01, "Confidences and the sheet program"), and what the call on a list of them writes.
 use Prim.Native.Nat.{ℕ, zero, suc, _*_, _^_}
 use mathlib.Core.Bool.{Bool, true, false}
 use mathlib.Core.List.{List, [], _∷_, map}
@@ -20,7 +20,7 @@ largest passes (suc n) = either (passes (suc n)) (suc n) (largest passes n)
 abbrev pub within : ℕ → ℕ → Bool
 within p n = leb (2 ^ n * p) (2 ^ 64)
 
--- the largest such n
+-- the largest such n up to 64
 unfoldable pub shift : ℕ → ℕ
 shift p = largest (within p) 64
 
@@ -28,6 +28,6 @@ shift p = largest (within p) 64
 unfoldable pub cost-of : ℕ → ℕ
 cost-of c = either (eqb c 0) 72 (shift (c ^ 8))
 
--- what the call fills, with this much room for the costs
+-- what the call writes, with this much room for the costs
 unfoldable pub costs-call : List ℕ → ℕ → Verdict (List ℕ)
 costs-call confidences room = unless (check (ltb room (length confidences)) OutputMemory ∷ []) (map cost-of confidences)

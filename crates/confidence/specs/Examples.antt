@@ -10,7 +10,7 @@ examples : map cost-of (255 ∷ 182 ∷ 181 ∷ 128 ∷ 1 ∷ 0 ∷ []) ≡ 0 �
 unfolding cost-of shift largest
 examples = refl
 
--- memory for just as many costs, and for one less
+-- memory for exactly the costs, for one cost less, and none for no confidences
 rooms : (costs-call (128 ∷ 1 ∷ []) 2 ≡ passed (8 ∷ 64 ∷ [])) × (costs-call (128 ∷ 1 ∷ []) 1 ≡ refused OutputMemory) × (costs-call [] 0 ≡ passed [])
 unfolding costs-call unless cost-of shift largest
 rooms = (refl, refl, refl)

@@ -1,4 +1,4 @@
--- What the code's steps compute, over plain numbers and lists.
+-- What each step of the code computes, over plain numbers and lists.
 use Prim.Native.Nat.{ℕ, zero, suc, _+_, _*_, _-_, _^_, _≤_, _<_}
 use mathlib.Core.Path.{_≡_, refl, sym, ap, ap₂, _∙_}
 use mathlib.Core.List.{List, [], _∷_, map}
@@ -48,7 +48,7 @@ limit-doubled (suc n) limit l e =
     let m : suc n - 1 ≡ n = omega arith in
     ap (λ k. 2 ^ k * (limit * 2)) m ∙ ap (λ k. 2 ^ n * k) (mul-comm limit 2) ∙ sym (mul-assoc (2 ^ n) 2 limit) ∙ ap (λ k. k * limit) (sym (pow-suc 2 n)) ∙ e
 
--- until 1 is reached, the doubled limit fits 64 bits
+-- until n is 1, the doubled limit fits 64 bits
 pub limit-small : (n limit : ℕ) → 2 ≤ n → 2 ^ n * limit ≡ 2 ^ 64 → limit * 2 < 2 ^ 64
 limit-small n limit l e =
     let a : 2 ^ 2 ≤ 2 ^ n = pow-mono l in

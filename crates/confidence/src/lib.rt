@@ -51,7 +51,7 @@ pub fn cost(c: u8) -> u32
     largest_shift(eighth_power(c))
 }
 
-// Writes the cost of each confidence; their number.
+// Writes the cost of each confidence and returns their number.
 fn write_costs(confidences: &[u8], costs: &mut [u32]) -> usize
     requires { ⌜ length (now confidences) ≤ length (now costs) ⌝ }
     ensures { λ r. ⌜ Wrote (map cost-of (old confidences)) (old costs) (new costs) r ⌝ }

@@ -1,16 +1,16 @@
--- Collapse (document 01, "Alphabet, labels, paths"): first each run of equal neighbours becomes one, then the blanks go. Label 0 is
--- the blank.
+-- Collapse (document 01, "Alphabet, labels, paths"): first each run of equal labels becomes one label, then the blanks are deleted.
+-- Label 0 is the blank.
 use Prim.Native.Nat.{ℕ}
 use mathlib.Core.Bool.{Bool, true, false}
 use mathlib.Core.List.{List, [], _∷_}
 use lib.Dec.{eqb}
 
--- label x in front of p, or left out
+-- path p with label x before it, or x left out
 abbrev pub omitting : Bool → ℕ → List ℕ → List ℕ
 omitting true x p = p
 omitting false x p = x ∷ p
 
--- each run of equal neighbours as one
+-- each run of equal labels becomes one label
 unfoldable pub merge : List ℕ → List ℕ
 merge [] = []
 merge (x ∷ []) = x ∷ []

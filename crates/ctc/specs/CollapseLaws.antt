@@ -1,4 +1,4 @@
--- Laws of collapse: a label at a time, which labels a word has, its length.
+-- Laws of collapse: one label at a time, which labels a word has, its length.
 use Prim.Native.Nat.{ℕ, suc, _<_, _≤_}
 use mathlib.Core.Path.{_≡_, refl, sym, ap, _∙_}
 use mathlib.Core.Bool.{Bool, true, false, _||_, or-true}
@@ -10,7 +10,7 @@ use borrow.Author.Tests.{eqb-true, eqb-false, eq-eqb, ne-eqb}
 use Rattle.lists.specs.Lists.{Each}
 use Rattle.ctc.specs.Collapse.{omitting, merge, without-blanks, collapse}
 
--- The same from the left, one label at a time: what a path adds to the word behind label a.
+-- Collapse from the left, one label at a time: what a path adds to the word after label a.
 unfoldable pub after : ℕ → List ℕ → List ℕ
 after a [] = []
 after a (x ∷ p) = omitting (eqb x a || eqb x 0) x (after x p)

@@ -19,7 +19,7 @@ example : spread (1 ∷ 1 ∷ 2 ∷ 2 ∷ 2 ∷ 1 ∷ []) ≡ 1 ∷ 0 ∷ 1 ∷ 
 unfolding spread
 example = refl
 
--- of the word 1 1 every shortest path is one of three labels that collapses to it
+-- every shortest path of the word 1 1 collapses to it and has at most three labels
 example-shortest : (p : List ℕ) → Shortest (1 ∷ 1 ∷ []) p → (collapse p ≡ 1 ∷ 1 ∷ []) × (length p ≤ 3)
 unfolding collapse merge without-blanks
 example-shortest p h = (h .collapses, h .shortest (1 ∷ 0 ∷ 1 ∷ []) refl)

@@ -1,5 +1,5 @@
--- Spread (document 01, "Alphabet, labels, paths"): one blank between each two equal neighbours and nowhere else. It undoes collapse
--- with the fewest labels.
+-- Spread (document 01, "Alphabet, labels, paths"): one blank between each two equal neighbours and nowhere else. It gives a
+-- shortest path that collapses to the word.
 use Prim.Native.Nat.{ℕ, _+_, _≤_}
 use mathlib.Core.Path.{_≡_}
 use mathlib.Core.Bool.{Bool, true, false, cond}
@@ -8,7 +8,7 @@ use lib.ListN.{length}
 use lib.Dec.{eqb}
 use Rattle.ctc.specs.Collapse.{collapse}
 
--- path p, with a blank in front where told
+-- path p, with a blank before it if the test holds
 abbrev pub parted : Bool → List ℕ → List ℕ
 parted true p = 0 ∷ p
 parted false p = p
@@ -18,13 +18,13 @@ spread [] = []
 spread (x ∷ []) = x ∷ []
 spread (x ∷ (y ∷ w)) = x ∷ parted (eqb x y) (spread (y ∷ w))
 
--- pairs of equal neighbours
+-- the number of pairs of equal neighbours
 unfoldable pub pairs : List ℕ → ℕ
 pairs [] = 0
 pairs (x ∷ []) = 0
 pairs (x ∷ (y ∷ w)) = cond (eqb x y) 1 0 + pairs (y ∷ w)
 
--- spread gives a shortest path that collapses to the word
+-- p is a shortest path that collapses to the word
 pub record Shortest (w p : List ℕ) : Type 0 where
   pub collapses : collapse p ≡ w
   pub shortest : (q : List ℕ) → collapse q ≡ w → length p ≤ length q

@@ -25,7 +25,7 @@ spread-length (x ∷ (y ∷ w)) = by (eqb x y) (spread-length (y ∷ w))
     by true h = omega arith
     by false h = omega arith
 
--- The same from the left: the word behind letter a.
+-- Spread from the left: what a word adds to the path after letter a.
 unfoldable pub spread-after : ℕ → List ℕ → List ℕ
 spread-after a [] = []
 spread-after a (x ∷ w) = parted (eqb a x) (x ∷ spread-after x w)
@@ -35,7 +35,7 @@ unfolding spread spread-after
 spread-behind x [] = refl
 spread-behind x (y ∷ w) = ap (λ p. x ∷ parted (eqb x y) p) (spread-behind y w)
 
--- of a word without blanks, it is the word behind a blank
+-- the spread of a word without blanks is what the word adds after a blank
 pub spread-from : (w : List ℕ) → Each (λ x. 0 < x) w → spread w ≡ spread-after 0 w
 unfolding spread spread-after
 spread-from [] h = refl
@@ -58,8 +58,8 @@ after-spread a (x ∷ w) h = by (eqb a x) refl (after-spread x w (h .1)) (h .0)
 pub collapse-spread : (w : List ℕ) → Each (λ x. 0 < x) w → collapse (spread w) ≡ w
 collapse-spread w h = collapse-after (spread w) ∙ ap (after 0) (spread-from w h) ∙ after-spread 0 w h
 
--- No path that collapses to the word is shorter: on a letter the path has spent a blank before that letter comes again, and in the
--- blanks (b is the letter in front of them) it has one to spare.
+-- No path that collapses to the word is shorter: after a letter the path, too, needs a blank before that letter comes again; after
+-- blanks (b is the letter before them) the path has that blank already, and spread may need one label more.
 
 pub record Enough (p : List ℕ) : Type 0 where
   pub on-letter : (a : ℕ) → length (spread-after a (after a p)) ≤ length p

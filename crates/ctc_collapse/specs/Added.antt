@@ -5,6 +5,6 @@ use mathlib.Core.List.{List, []}
 use lib.Dec.{eqb}
 use Rattle.ctc.specs.Collapse.{omitting}
 
--- what label x adds to the word behind label a
+-- what label x adds to the word after label a
 abbrev pub added : ℕ → ℕ → List ℕ
 added a x = omitting (eqb x a || eqb x 0) x []

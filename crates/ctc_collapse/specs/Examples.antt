@@ -19,7 +19,7 @@ record Examples : Type 0 where
   nothing : collapse-call 1 [] 0 ≡ passed []
   over-k : collapse-call 1 (2 ∷ []) 1 ≡ refused Label
   no-alphabet : collapse-call 96 path 4 ≡ refused Label
-  -- 14 before 17
+  -- refusal 14 before 17
   both : collapse-call 96 path 3 ≡ refused OutputMemory
 
 examples : Examples

@@ -1,4 +1,4 @@
--- What one turn of the loop of this crate does, over plain lists.
+-- What one iteration of this crate's loop does, over plain lists.
 use Prim.Native.Nat.{ℕ, _+_, _<_, _≤_}
 use mathlib.Core.Path.{_≡_, refl, ap, _∙_}
 use mathlib.Core.Bool.{or-true, Bool, true, false, _||_}
@@ -21,7 +21,7 @@ after-added a x p = by (eqb x a || eqb x 0)
     by true = refl
     by false = refl
 
--- A label of the word is left out, or stored.
+-- A label of the path is left out, or stored in the word.
 
 module _ (a x n : ℕ) (word : List ℕ) where
   pub added-same : x ≡ a → Stored (added a x) n word word n

@@ -10,7 +10,7 @@ ghost use Rattle.ctc.specs.Collapse.{collapse as collapseOf};
 ghost use Rattle.ctc_collapse.specs.Calls.{collapse-call};
 ghost use Rattle.ctc_collapse.specs.Added.{added};
 
-// Label x behind label a goes to place n of the word, or is left out; the next place.
+// Stores label x, which comes after label a, at place n of the word, or leaves it out; returns the next place.
 fn put_added(word: &mut [u8], n: usize, a: u8, x: u8) -> usize
     requires { ⌜ n + length (added a x) ≤ length (now word) ⌝ }
     ensures { λ r. ⌜ Stored (added a x) n (old word) (new word) r ⌝ }
@@ -25,7 +25,7 @@ fn put_added(word: &mut [u8], n: usize, a: u8, x: u8) -> usize
     n + 1
 }
 
-// Writes a path's collapse; its length.
+// Writes a path's collapse and returns its length.
 pub fn write_collapse(path: &[u8], word: &mut [u8]) -> usize
     requires { ⌜ length (now path) ≤ length (now word) ⌝ }
     ensures { λ r. ⌜ Wrote (collapseOf (old path)) (old word) (new word) r ⌝ }

@@ -1,4 +1,4 @@
--- Row 17 at its limits, computed.
+-- Refusal 17 at its limits, computed.
 use mathlib.Core.Path.{_≡_, refl}
 use mathlib.Core.Bool.{true, false}
 use mathlib.Core.List.{[], _∷_, map}

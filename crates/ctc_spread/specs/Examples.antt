@@ -8,18 +8,18 @@ use Rattle.refusal.specs.Verdict.{passed, refused, unless}
 use Rattle.ctc.specs.Spread.{spread}
 use Rattle.ctc_spread.specs.Calls.{spread-call}
 
--- two letters are equal neighbours
+-- two equal neighbours
 abbrev word : List ℕ
 word = 1 ∷ 1 ∷ 2 ∷ []
 
 record Examples : Type 0 where
-  -- memory as long as the need, and one less
+  -- memory as long as the path, and one less
   enough : spread-call 2 word 4 ≡ passed (1 ∷ 0 ∷ 1 ∷ 2 ∷ [])
   short : spread-call 2 word 3 ≡ refused OutputMemory
   nothing : spread-call 1 [] 0 ≡ passed []
   over-k : spread-call 1 word 4 ≡ refused Label
   blank : spread-call 2 (1 ∷ 0 ∷ []) 2 ≡ refused Label
-  -- 14 before 17
+  -- refusal 14 before 17
   both : spread-call 1 word 3 ≡ refused OutputMemory
 
 examples : Examples

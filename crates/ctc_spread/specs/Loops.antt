@@ -1,4 +1,4 @@
--- What one turn of each loop of this crate does, over plain lists.
+-- What one iteration of each loop of this crate does, over plain lists.
 use Prim.Native.Nat.{ℕ, _+_, _<_, _≤_}
 use mathlib.Core.Path.{_≡_, refl, sym, ap, _∙_}
 use mathlib.Core.Bool.{Bool, true, false, cond}
@@ -22,7 +22,7 @@ spread-spaced a x w = by (eqb a x)
     by true = refl
     by false = refl
 
--- A letter of the path is stored behind a blank, or by itself.
+-- A letter of the word is stored after a blank, or alone.
 
 module _ (a x n : ℕ) (path : List ℕ) where
   pub spaced-same : a ≡ x → Stored (spaced a x) n path (set (set path n 0) (n + 1) x) (n + 2)
@@ -47,7 +47,7 @@ pub spread-end : (a : ℕ) (w : List ℕ) (i : ℕ) → length w ≤ i → sprea
 unfolding spread-after
 spread-end a w i l = ap (spread-after a) (drop-all w i l)
 
--- The pair at index i counts one or nothing.
+-- The pair at index i counts as one or as nothing.
 pub at-most-one : (x y : ℕ) → cond (eqb x y) 1 0 ≤ 1
 at-most-one x y = by (eqb x y)
   where

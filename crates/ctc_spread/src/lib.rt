@@ -34,7 +34,7 @@ fn count_pairs(word: &[u8]) -> usize
     n
 }
 
-// Letter x behind letter a goes to place n of the path, with a blank in front if they are equal; the next place.
+// Stores letter x, which comes after letter a, at place n of the path, after a blank if they are equal; returns the next place.
 fn put_spaced(path: &mut [u8], n: usize, a: u8, x: u8) -> usize
     requires { ⌜ n + length (spaced a x) ≤ length (now path) ⌝ }
     ensures { λ r. ⌜ Stored (spaced a x) n (old path) (new path) r ⌝ }
@@ -48,7 +48,7 @@ fn put_spaced(path: &mut [u8], n: usize, a: u8, x: u8) -> usize
     n + 1
 }
 
-// Writes the spread of a word without blanks; its length.
+// Writes the spread of a word without blanks and returns its length.
 fn write_spread(word: &[u8], path: &mut [u8]) -> usize
     requires { ⌜ (length (spreadOf (now word)) ≤ length (now path)) × Each (0 <_) (now word) ⌝ }
     ensures { λ r. ⌜ Wrote (spreadOf (old word)) (old path) (new path) r ⌝ }

@@ -1,4 +1,4 @@
--- Which elements a list has: as a fact, as a test, and after a map, a choice or a joining.
+-- Laws of the elements of a list: as a fact, as a test, and after map, keep, append and flatMap.
 use Prim.Native.Nat.{ℕ, zero, suc, _+_, _*_, _<_, _≤_}
 use mathlib.Core.Path.{_≡_, refl, sym, ap, ap₂, subst, _∙_}
 use mathlib.Core.Bool.{Bool, true, false, cond, _||_}
@@ -67,7 +67,7 @@ module _ {A : Type 0} where
       by (inl l) = inl (inr l)
       by (inr r) = inr r
 
-  -- tests that agree on the list keep the same
+  -- tests that agree on the list keep the same elements
   pub keep-same : (p q : A → Bool) (xs : List A) → ((x : A) → Among x xs → p x ≡ q x) → keep p xs ≡ keep q xs
   unfolding keep
   keep-same p q [] h = refl
@@ -147,7 +147,7 @@ module _ {A B : Type 0} (f : A → List B) where
       by (inl l) ih = (x, inl refl, l)
       by (inr r) ih = let q = ih r in (q .0, inr (q .1), q .2)
 
-  -- lists of at most n elements each
+  -- where each `f a` has at most n elements
   pub flat-length : (n : ℕ) → ((a : A) → length (f a) ≤ n) → (xs : List A) → length (flatMap f xs) ≤ length xs * n
   unfolding flatMap
   flat-length n h [] = omega arith

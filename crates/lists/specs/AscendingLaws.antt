@@ -1,4 +1,4 @@
--- Lists of numbers in ascending order: the numbers from one on, what keeps the order, and that a list is known by its elements.
+-- Laws of ascending lists: consecutive numbers, what keeps the order, and that its elements determine an ascending list.
 use Prim.Native.Nat.{ℕ, zero, suc, _+_, _-_, _<_, _≤_}
 use mathlib.Core.Path.{_≡_, refl, sym, ap, ap₂, _∙_}
 use mathlib.Core.Bool.{Bool, true, false}
@@ -18,7 +18,7 @@ unfolding numbers
 length-numbers a zero = refl
 length-numbers a (suc n) = ap suc (length-numbers (suc a) n)
 
--- what is left of the numbers up to e at a loop's j, and where the loop ends
+-- the numbers below e that remain for a loop at j, and none at its end
 pub numbers-here : (j e : ℕ) → j < e → numbers j (e - j) ≡ j ∷ numbers (j + 1) (e - (j + 1))
 unfolding numbers
 numbers-here j e l =
@@ -92,7 +92,7 @@ ascending-map f (x ∷ xs) up h = (
   ascending-map f xs (λ a b m n. up a b (inr m) (inr n)) (h .1),
 )
 
--- ascending lists, each wholly below the next
+-- ascending lists, each entirely below the next
 pub ascending-flat :
     (f : ℕ → List ℕ) (xs : List ℕ) → ((a : ℕ) → Among a xs → Ascending (f a))
     → ((a b x y : ℕ) → Among a xs → Among b xs → a < b → Among x (f a) → Among y (f b) → x < y) → Ascending xs → Ascending (flatMap f xs)
@@ -104,7 +104,7 @@ ascending-flat f (a ∷ xs) each up h =
     (ascending-flat f xs (λ b m. each b (inr m)) (λ b c x y m n. up b c x y (inr m) (inr n)) (h .1))
     (λ x y m n. let r = flat-among f y xs n in up a (r .0) x y (inl refl) (inr (r .1)) (each-among (λ z. a < z) (r .0) xs (h .0) (r .1)) m (r .2))
 
--- two ascending lists with the same elements are the same list
+-- two ascending lists with the same elements are equal
 pub ascending-same :
     (xs ys : List ℕ) → Ascending xs → Ascending ys → ((a : ℕ) → Among a xs → Among a ys) → ((a : ℕ) → Among a ys → Among a xs) → xs ≡ ys
 ascending-same [] [] p q there back = refl
@@ -122,7 +122,7 @@ ascending-same (x ∷ xs) (y ∷ ys) p q there back = ap₂ _∷_ same (ascendin
         let g = least y x xs (p .0) (back y (inl refl)) in
         omega arith
 
-    -- what is above the head of a list is in its tail
+    -- an element above the head of a list is in its tail
     tail : (a b : ℕ) (bs : List ℕ) → b < a → (a ≡ b) ⊎ Among a bs → Among a bs
     tail a b bs l (inl e) = absurd (omega arith)
     tail a b bs l (inr m) = m

@@ -4,7 +4,7 @@ use mathlib.Core.List.{[], _∷_}
 use mathlib.Core.Bool.{Bool, true, false, cond}
 use Rattle.lists.specs.Cases.{first-of, when}
 
--- behind three cases that do not hold the fourth decides
+-- after three cases that do not hold, the fourth decides
 pub fourth :
     {R : Type 0} (t₁ t₂ t₃ t₄ : Bool) (a₁ a₂ a₃ a₄ d : R) → t₁ ≡ false → t₂ ≡ false → t₃ ≡ false →
     first-of (when t₁ a₁ ∷ (when t₂ a₂ ∷ (when t₃ a₃ ∷ (when t₄ a₄ ∷ [])))) d ≡ cond t₄ a₄ d

@@ -1,4 +1,4 @@
--- What holds of each element of a list, as a test that computes and as a fact, and what an index loop over the list says of it.
+-- Laws of what holds of each element of a list, as a fact and as a test, and of the loop that tests the elements by index.
 use Prim.Native.Nat.{ℕ, zero, suc, _+_, _<_, _≤_}
 use mathlib.Core.Path.{_≡_, refl, sym, ap, _∙_}
 use mathlib.Core.Bool.{Bool, true, false, _&&_}
@@ -32,13 +32,13 @@ module _ {A : Type 0} where
   each-at P d (x ∷ xs) zero l h = h .0
   each-at P d (x ∷ xs) (suc i) l h = each-at P d xs i (le-of-suc-le-suc l) (h .1)
 
-  -- what holds past the end too holds anywhere
+  -- what also holds of the default holds at any index
   pub each-anywhere : (P : A → Type 0) (d : A) (xs : List A) (i : ℕ) → P d → Each P xs → P (getD xs i d)
   each-anywhere P d [] i z h = z
   each-anywhere P d (x ∷ xs) zero z h = h .0
   each-anywhere P d (x ∷ xs) (suc i) z h = each-anywhere P d xs i z (h .1)
 
-  -- the test tells the fact
+  -- the test gives the fact, and the fact gives the test
   pub all-each : (p : A → Bool) (P : A → Type 0) → ((x : A) → p x ≡ true → P x) → (xs : List A) → all p xs ≡ true → Each P xs
   unfolding all
   all-each p P f [] e = tt
@@ -49,14 +49,14 @@ module _ {A : Type 0} where
   each-all p P f [] h = refl
   each-all p P f (x ∷ xs) h = and-both (p x) (all p xs) (f x (h .0)) (each-all p P f xs (h .1))
 
-  -- what is left of a list at an index loop's i, and where the loop ends
+  -- what remains of a list for a loop at index i, and nothing at its end
   pub drop-here : (d : A) (xs : List A) (i : ℕ) → i < length xs → drop i xs ≡ getD xs i d ∷ drop (i + 1) xs
   drop-here d xs i l = drop-cons xs i d l ∙ ap (λ k. getD xs i d ∷ drop k xs) (sym (add-one i))
 
   pub drop-all : (xs : List A) (i : ℕ) → length xs ≤ i → drop i xs ≡ []
   drop-all xs i l = drop-of-length-le xs l
 
-  -- The loop that tests each element from the left: what is left decides. At i of xs, with d for what lies past the end.
+  -- The loop that tests each element from the left: at index i the rest of xs decides. Past the end an element is d.
   module _ (p : A → Bool) (d : A) (xs : List A) where
     pub all-more :
         (i : ℕ) → i < length xs → p (getD xs i d) ≡ true → all p (drop i xs) ≡ all p xs → all p (drop (i + 1) xs) ≡ all p xs

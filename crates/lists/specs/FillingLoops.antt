@@ -1,4 +1,4 @@
--- The loop that writes a list from the front of lent memory, or from a place on.
+-- Principles of the loop that writes a list into lent memory, at its front or from a place on.
 use Prim.Native.Nat.{ℕ, suc, _+_, _<_, _≤_}
 use mathlib.Core.Path.{_≡_, refl, sym, ap, _∙_, subst}
 use mathlib.Core.List.{List, [], _∷_, _++_, append-nil}
@@ -10,7 +10,7 @@ use Rattle.lists.specs.Memory.{written, Wrote, Stored}
 use Rattle.lists.specs.WrittenLaws.{written-none, length-written, written-more}
 
 module _ {A : Type 0} where
-  -- In a loop that writes `whole` from the front of `memory`: n elements are written, and `todo` is still to come.
+  -- In a loop that writes `whole` to the front of `memory`: n elements are written, and `todo` remains to be written.
   pub record Filling (whole memory : List A) (present todo : List A) (n : ℕ) : Type 0 where
     pub room : length whole ≤ length memory
     pub within : n ≤ length whole
@@ -76,7 +76,7 @@ module _ {A : Type 0} where
         let e : n ≡ length whole = let l = ap length (f .left) in omega (arith, length-drop n whole) in
         record { count = e; memory = f .so-far ∙ ap (λ l. written l memory) (ap (λ k. take k whole) e ∙ take-length whole) }
 
-  -- Storing a list from place n on is such a loop too: what stands in front of the place is written already.
+  -- Storing a list from place n on is such a loop too: what is before the place counts as written.
   module _ (c memory : List A) (n : ℕ) (room : n + length c ≤ length memory) where
     front : length (take n memory) ≡ n
     front = length-take-le n memory (omega arith)

@@ -1,4 +1,4 @@
--- An element that is stored only if a test holds.
+-- Laws of an element that is stored only if a test holds.
 use Prim.Native.Nat.{ℕ, _+_, _<_, _≤_}
 use mathlib.Core.Path.{_≡_, refl, ap}
 use mathlib.Core.Bool.{Bool, true, false}
@@ -8,7 +8,7 @@ use lib.ListN.{length, set}
 use Rattle.lists.specs.Lists.{keeping}
 use Rattle.lists.specs.Memory.{Stored}
 
--- The arc at place n.
+-- Element w at place n, stored or left out.
 module _ (w n : ℕ) (form : List ℕ) where
   pub kept-stored : (t : Bool) (v : ℕ) → t ≡ true → v ≡ w → Stored (keeping t w []) n form (set form n v) (n + 1)
   kept-stored t v e q = rw (e, q) (record { next = refl; memory = refl })

@@ -1,4 +1,4 @@
--- The least of all that is offered, and of a top that stands for 'nothing below is offered'; how a loop over an index finds it.
+-- Laws of the least number that is offered, and how a loop over an index finds it.
 use Prim.Native.Nat.{ℕ, _+_, _<_, _≤_, min}
 use mathlib.Core.Path.{_≡_, refl, subst}
 use mathlib.Core.Logic.{_⊎_, inl, inr, ⊎-elim}
@@ -31,8 +31,8 @@ module _ {top : ℕ} where
           (λ k. inr (let e : w ≡ min v w = omega arith in subst Q e (m .met (omega arith))))
           (lt-or-le v w)
 
-  -- Each k of some kind offers c k and the least behind it, or top where that is less; nothing less than the least of these is offered
-  -- by c k and anything behind it.
+  -- The least of the sums c k + m, over each k and each m that P k offers: for each k the least m is enough, and a sum above top counts
+  -- as top.
   pub least-through :
       {K : Type 0} (c r : K → ℕ) (P : K → ℕ → Type 0) → ((k : K) → Least top (P k) (r k)) → {v : ℕ}
       → Least top (λ n. (k : K) × (n ≡ min top (c k + r k))) v → Least top (λ n. (k : K) × (m : ℕ) × P k m × (n ≡ c k + m)) v
@@ -52,7 +52,7 @@ module _ {top : ℕ} where
             omega arith;
       }
 
-  -- The loop over an index from a on: nothing is offered yet; index k offers nothing; the least that index k offers.
+  -- The loop over an index from a on: at first nothing is offered; then index k adds the least that it offers.
   module _ (a : ℕ) (Q : ℕ → ℕ → Type 0) where
     pub least-start : Least top (Among a a Q) top
     least-start = least-none (Among a a Q) (λ n o. let h = o .1 in let i = o .2 in omega arith)

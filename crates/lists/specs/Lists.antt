@@ -1,4 +1,4 @@
--- The words on lists that promises use.
+-- The words on lists and numbers that promises use.
 use mathlib.Core.Bool.{Bool, true, _&&_, false, _||_}
 use mathlib.Core.List.{List, [], _∷_}
 use mathlib.Core.Path.{_≡_}
@@ -7,18 +7,17 @@ use Prim.Native.Nat.{ℕ, zero, suc, _<_}
 use lib.Dec.{leb}
 
 module _ {A : Type 0} where
-  -- the test holds of each element
-  unfoldable pub all : (A → Bool) → List A → Bool
-  all p [] = true
-  all p (x ∷ xs) = p x && all p xs
-
   -- the fact holds of each element
   abbrev pub Each : (A → Type 0) → List A → Type 0
   Each P [] = Unit {0}
   Each P (x ∷ xs) = P x × Each P xs
 
-module _ {A : Type 0} where
-  -- the list has the element
+  -- the test holds of each element
+  unfoldable pub all : (A → Bool) → List A → Bool
+  all p [] = true
+  all p (x ∷ xs) = p x && all p xs
+
+  -- `a` is an element of the list
   abbrev pub Among : A → List A → Type 0
   Among a [] = ⊥
   Among a (x ∷ xs) = (a ≡ x) ⊎ Among a xs
@@ -28,6 +27,7 @@ module _ {A : Type 0} where
   any p [] = false
   any p (x ∷ xs) = p x || any p xs
 
+  -- x before xs, or xs alone
   abbrev pub keeping : Bool → A → List A → List A
   keeping true x xs = x ∷ xs
   keeping false x xs = xs
@@ -37,16 +37,16 @@ module _ {A : Type 0} where
   keep p [] = []
   keep p (x ∷ xs) = keeping (p x) x (keep p xs)
 
+-- n is from `low` to `high`, both included
+abbrev pub in-range : (low high n : ℕ) → Bool
+in-range low high n = leb low n && leb n high
+
 -- the n numbers from a on
 unfoldable pub numbers : ℕ → ℕ → List ℕ
 numbers a zero = []
 numbers a (suc n) = a ∷ numbers (suc a) n
 
--- each element is below all that stand behind it
+-- each element is below all elements after it
 abbrev pub Ascending : List ℕ → Type 0
 Ascending [] = Unit {0}
 Ascending (x ∷ xs) = Each (λ y. x < y) xs × Ascending xs
-
--- from `low` to `high`, both included
-abbrev pub in-range : (low high n : ℕ) → Bool
-in-range low high n = leb low n && leb n high

@@ -1,4 +1,4 @@
--- Sets of numbers as lists of truth values, and what it says that places were marked.
+-- Sets of numbers as lists of truth values, and what it means that places were marked.
 use Prim.Native.Nat.{ℕ, _<_, _≤_}
 use mathlib.Core.Path.{_≡_}
 use mathlib.Core.Bool.{Bool, true, false}
@@ -17,6 +17,6 @@ pub record Marks (P : ℕ → Type 0) (before after : List Bool) : Type 0 where
   pub marked : (k : ℕ) → P k → Has after k
   pub only : (k : ℕ) → Has after k → Has before k ⊎ P k
 
--- A loop whose turn i marks the places that Q i names: the turns from m on, up to n.
+-- Iteration i of a loop marks the places that Q i names: place k is named by some iteration from m on, below n.
 abbrev pub Iterations : (ℕ → ℕ → Type 0) → ℕ → ℕ → ℕ → Type 0
 Iterations Q m n k = (i : ℕ) × (m ≤ i) × (i < n) × Q i k

@@ -1,4 +1,4 @@
--- Sets of numbers as lists of truth values: what it says that places were marked, one behind another or by the turns of a loop.
+-- Laws of marked places: no place, one place, one set of places after another, and the iterations of a loop.
 use Prim.Native.Nat.{ℕ, zero, suc, _+_, _<_, _≤_}
 use mathlib.Core.Path.{_≡_, refl, sym, ap, subst, _∙_}
 use mathlib.Core.Bool.{Bool, true, false}

@@ -1,4 +1,4 @@
--- What a lent list holds, as contracts say it: `old x` when the function is called, `new x` when it returns.
+-- What a lent list holds, as contracts say it: before and after the call, and what a function wrote into it.
 use denote.Ref.{RefT, now}
 use denote.Triple.Both.{Both}
 use Prim.Native.Nat.{ℕ, _+_}
@@ -7,29 +7,30 @@ use mathlib.Core.List.{List, _++_}
 use lib.ListN.{length, drop, take}
 use lib.Seq.{sets}
 
+-- what it holds when the function is called
 abbrev pub old : {X Y : Type 0} → Both (RefT X) Y → X
 old x = now (x .entry)
 
+-- what it holds when the function returns
 abbrev pub new : {X Y : Type 0} → Both Y (RefT X) → X
 new x = now (x .exit)
 
 module _ {A : Type 0} where
-  -- the list in front, and behind it the memory as it was
+  -- the list w at the front, and after it the memory as it was
   unfoldable pub written : List A → List A → List A
   written w m = w ++ drop (length w) m
 
-  -- what a function did that wrote the list w into the front of lent memory and answered its length
+  -- a function wrote the list w to the front of lent memory and returned its length
   pub record Wrote (w before after : List A) (answer : ℕ) : Type 0 where
     pub count : answer ≡ length w
     pub memory : after ≡ written w before
 
-  -- what a function did that stored the elements c from place n on and answered the next place
+  -- a function stored the elements c from place n on and returned the next place
   pub record Stored (c : List A) (n : ℕ) (before after : List A) (answer : ℕ) : Type 0 where
     pub next : answer ≡ n + length c
     pub memory : after ≡ sets before n c
 
-module _ {A : Type 0} where
-  -- nothing in front of place a was written, and nothing from place b on
+  -- nothing was written before place a, and nothing from place b on
   pub record Outside (a b : ℕ) (before after : List A) : Type 0 where
     pub size : length after ≡ length before
     pub front : take a after ≡ take a before

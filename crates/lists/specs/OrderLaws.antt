@@ -1,4 +1,4 @@
--- Two numbers compared, and two truth values: the case distinctions that proofs make.
+-- Laws of the order of numbers and of truth values: the case distinctions that proofs make.
 use Prim.Native.Nat.{ℕ, _<_, _≤_}
 use mathlib.Core.Path.{_≡_, refl, sym}
 use mathlib.Core.Bool.{Bool, true, false, _&&_, _||_, or-true}
@@ -25,7 +25,7 @@ pub true-or-false : (t : Bool) → (t ≡ true) ⊎ (t ≡ false)
 true-or-false true = inl refl
 true-or-false false = inr refl
 
--- no truth value is both
+-- no truth value is both true and false
 pub not-both : (t : Bool) → t ≡ true → t ≡ false → ⊥
 not-both t e f = let z : _≡_ {A = ℕ} 0 1 = cc in omega arith
 
@@ -54,7 +54,7 @@ and-three false b c e = let z : _≡_ {A = ℕ} 0 1 = cc in absurd (omega arith)
 pub and-all-three : (a b c : Bool) → a ≡ true → b ≡ true → c ≡ true → (a && b && c) ≡ true
 and-all-three a b c e f g = rw (e, f, g)
 
--- two tests that hold together are the same
+-- two tests that imply each other are equal
 pub same-truth : (a b : Bool) → (a ≡ true → b ≡ true) → (b ≡ true → a ≡ true) → a ≡ b
 same-truth true b f g = sym (f refl)
 same-truth false true f g = g refl

@@ -1,4 +1,4 @@
--- Lent memory of which a part was written, from one place up to another: what lies outside the part is as before.
+-- Laws of lent memory that was written only from one place up to another: outside this part it is as before.
 use Prim.Native.Nat.{ℕ, _+_, _-_, _<_, _≤_}
 use mathlib.Core.Path.{_≡_, refl, sym, ap, _∙_}
 use mathlib.Core.List.{List}
@@ -17,7 +17,7 @@ module _ {A : Type 0} where
   pub outside-then : {a b : ℕ} {l m n : List A} → Outside a b l m → Outside a b m n → Outside a b l n
   outside-then x y = record { size = y .size ∙ x .size; front = y .front ∙ x .front; behind = y .behind ∙ x .behind }
 
-  -- the same of a larger part
+  -- the same for a larger part
   pub outside-wider : {a b : ℕ} (c d : ℕ) {l m : List A} → c ≤ a → b ≤ d → Outside a b l m → Outside c d l m
   outside-wider {a} {b} c d {l} {m} h k x =
       record {

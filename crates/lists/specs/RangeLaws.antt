@@ -1,4 +1,4 @@
--- A number from one to another.
+-- Laws of `in-range`: a number below, above or inside a range.
 use Prim.Native.Nat.{ℕ, _<_, _≤_}
 use mathlib.Core.Path.{_≡_}
 use mathlib.Core.Bool.{true, false, and-false}

@@ -1,4 +1,4 @@
--- The numbers from j to l: what a loop over them still has before it, and what the turn at j takes from that.
+-- Principles of a loop over the numbers up to l: which numbers remain at j, and what the iteration at j takes from them.
 use Prim.Native.Nat.{ℕ, _+_, _-_, _<_, _≤_}
 use mathlib.Core.Path.{_≡_, refl, ap}
 use mathlib.Core.Bool.{Bool, true, false, cond}
@@ -47,7 +47,7 @@ module _ (l : ℕ) where
     unfolding flatMap
     flat-past i h = ap (flatMap f) (past i h)
 
--- An element that is kept or not counts one or nothing.
+-- One element, kept or left out.
 
 pub length-keeping : (b : Bool) (x : ℕ) (xs : List ℕ) → length (keeping b x xs) ≡ cond b 1 0 + length xs
 length-keeping true x xs = omega arith

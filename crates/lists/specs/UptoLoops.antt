@@ -1,4 +1,4 @@
--- A loop that goes through a list by its index and sets the element there, or leaves it.
+-- Principles of a loop over the indices of a list that sets the element at each index, or leaves it.
 use Prim.Native.Nat.{ℕ, _+_, _<_, _≤_}
 use mathlib.Core.Path.{_≡_, refl, sym, subst, _∙_}
 use mathlib.Core.List.{List}
@@ -8,7 +8,7 @@ use lib.ListN.{length, getD, set, length-set}
 use lib.Seq.{getD-set-same, getD-set-other}
 
 module _ {A : Type 0} (d : A) (R : ℕ → A → Type 0) (before : List A) where
-  -- below i each element is as R asks, and from i on the list is as it was
+  -- below i each element is as R requires, and from i on the list is as it was
   pub record Upto (i : ℕ) (present : List A) : Type 0 where
     pub size : length present ≡ length before
     pub done : (k : ℕ) → k < i → R k (getD present k d)

@@ -1,4 +1,4 @@
--- Lent memory of which a beginning was written: what every promise says of a lent list, and the loop that writes it from the front.
+-- Laws of `written` and `Stored`: lent memory after a list was written to its front, or from a place on.
 use Prim.Native.Nat.{ℕ, suc, _+_, _-_, _<_, _≤_}
 use mathlib.Core.Path.{_≡_, refl, sym, ap, _∙_}
 use mathlib.Core.List.{List, [], _∷_, _++_, append-assoc}
@@ -26,7 +26,7 @@ module _ {A : Type 0} where
       ∙ sym (append-assoc w (a ∷ []) (drop (suc n) m))
       ∙ ap (λ k. (w ++ (a ∷ [])) ++ drop k m) size
 
-  -- behind what is written the memory is as it was
+  -- after what is written the memory is as it was
   pub written-behind : (d : A) (w m : List A) (k : ℕ) → length w ≤ k → getD (written w m) k d ≡ getD m k d
   unfolding written
   written-behind d w m k h =
@@ -34,7 +34,7 @@ module _ {A : Type 0} where
       ap (λ n. getD (w ++ drop (length w) m) n d) (sym e) ∙ getD-append-add w (drop (length w) m) (k - length w) d
       ∙ getD-drop (length w) m (k - length w) d ∙ ap (λ n. getD m n d) e
 
-  -- written once more, as long
+  -- a list of the same length written over it
   pub written-over : (c w m : List A) → length c ≡ length w → written c (written w m) ≡ written c m
   unfolding written
   written-over c w m e = ap (λ l. c ++ l) (drop-at w (drop (length w) m) (length c) (sym e) ∙ ap (λ n. drop n m) (sym e))
@@ -51,7 +51,7 @@ module _ {A : Type 0} where
   pub stored-size : {c before after : List A} {n answer : ℕ} → Stored c n before after answer → length after ≡ length before
   stored-size {c} {before} {after} {n} s = ap length (s .memory) ∙ length-sets before n c
 
-  -- one list behind another
+  -- one list after another
   sets-append : (c d m : List A) (n : ℕ) → sets (sets m n c) (n + length c) d ≡ sets m n (c ++ d)
   sets-append [] d m n = ap (λ k. sets m k d) (omega arith)
   sets-append (x ∷ c) d m n = ap (λ k. sets (sets (set m n x) (suc n) c) k d) (omega arith) ∙ sets-append c d (set m n x) (suc n)
@@ -68,7 +68,7 @@ module _ {A : Type 0} where
         memory = t .memory ∙ ap (λ k. sets middle k d) e ∙ ap (λ m. sets m (n + length c) d) (s .memory) ∙ sets-append c d before n;
       }
 
-  -- what was stored stands there
+  -- what was stored is there
   pub stored-at :
       {c before after : List A} {n answer : ℕ} (d : A) (i : ℕ) → Stored c n before after answer → n + length c ≤ length before → i < length c
       → getD after (n + i) d ≡ getD c i d

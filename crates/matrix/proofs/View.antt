@@ -1,4 +1,4 @@
--- What a view owns, for the proofs of the functions that take one: what its costs, its width and its count own.
+-- What a view owns, for the proofs of functions that take one: what its costs, its width and its count own.
 use mathlib.Core.Path.{_≡_}
 use mathlib.Core.List.{List, [], _∷_}
 use lib.Dec.{T as Holds}

@@ -1,3 +1,4 @@
 pub mod Matrix
 pub mod MatrixLaws
 pub mod View
+pub mod Examples

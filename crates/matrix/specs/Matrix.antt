@@ -1,4 +1,4 @@
--- The matrix of costs as one thing, and the price of a path through it (document 01, "Extended states and decoding").
+-- The matrix of costs, and paths through it with their prices (document 01, "Extended states and decoding").
 use Prim.Native.Nat.{ℕ, _+_, _*_, _≤_, _<_}
 use mathlib.Core.Path.{_≡_}
 use mathlib.Core.List.{List, [], _∷_}
@@ -18,7 +18,7 @@ matrix costs width count = record { costs = costs; width = width; count = count 
 abbrev pub cost : Matrix → ℕ → ℕ → ℕ
 cost M t x = getD (M .costs) (t * M .width + x) 0
 
--- the sum of a path's costs, its first label in column t
+-- the sum of a path's costs, where its first label is in column t
 abbrev pub priceFrom : Matrix → ℕ → List ℕ → ℕ
 priceFrom M t [] = 0
 priceFrom M t (x ∷ p) = cost M t x + priceFrom M (t + 1) p
@@ -30,7 +30,7 @@ price M p = priceFrom M 0 p
 abbrev pub Usable : ℕ → Type 0
 Usable c = c ≤ 1000000
 
--- the list is one of labels of the matrix, each usable in its column, its first in column t
+-- a list of labels of the matrix with usable costs, where the first label is in column t
 abbrev pub PathFrom : Matrix → ℕ → List ℕ → Type 0
 PathFrom M t [] = Unit {0}
 PathFrom M t (x ∷ p) = (x < M .width) × Usable (cost M t x) × PathFrom M (t + 1) p
@@ -40,6 +40,6 @@ pub record PathOf (M : Matrix) (p : List ℕ) : Type 0 where
   pub one-each : length p ≡ M .count
   pub labels : PathFrom M 0 p
 
--- what refusal 13 turns away is no cost of the matrix
+-- refusal 13 turns away no cost of the matrix
 abbrev pub CostsPass : Matrix → Type 0
 CostsPass M = Each Usable (M .costs)

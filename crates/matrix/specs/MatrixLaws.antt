@@ -1,4 +1,4 @@
--- Laws of the matrix: prices and paths that are joined, and costs that pass the checks.
+-- Laws of the matrix: joined paths and their prices, and costs that pass the checks.
 use Prim.Native.Nat.{ℕ, suc, _+_, _*_}
 use mathlib.Core.Path.{_≡_, ap, _∙_}
 use mathlib.Core.List.{List, [], _∷_, _++_}
@@ -10,7 +10,7 @@ use Rattle.lists.specs.EachLaws.{each-at}
 use Rattle.matrix.specs.Matrix.{Matrix, cost, priceFrom, Usable, PathFrom, CostsPass}
 
 module _ (M : Matrix) where
-  -- the price of parts that are joined
+  -- the price of joined parts
   pub price-append : (t : ℕ) (p q : List ℕ) → priceFrom M t (p ++ q) ≡ priceFrom M t p + priceFrom M (t + length p) q
   price-append t [] q = let e : t ≡ t + 0 = omega arith in ap (λ k. priceFrom M k q) e ∙ omega arith
   price-append t (x ∷ p) q =

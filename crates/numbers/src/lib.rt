@@ -1,4 +1,4 @@
-// Small functions on numbers: between bytes, 32-bit words and sizes; the lesser of two; a range; a truth as a number.
+// Small functions on numbers: conversions of bytes, 32-bit words and sizes; the lesser of two; a range; a truth value as a number.
 ghost use mathlib.Core.Path.{_≡_};
 ghost use mathlib.Core.Bool.{cond};
 ghost use Prim.Native.Nat.{_<_, _≤_, min};
@@ -34,7 +34,7 @@ pub fn narrow_byte(x: usize) -> u8
     x as u8
 }
 
-// 1 if it holds, else 0.
+// 1 if b holds, else 0.
 pub fn one_if(b: bool) -> usize
     ensures { λ r. ⌜ (r ≡ cond b 1 0) × (r ≤ 1) ⌝ }
 {

@@ -1,4 +1,4 @@
--- Of two outcomes the better one, and that it is the outcome of both sets together.
+-- The better of two outcomes, and that it is the outcome of both sets together.
 use Prim.Native.Nat.{ℕ, _≤_}
 use mathlib.Core.Path.{_≡_, refl, sym}
 use mathlib.Core.Bool.{Bool, true, false, _&&_, _||_}
@@ -47,7 +47,7 @@ not-after-false (x ∷ p) (y ∷ q) e = by (ltb x y) refl (eqb x y) refl (not-af
     by false e true f h g = inr (sym (eqb-true x y f), h g)
     by false e false f h g = inl (let l = ltb-false x y e in let n = eqb-false x y f in omega arith)
 
--- whether p goes before q: it costs less, or as much and is not after it
+-- whether p is preferred to q: it costs less, or the same and is not after q
 unfoldable pub preferred : (List ℕ → ℕ) → List ℕ → List ℕ → Bool
 preferred cost p q = ltb (cost p) (cost q) || (eqb (cost p) (cost q) && not-after p q)
 
@@ -84,7 +84,7 @@ module _ (cost : List ℕ → ℕ) where
       by false e false f g =
           let l = ltb-false (cost p) (cost q) e in (l, λ z. absurd (eqb-false (cost p) (cost q) f z))
 
-  -- the one that goes before the other is best of both
+  -- the one that is preferred is the best of both
   best-either :
       (P Q : List ℕ → Type 0) (p q : List ℕ) → BestOf P cost NotAfter p → BestOf Q cost NotAfter q
       → (cost p ≤ cost q) × (cost p ≡ cost q → NotAfter p q) → BestOf (λ a. P a ⊎ Q a) cost NotAfter p
@@ -116,7 +116,7 @@ module _ (cost : List ℕ → ℕ) where
           let w = preferred-false p q e in
           outcome-of-same cost (λ p. ⊎-elim inr inl) (λ p. ⊎-elim inr inl) (some q) (best-either Q P q p g h (w .0, λ z. w .1 (sym z)))
 
--- the words of one set or of another: the better of the two readings
+-- for the words of either set the outcome is the better of the two outcomes
 pub outcome-union :
     (M : Matrix) (Word₁ Word₂ : List ℕ → Type 0) (a b : Option (List ℕ)) → Outcome Word₁ M a → Outcome Word₂ M b
     → Outcome (λ w. Word₁ w ⊎ Word₂ w) M (better (price M) a b)

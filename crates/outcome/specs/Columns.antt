@@ -1,4 +1,4 @@
--- One column's costs raised by the same amount throughout: the same path is best, and costs that much more.
+-- If all usable costs of one column are raised by the same amount, the same path is best, and it costs that much more.
 -- For the reader: nothing uses it.
 use Prim.Native.Nat.{ℕ, _+_, _≤_, _<_}
 use mathlib.Core.Path.{_≡_, refl, sym, _∙_}
@@ -11,7 +11,7 @@ use Rattle.lists.specs.OrderLaws.{eq-or-ne}
 use Rattle.matrix.specs.Matrix.{Matrix, cost, priceFrom, price, Usable, PathFrom}
 use Rattle.outcome.specs.Outcome.{Rival, Outcome}
 
--- N is M with the usable costs of one column raised, and no cost becomes usable or ceases to be so
+-- N is M with the usable costs of one column raised, and the same costs are usable
 pub record Raised (column amount : ℕ) (M N : Matrix) : Type 0 where
   pub width : N .width ≡ M .width
   pub count : N .count ≡ M .count
@@ -22,7 +22,7 @@ pub record Raised (column amount : ℕ) (M N : Matrix) : Type 0 where
   pub adds : (x : ℕ) → x < M .width → Usable (cost N column x) → Usable (cost M column x)
 
 module _ (column amount : ℕ) (M N : Matrix) (r : Raised column amount M N) where
-  -- a column that is another one
+  -- after that column the price is the same
   behind : (t : ℕ) (p : List ℕ) → column < t → PathFrom M t p → priceFrom N t p ≡ priceFrom M t p
   behind t [] l h = refl
   behind t (x ∷ p) l h =

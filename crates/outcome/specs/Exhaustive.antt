@@ -1,4 +1,4 @@
--- The outcome of a small matrix by trying every list of labels. Where a test decides the words, this decides the reading.
+-- The outcome of a small matrix, found by trying every list of labels. Where a test decides the words, this computes the outcome.
 use Prim.Native.Nat.{ℕ, zero, suc, _+_, _<_}
 use mathlib.Core.Path.{_≡_, refl, sym, ap, _∙_}
 use mathlib.Core.Bool.{Bool, true, false, _&&_}
@@ -25,7 +25,7 @@ abbrev pub given : Bool → Option (List ℕ)
 given true = some []
 given false = none
 
--- the best of those that begin with a label below k, where `rest x` is the best behind label x
+-- the best of those that begin with a label below k, where `rest x` is the best after label x
 unfoldable pub over : (List ℕ → ℕ) → (ℕ → Option (List ℕ)) → ℕ → Option (List ℕ)
 over cost rest zero = none
 over cost rest (suc x) = better cost (over cost rest x) (prefixed x (rest x))
@@ -41,7 +41,7 @@ pub record Passes (test : List ℕ → Bool) (width n : ℕ) (p : List ℕ) : Ty
   pub labels : Each (λ x. x < width) p
   pub passes : test p ≡ true
 
--- x, and behind it a list that qualifies
+-- x, and after it a list that qualifies
 pub record Behind (x : ℕ) (P : List ℕ → Type 0) (p : List ℕ) : Type 0 where
   pub rest : List ℕ
   pub is : p ≡ x ∷ rest
@@ -58,7 +58,7 @@ outcome-prefixed cost x P (some p) h =
       first = λ a b e. rw (b .is) (inr (refl, h .first (b .rest) (b .qualifies) (sym (ap cost (b .is)) ∙ e)));
     }
 
--- some label below k begins it
+-- it begins with some label below k
 pub record Begins (k : ℕ) (P : ℕ → List ℕ → Type 0) (p : List ℕ) : Type 0 where
   pub label : ℕ
   pub below : label < k
@@ -124,7 +124,7 @@ exhaustive-outcome cost test width (suc n) =
               };
         }
 
--- each cost may be used, as a test
+-- each cost is usable, as a test
 unfoldable pub usable : Matrix → ℕ → List ℕ → Bool
 usable M t [] = true
 usable M t (x ∷ p) = leb (cost M t x) 1000000 && usable M (t + 1) p
@@ -146,7 +146,7 @@ module _ (M : Matrix) where
       let r = path-usable (t + 1) p (h .2) in
       ((h .0, r .0), and-both (leb (cost M t x) 1000000) (usable M (t + 1) p) (le-leb (cost M t x) 1000000 (h .1)) (r .1))
 
-  -- the reading, where `test` decides the words
+  -- the outcome, where `test` decides the words
   unfoldable pub decided : (List ℕ → Bool) → Option (List ℕ)
   decided test = exhaustive (price M) (λ p. usable M 0 p && test (collapse p)) (M .width) (M .count)
 

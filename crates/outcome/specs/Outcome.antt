@@ -21,6 +21,6 @@ abbrev pub OutcomeOf : (List ℕ → Type 0) → (List ℕ → ℕ) → Option (
 OutcomeOf Qualifies cost none = (p : List ℕ) → Qualifies p → ⊥
 OutcomeOf Qualifies cost (some p) = BestOf Qualifies cost NotAfter p
 
--- what there is to read: the best path, or nothing where there is no rival
+-- the best path, or nothing where there is no rival
 abbrev pub Outcome : (List ℕ → Type 0) → Matrix → Option (List ℕ) → Type 0
 Outcome Word M = OutcomeOf (Rival Word M) (price M)

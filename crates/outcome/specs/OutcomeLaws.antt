@@ -1,4 +1,4 @@
--- There is one outcome, and the words decide it; past the checks a rival needs no usable costs.
+-- There is one outcome, and it depends only on the words; past the checks every cost is usable.
 use Prim.Native.Nat.{ℕ, _+_, _<_}
 use mathlib.Core.Path.{_≡_, refl, ap}
 use mathlib.Core.Option.{Option, some, none}
@@ -12,7 +12,7 @@ use Rattle.matrix.specs.MatrixLaws.{cost-passes}
 use Rattle.outcome.specs.OrderLaws.{order-antisymmetric}
 use Rattle.outcome.specs.Outcome.{Rival, OutcomeOf, Outcome}
 
--- what qualifies decides, and nothing else of it
+-- the outcome depends only on what qualifies
 pub outcome-of-same :
     {P Q : List ℕ → Type 0} (cost : List ℕ → ℕ) → ((p : List ℕ) → P p → Q p) → ((p : List ℕ) → Q p → P p)
     → (a : Option (List ℕ)) → OutcomeOf P cost a → OutcomeOf Q cost a
@@ -35,7 +35,7 @@ module _ (M : Matrix) where
       → (a : Option (List ℕ)) → Outcome Word₁ M a → Outcome Word₂ M a
   outcome-same Word₁ Word₂ to from a h = outcome-of-same (price M) (rival-same Word₁ Word₂ to) (rival-same Word₂ Word₁ from) a h
 
--- Under check 13 a rival is what demand 3 says and no more: a label for each column, each one of the matrix, whose collapse is a word.
+-- Past check 13 a rival is exactly what demand 3 says: one label of the matrix for each column, with a word as its collapse.
 module _ (M : Matrix) (pass : CostsPass M) where
   pub passing-path : (t : ℕ) (p : List ℕ) → Each (λ x. x < M .width) p → PathFrom M t p
   passing-path t [] h = tt

@@ -1,4 +1,4 @@
--- The table's numbers, the order of checks, and what is reported, computed.
+-- The numbers of the refusals, the order of checks, and what is reported, computed.
 use Prim.Native.Nat.{ℕ, _-_}
 use mathlib.Core.Path.{_≡_, refl}
 use mathlib.Core.Bool.{true, false}
@@ -13,18 +13,18 @@ use Rattle.refusal.specs.Number.{numberOf}
 use Rattle.refusal.specs.Verdict.{Verdict, passed, refused, Check, check, unless, if-passed, first-refusal}
 use Rattle.refusal.specs.Report.{reported, report, filling}
 
--- the rows in the table's order
-abbrev rows : List Refusal
-rows =
+-- the refusals in the order of document 01
+abbrev refusals : List Refusal
+refusals =
     Alphabet ∷ TextLength ∷ TextByte ∷ MisplacedSign ∷ Depth ∷ Count ∷ Bracket ∷ Foreign ∷ Letters ∷ FormMemory ∷ BadForm ∷ Matrix ∷ Cost ∷
     OutputMemory ∷ Work ∷ NoReading ∷ Label ∷ Sheet ∷ []
 
-numbered : map numberOf rows ≡ numbers 1 18
+numbered : map numberOf refusals ≡ numbers 1 18
 unfolding numbers
 numbered = refl
 
--- no row is missing above
-listed : (n : Refusal) → getD rows (numberOf n - 1) n ≡ n
+-- no refusal is missing above
+listed : (n : Refusal) → getD refusals (numberOf n - 1) n ≡ n
 listed Alphabet = refl
 listed TextLength = refl
 listed TextByte = refl
@@ -44,7 +44,7 @@ listed NoReading = refl
 listed Label = refl
 listed Sheet = refl
 
--- two checks that hold: the first in the list decides, though its number is the higher
+-- two checks that hold: the first in the list decides, though its number is higher
 abbrev two : List Check
 two = check false Label ∷ check true Work ∷ check true Cost ∷ []
 

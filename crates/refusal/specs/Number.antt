@@ -1,4 +1,4 @@
--- The number of each row of document 01's table "What is turned away".
+-- The number of each refusal (document 01, "What is turned away").
 use Prim.Native.Nat.{ℕ}
 use Rattle.refusal.specs.declared.Refusal.{Refusal}
 use Rattle.refusal.specs.declared.Refusal.the-variants.{Alphabet, TextLength, TextByte, MisplacedSign, Depth, Count, Bracket, Foreign, Letters}

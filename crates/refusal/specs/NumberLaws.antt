@@ -1,11 +1,11 @@
--- The numbers of refusals are 1 to 18.
+-- Laws of the numbers of refusals.
 use Prim.Native.Nat.{_≤_, _<_}
 use native.Mathlib.Omega.{arith}
 use Rattle.refusal.specs.declared.Refusal.{Refusal}
 use Rattle.refusal.specs.declared.Refusal.the-variants.{Alphabet, TextLength, TextByte, MisplacedSign, Depth, Count, Bracket, Foreign, Letters, FormMemory, BadForm, Matrix, Cost, OutputMemory, Work, NoReading, Label, Sheet}
 use Rattle.refusal.specs.Number.{numberOf}
 
--- no row has the number 0, and none more than two digits
+-- no refusal has the number 0, and none has more than two digits
 pub number-between : (n : Refusal) → (1 ≤ numberOf n) × (numberOf n < 100)
 number-between Alphabet = (omega arith, omega arith)
 number-between TextLength = (omega arith, omega arith)

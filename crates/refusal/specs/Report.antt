@@ -1,5 +1,5 @@
--- What a call reports: 0 or the refusal's number, the price and the lengths, all of them zero at a refusal; and what a call that
--- fills one list promises.
+-- What a call reports: 0 or the refusal's number, the price and the lengths, which are 0 at a refusal; and what a call that fills one
+-- list promises.
 use Prim.Native.Nat.{ℕ}
 use mathlib.Core.Path.{_≡_}
 use mathlib.Core.List.{List, []}
@@ -12,7 +12,7 @@ use Rattle.refusal.specs.Number.{numberOf}
 use Rattle.refusal.specs.Verdict.{Verdict, passed, refused}
 
 -- `filled` is the length of the list that the call is for (Compile: the form's words; Decode and Read: the word), `form` that of the form
--- which Read writes besides
+-- that Read also writes
 pub record Report : Type 0 where
   pub number : ℕ
   pub price : ℕ
@@ -23,7 +23,7 @@ pub record Report : Type 0 where
 abbrev pub turned-away : Refusal → Report
 turned-away n = record { number = numberOf n; price = 0; filled = 0; form = 0 }
 
--- the report of a list filled
+-- the report of a call that filled n elements
 abbrev pub counted : ℕ → Report
 counted n = record { number = 0; price = 0; filled = n; form = 0 }
 
@@ -36,13 +36,13 @@ module _ {A : Type 0} where
   report (passed w) = counted (length w)
   report (refused n) = turned-away n
 
-  -- what is written of it
+  -- what the call writes
   abbrev pub filling : Verdict (List A) → List A
   filling (passed w) = w
   filling (refused n) = []
 
   -- The promise of a call that fills one list: its report, and the lent memory, which begins with what the verdict gives and is
-  -- otherwise as it was.
+  -- unchanged after that.
   pub record Fills (verdict : Verdict (List A)) (answer : Report) (before after : List A) : Type 0 where
     pub answered : answer ≡ report verdict
     pub memory : after ≡ written (filling verdict) before

@@ -1,4 +1,4 @@
--- What is reported of a call that was refused, and of one that filled its list.
+-- Laws of `Fills`: a call that was refused, and one that filled its list.
 use Prim.Native.Nat.{ℕ}
 use mathlib.Core.Path.{_≡_, refl, sym, ap}
 use mathlib.Core.List.{List}

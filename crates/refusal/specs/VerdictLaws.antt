@@ -36,13 +36,13 @@ pub first-fails : (t : Bool) (n : Refusal) (cs : List Check) → t ≡ false →
 unfolding first-refusal
 first-fails t n cs e = rw (e, first-refusal)
 
--- where all pass, each does
+-- where all checks pass, each does
 pub first-passed : (t : Bool) (n : Refusal) (cs : List Check) → first-refusal (check t n ∷ cs) ≡ Passed → (t ≡ false) × (first-refusal cs ≡ Passed)
 unfolding first-refusal
 first-passed true n cs e = let z : _≡_ {A = ℕ} 0 1 = cc in absurd (omega arith)
 first-passed false n cs e = (refl, e)
 
--- the checks alone decide what the input gets
+-- the checks alone decide the verdict
 module _ {A : Type 0} (a : A) where
   pub first-refused : (n : Refusal) (cs : List Check) → first-refusal cs ≡ Refused n → unless cs a ≡ refused n
   unfolding first-refusal unless

@@ -1,8 +1,8 @@
-// What is turned away: the rows of document 01's table, and the answer of a call that fills one list.
+// What is turned away: the refusals of document 01, and the answer of a call that fills one list.
 ghost use mathlib.Core.Path.{_≡_};
 ghost use Rattle.refusal.specs.Number.{numberOf};
 
-// The table's rows, in its order.
+// The refusals, in the order of document 01.
 pub enum Refusal {
     Alphabet,
     TextLength,
@@ -30,13 +30,13 @@ pub enum Counted {
     Refused(Refusal),
 }
 
-// What the checks of a call make of its input.
+// What the checks of a call say of its input.
 pub enum Checked {
     Passed,
     Refused(Refusal),
 }
 
-// A row's number in the table.
+// The number of a refusal.
 pub fn number(r: Refusal) -> u32
     ensures { λ n. ⌜ n ≡ numberOf r ⌝ }
 {

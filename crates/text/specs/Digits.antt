@@ -9,7 +9,7 @@ abbrev pub digits : List ℕ → Bool
 digits [] = true
 digits (b ∷ s) = (leb (code "0") b && leb b (code "9")) && digits s
 
--- in decimal, behind the digits that make n
+-- the number that they make in decimal, after digits that make n
 abbrev pub value : ℕ → List ℕ → ℕ
 value n [] = n
 value n (b ∷ s) = value (10 * n + (b - code "0")) s

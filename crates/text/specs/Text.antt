@@ -1,4 +1,4 @@
--- A text as a list of bytes: what it begins with, and the first such sign in it.
+-- A text as a list of bytes: what it begins with, and where a sign first occurs in it.
 use mathlib.Core.Option.{Option, some, none}
 use mathlib.Core.List.{List, [], _∷_}
 use mathlib.Core.Bool.{Bool, true, false, _||_, cond}
@@ -29,16 +29,16 @@ abbrev pub in-front : ℕ → Option (List ℕ × List ℕ) → Option (List ℕ
 in-front b none = none
 in-front b (some x) = some (b ∷ x .0, x .1)
 
--- the text in front of the first such sign, and the text behind that sign
+-- the text before the first such sign, and the text after that sign
 unfoldable pub split : Char → List ℕ → Option (List ℕ × List ℕ)
 split c [] = none
 split c (b ∷ s) = elim (eqb b (code c)) [ true ↦ some ([], s) | false ↦ in-front b (split c s) ]
 
--- how many bytes stand in front of the first such byte
+-- the number of bytes before the first such byte
 unfoldable pub until : ℕ → List ℕ → ℕ
 until c [] = 0
 until c (b ∷ s) = cond (eqb b c) 0 (suc (until c s))
 
--- where a rest of the text begins
+-- the place where a rest of the text begins
 abbrev pub place : List ℕ → List ℕ → ℕ
 place text r = length text - length r

@@ -1,4 +1,4 @@
--- A text from a place on: its first byte, the first such byte in it, and the place where it begins.
+-- Laws of a text from a place on: its first byte, where a sign first occurs in it, and the place where it begins.
 use mathlib.Core.Path.{_≡_, refl, sym, ap, _∙_}
 use mathlib.Core.Option.{Option, some, none}
 use mathlib.Core.List.{List, [], _∷_, _++_}
@@ -41,7 +41,7 @@ module _ (signs : List ℕ) (b i : ℕ) where
   pub one-end : length signs ≤ i → one-of (drop i signs) b ≡ false
   one-end l = rw (drop-all signs i l)
 
--- the text in front of the first such sign and behind it
+-- the text before the first such sign, and after it
 split-some :
     (c : Char) (s : List ℕ) → until (code c) s < length s → split c s ≡ some (take (until (code c) s) s, drop (suc (until (code c) s)) s)
 unfolding until split
@@ -67,7 +67,7 @@ split-none c (b ∷ s) l = by (eqb b (code c)) l (split-none c s)
     by true l ih = absurd (omega arith)
     by false l ih = ap (in-front b) (ih (omega arith))
 
--- the same at a place: the first such sign stands at e
+-- the same from a place on: the first such sign is at e
 module _ (c : Char) (text : List ℕ) (at e : ℕ) (is : e ≡ at + until (code c) (drop at text)) where
   pub split-found : e < length text → split c (drop at text) ≡ some (take (e - at) (drop at text), drop (e + 1) text)
   split-found l =
@@ -87,7 +87,7 @@ byte-within text i f = lt-of-not-le (λ h. f (List·getD-eq-default text 0 h))
 pub byte-is : (text : List ℕ) (i b : ℕ) → getD text i 0 ≡ suc b → i < length text
 byte-is text i b e = byte-within text i (λ z. omega arith)
 
--- the first byte, where 0 is no sign, and what follows it
+-- the first byte, where 0 is no sign, and the rest after it
 pub next-at : (c : Char) (text : List ℕ) (at : ℕ) → eqb 0 (code c) ≡ false → next c (drop at text) ≡ eqb (getD text at 0) (code c)
 next-at c [] zero e = sym e
 next-at c [] (suc n) e = sym e
@@ -112,7 +112,7 @@ rest-at text at = by text at ∙ ap (λ (i : ℕ). drop i text) (sym (add-one at
 pub place-drop : (text : List ℕ) (e : ℕ) → e ≤ length text → place text (drop e text) ≡ e
 place-drop text e l = let n = length-drop e text in omega arith
 
--- a rest that stands behind u, which begins at a place
+-- r is the rest after u, which begins at a place
 pub record Behind (text : List ℕ) (at : ℕ) (u r : List ℕ) : Type 0 where
   pub rests : drop (place text r) text ≡ r
   pub ahead : place text r ≡ at + length u
@@ -128,6 +128,6 @@ behind text at u r l e =
       ends = omega arith;
     }
 
--- a part of the text up to its end is the text from the part's start on
+-- a part up to the end of the text is the text from the part's start on
 pub part-rest : (text : List ℕ) (i : ℕ) → take (length text - i) (drop i text) ≡ drop i text
 part-rest text i = let n = length-drop i text in take-all (length text - i) (drop i text) (omega arith)

@@ -1,4 +1,4 @@
-// The bytes of a text: the byte at a place, whether a byte is one of some signs, where the next such sign is. A text may have any bytes.
+// The bytes of a text: the byte at a place, whether a byte is one of some signs, where a sign occurs next. A text may have any bytes.
 ghost use mathlib.Core.Path.{_≡_};
 ghost use Prim.Native.Nat.{_+_};
 ghost use lib.ListN.{getD, drop};
@@ -26,7 +26,7 @@ pub fn one_of(signs: &[u8], b: u8) -> bool
     false
 }
 
-// Where the first such sign stands from a place on; past the end if there is none.
+// Where the first such sign is, from a place on; past the end if there is none.
 pub fn find(text: &[u8], from: usize, sign: u8) -> usize
     ensures { λ r. ⌜ r ≡ from + until sign (drop from (old text)) ⌝ }
 {

@@ -1,4 +1,4 @@
--- `ctc_collapse::write_collapse` meets its contract: what is written, and what the rest of the path adds behind the last label, make the
+-- `ctc_collapse::write_collapse` meets its contract: what is written, and what the rest of the path adds after the last label, make the
 -- whole.
 use Prim.Native.Nat.{_≤_, _+_, _-_}
 use mathlib.Core.Path.{subst}

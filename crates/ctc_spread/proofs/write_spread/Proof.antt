@@ -1,4 +1,4 @@
--- `ctc_spread::write_spread` meets its contract: what is written, and the spread of the rest behind the last letter, make the whole.
+-- `ctc_spread::write_spread` meets its contract: what is written, and the spread of the rest after the last letter, make the whole.
 use Prim.Native.Nat.{_≤_, _+_, _-_}
 use mathlib.Core.Path.{subst}
 use native.Mathlib.Omega.{arith}

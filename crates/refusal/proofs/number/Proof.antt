@@ -1,4 +1,4 @@
--- `refusal::number` meets its contract: each arm is told which row it is, and there the definition computes.
+-- `refusal::number` meets its contract: in each arm the refusal is known, and there the definition computes.
 use mathlib.Core.Path.{sym, ap}
 use Rattle.refusal.specs.Number.{numberOf}
 use borrow.Author.Needs.{needs}

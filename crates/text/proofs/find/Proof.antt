@@ -1,4 +1,4 @@
--- `text::find` meets its contract: the text from i on has the first such sign where the text from the start on has it.
+-- `text::find` meets its contract: the first such sign from i on is the first one from the start on.
 use native.Mathlib.Omega.{arith}
 use denote.Ref.{now}
 use Prim.Native.Nat.{_-_, _+_}
