@@ -1,5 +1,5 @@
--- What Compile makes of an alphabet and a text: the form of its expression, or the refusal that applies (document 01, "What is turned
--- away", rows 1 to 10).
+-- What Compile gives for an alphabet and a text: the form of its expression, or the refusal that applies (document 01, "What is turned
+-- away", refusals 1 to 10).
 use Prim.Native.Nat.{ℕ}
 use mathlib.Core.List.{List, [], _∷_}
 use lib.ListN.{length}
@@ -13,11 +13,11 @@ use Rattle.regex.specs.Parse.{expressionOf}
 use Rattle.positions.specs.Compiled.{formOf}
 use Rattle.alphabet.specs.Alphabet.{text-checks}
 
--- rows 9 and 10: the form of a tree, in this much memory
+-- the form of a tree, in this much memory, or refusals 9 and 10
 abbrev pub formed : List ℕ → ℕ → Tree → Verdict (List ℕ)
 formed A room t = unless (check (ltb 127 (letterCount A t)) Letters ∷ (check (ltb room (length (formOf A t))) FormMemory ∷ [])) (formOf A t)
 
--- rows 4 to 8 are those of the reading, the leftmost fault's
+-- refusals 4 to 8 are the parser's: that of the leftmost fault
 abbrev pub read-form : List ℕ → ℕ → Parsing Tree → Verdict (List ℕ)
 read-form A room (found t rest) = formed A room t
 read-form A room (fault n rest) = refused n

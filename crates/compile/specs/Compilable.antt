@@ -8,7 +8,7 @@ use Rattle.regex.specs.Parse.{expressionOf}
 use Rattle.regex_bracket.specs.Answers.{is-found}
 use Rattle.positions_build.specs.Whole.{treeOfText}
 
--- a text that reads, with few letters
+-- a well-formed text, with at most 127 letters
 pub record Compilable (A s : List ℕ) : Type 0 where
   pub reads : is-found (expressionOf A s) ≡ true
   pub within : letterCount A (treeOfText A s) ≤ 127

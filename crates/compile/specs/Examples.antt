@@ -27,34 +27,35 @@ use Rattle.alphabet.specs.Alphabet.{distinct}
 use Rattle.compile.specs.Call.{compile-call}
 
 -- an alphabet, a text, room for the form, the refusal (0: none) and the length of what is filled
-data Row : Type 0 where
-  row : String → String → ℕ → ℕ → ℕ → Row
+data Case : Type 0 where
+  case : String → String → ℕ → ℕ → ℕ → Case
 
 said : Verdict (List ℕ) → ℕ → ℕ → Bool
 said (passed f) n l = eqb n 0 && eqb l (length f)
 said (refused m) n l = eqb n (numberOf m)
 
-meets : Row → Bool
-meets (row A s room n l) = said (compile-call (bytes A) (bytes s) room) n l
+meets : Case → Bool
+meets (case A s room n l) = said (compile-call (bytes A) (bytes s) room) n l
 
-failing : List Row → List Row
+failing : List Case → List Case
 failing [] = []
 failing (r ∷ rs) = elim (meets r) [ true ↦ failing rs | false ↦ r ∷ [] ]
 
-rows : List Row
-rows =
+cases : List Case
+cases =
     -- the lines to try
-    row "ab" "ab*" 5 0 5 ∷ row "ab" "ab*" 4 10 0 ∷ row "ab" "a{0}" 99 6 0 ∷ row "ab" "a{2,1}" 99 6 0 ∷ row "ab" "a*?" 3 0 3 ∷ row "ab" "a**" 99 4 0
-    ∷ row "ab" "[b-a]" 99 7 0 ∷ row "ab" "c" 99 8 0 ∷ row "ab" "a{128}" 99 9 0
+    case "ab" "ab*" 5 0 5 ∷ case "ab" "ab*" 4 10 0 ∷ case "ab" "a{0}" 99 6 0 ∷ case "ab" "a{2,1}" 99 6 0 ∷ case "ab" "a*?" 3 0 3
+    ∷ case "ab" "a**" 99 4 0 ∷ case "ab" "[b-a]" 99 7 0 ∷ case "ab" "c" 99 8 0 ∷ case "ab" "a{128}" 99 9 0
     -- 1 before 2 before 3 before 4; 3 anywhere before 4; 8 further left before 4; 8 before 9 before 10
-    ∷ row "" "" 0 1 0 ∷ row "aa" "*" 0 1 0 ∷ row "ab" "" 0 2 0 ∷ row "ab" "*\t" 0 3 0 ∷ row "ab" "*" 0 4 0 ∷ row "ab" "c*" 0 8 0 ∷ row "ab" "a{128}c" 0 8 0 ∷ row "ab" "a{128}" 0 9 0 ∷ row "ab" "a" 0 10 0
+    ∷ case "" "" 0 1 0 ∷ case "aa" "*" 0 1 0 ∷ case "ab" "" 0 2 0 ∷ case "ab" "*\t" 0 3 0 ∷ case "ab" "*" 0 4 0 ∷ case "ab" "c*" 0 8 0
+    ∷ case "ab" "a{128}c" 0 8 0 ∷ case "ab" "a{128}" 0 9 0 ∷ case "ab" "a" 0 10 0
     ∷ []
 
-computed : failing rows ≡ []
-unfolding failing meets said rows compile-call distinct if-passed unless all any keep numbers flatMap encode labelsOf letterCount then first-of split enclosed provided closed reserved items members inside bracket escaped a-set labelled-set number from-on from-to comma counts sign repetition grouped step go parse whole expressionOf anyOf copies nested repeated opened labels numbered positionAutomaton
+computed : failing cases ≡ []
+unfolding failing meets said cases compile-call distinct if-passed unless all any keep numbers flatMap encode labelsOf letterCount then first-of split enclosed provided closed reserved items members inside bracket escaped a-set labelled-set number from-on from-to comma counts sign repetition grouped step go parse whole expressionOf anyOf copies nested repeated opened labels numbered positionAutomaton
 computed = refl
 
--- "`a{127}` compiles, `a{128}` is 9": of 127 letters nothing but row 10 can be said. Their form is not computed.
+-- "`a{127}` compiles, `a{128}` is 9": for 127 letters only refusal 10 is possible. Their form is not computed.
 abbrev longest : List ℕ
 longest = formOf (bytes "ab") (times (set (alone 97)) (between 127 127))
 

@@ -1,5 +1,5 @@
--- Demand 2, stated at Compile: the form that it writes is valid, and accepts a word exactly if the expression's set of words, by its
--- text, has it.
+-- Demand 2, stated of Compile: the form that it writes is valid, and accepts a word exactly if the expression's set of words, which goes by
+-- its text, has it.
 use Prim.Native.Nat.{ℕ, _≤_}
 use mathlib.Core.Path.{_≡_, refl, sym, ap, _∙_, subst}
 use mathlib.Core.Bool.{Bool, true, false, not, _&&_}
@@ -39,7 +39,7 @@ pub record Means (A s f : List ℕ) : Type 0 where
   pub letters : lettersOf f ≡ letterCount A tree
   pub words : (w : List ℕ) → Accepts (view f) w ↔ WordsOf A s w
 
--- what passed a list of checks, passed each
+-- what passed a list of checks passed each
 unless-passed : {X : Type 0} (t : Bool) (n : Refusal) (cs : List Check) (a b : X) → unless (check t n ∷ cs) a ≡ passed b → (t ≡ false) × (unless cs a ≡ passed b)
 unfolding unless
 unless-passed true n cs a b e = let z : _≡_ {A = ℕ} 0 1 = cc in absurd (omega arith)
@@ -84,7 +84,7 @@ module _ (A s : List ℕ) (room : ℕ) (f : List ℕ) where
           tree (leb-true 1 (length A) (and-left (leb 1 (length A)) (leb (length A) 95) size)) (leb-true (length A) 95 (and-right (leb 1 (length A)) (leb (length A) 95) size))
           (expressionOf A s) refl (rw (sym (unless-same s s′ (c .1))) at g)
 
-  -- The other way: what no row turns away compiles.
+  -- The other way: what no refusal turns away compiles.
   pub compiles :
       (t : Tree) → first-refusal (text-checks A s) ≡ Passed → TextOf A 16 t s → letterCount A t ≤ 127 → length (formOf A t) ≤ room
       → compile-call A s room ≡ passed (formOf A t)

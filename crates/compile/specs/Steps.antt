@@ -1,4 +1,4 @@
--- Past rows 1 to 3: what the checking parser's answer says of the text, and what is then left to fill.
+-- Compile, where refusals 1 to 3 do not apply: what the checking parser's answer says of the text, and what is then filled.
 use Prim.Native.Nat.{ℕ, _≤_, _<_}
 use mathlib.Core.Path.{_≡_, refl, sym, ap, _∙_}
 use mathlib.Core.Bool.{Bool, true, false}
@@ -80,7 +80,7 @@ module _ (A s : List ℕ) (room : ℕ) where
       by (found t r) e h =
           unless-fails (formOf A t) (ltb 127 (letterCount A t)) refusal.Letters (check (ltb room (length (formOf A t))) refusal.FormMemory ∷ []) (le-ltb 127 (letterCount A t) h)
 
-  -- rows 1 to 3
+  -- refusals 1 to 3
   pub call-refused : (n : Refusal) → checks.Refused n ≡ first-refusal (text-checks A s) → compile-call A s room ≡ refused n
   unfolding compile-call if-passed
   call-refused n e = ap (λ v. if-passed v (λ s. read-form A room (expressionOf A s))) (first-refused s n (text-checks A s) (sym e))
@@ -116,7 +116,7 @@ module _ (A s : List ℕ) (c : Compilable A s) where
       let whole : expressionOf A s ≡ found t [] = tree .1 ∙ ap (found t) (expression-whole A s t (tree .0) (tree .1)) in
       automaton-letters A t (sensible A t 16 s (exact A s t .0 whole))
 
-  -- what is written of the arrays is the form of the text's automaton
+  -- what is written from the arrays is the form of the text's automaton
   pub told-call :
       (room : ℕ) {old new : List ℕ} {before follow : List (List Bool)} {x : Built} → BuildsWhole A s old new before follow x
       → form-call (length A) (arrayed (x .letters) (x .nullable) new (x .first) (x .last) follow) room ≡ form-call (length A) (automatonOf A (treeOfText A s)) room

@@ -14,7 +14,7 @@ ghost use Rattle.positions_build.specs.Whole.{treeOfText};
 ghost use Rattle.compile.specs.Call.{read-form, compile-call};
 ghost use Rattle.compile.specs.Compilable.{Compilable};
 
-// Writes the form of a text that reads, with at most 127 letters: its arcs are known, as an array of arrays, before the first word is
+// Writes the form of a well-formed text with at most 127 letters: its arcs are known, as an array of arrays, before the first word is
 // written.
 fn write(alphabet: &[u8], text: &[u8], form: &mut [u32]) -> Counted
     requires { ⌜ (length (now alphabet) ≤ 95) × Compilable (now alphabet) (now text) ⌝ }
@@ -39,7 +39,7 @@ fn write(alphabet: &[u8], text: &[u8], form: &mut [u32]) -> Counted
     )
 }
 
-// Past rows 1 to 3.
+// Compile, where refusals 1 to 3 do not apply.
 fn compile_text(alphabet: &[u8], text: &[u8], form: &mut [u32]) -> Counted
     requires { ⌜ length (now alphabet) ≤ 95 ⌝ }
     ensures { λ r. ⌜ Fills (read-form (old alphabet) (length (old form)) (expressionOf (old alphabet) (old text))) (reported r) (old form)

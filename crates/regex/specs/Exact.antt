@@ -1,4 +1,4 @@
--- The reading finds the tree of every text that has one; so a whole text is read to a tree exactly when it is a text of that tree.
+-- Parsing finds the tree of every text that has one; so a whole text is parsed to a tree exactly when it is a text of that tree.
 use mathlib.Core.Path.{_≡_, refl, sym, ap, _∙_}
 use mathlib.Core.Logic.{_↔_}
 use mathlib.Core.List.{List, [], _∷_, _++_, append-assoc, append-nil}
@@ -26,7 +26,7 @@ use Rattle.regex.specs.Front.{set-starts, text-starts, Front, Stop}
 use Rattle.regex.specs.Sound.{parse-sound}
 use Rattle.regex.specs.Steps.{parse-step}
 
--- what may stand behind a part of an expression: behind a branch `|`, `)` or the end, behind an alternation `)` or the end
+-- what may follow a part of an expression: after a branch `|`, `)` or the end, after an alternation `)` or the end
 abbrev pub Follows : Mode → List ℕ → Type 0
 Follows m-group w = Unit {0}
 Follows m-piece w = repeats w ≡ false
@@ -65,7 +65,7 @@ repetition-repeats : (s : List ℕ) (c : Count) (r : List ℕ) → repetition s 
 unfolding repetition
 repetition-repeats s c r h w = let g = then-found (sign s) _ c r h in sign-repeats s (g .0) (g .1) (g .2) w
 
--- What is read in a mode is read in a looser one, if that may end there.
+-- What is found in a mode is found in a looser one, if that may end there.
 module _ (A : List ℕ) (d : ℕ) (s : List ℕ) (t : Tree) (w : List ℕ) where
   raise-piece : repeats w ≡ false → parse A m-group d s ≡ found t w → parse A m-piece d s ≡ found t w
   unfolding step then
@@ -97,7 +97,7 @@ module _ (A : List ℕ) (d : ℕ) (s : List ℕ) (t : Tree) (w : List ℕ) where
   raise m-alternation m-branch l k h = absurd (omega arith)
   raise m-alternation m-alternation l k h = h
 
--- what may stand behind a looser part may stand behind a closer one
+-- what may follow a looser part may follow a closer one
 module _ (w : List ℕ) where
   follows-piece : (m : Mode) → 1 ≤ rank m → Follows m w → repeats w ≡ false
   follows-piece m-group l k = absurd (omega arith)
@@ -139,7 +139,7 @@ module _ (A : List ℕ) where
       let q : a .own ≡ v = sym (append-nil (a .own)) ∙ sym (a .splits) in
       rw q at (a .alone w (repeats-modifier w k))
 
-  -- In front of what may follow, the tree of a text is read, and that text alone.
+  -- Before anything that may follow it, a text is parsed to its tree, and the rest is what follows.
   pub parse-text :
       (t : Tree) (d : ℕ) (s : List ℕ) → TextOf A d t s → (m : Mode) → loose t ≤ rank m → (w : List ℕ) → Follows m w → parse A m d (s ++ w) ≡ found t w
   unfolding step then grouped
@@ -176,7 +176,7 @@ module _ (A : List ℕ) where
   text-whole : (m : Mode) (d : ℕ) (s : List ℕ) (t : Tree) → TextOf A d t s → loose t ≤ rank m → parse A m d s ≡ found t []
   text-whole m d s t h l = ap (parse A m d) (sym (append-nil s)) ∙ parse-text t d s h m l [] (follows-end m)
 
-  -- A whole text is read to the tree that it is a text of.
+  -- A whole text is parsed to the tree that it is a text of.
   pub parse-whole : (m : Mode) (d : ℕ) (s : List ℕ) (t : Tree) → (parse A m d s ≡ found t []) ↔ (TextOf A d t s × (loose t ≤ rank m))
   parse-whole m d s t =
       (λ e. by (of-found (Front A m d s) (Stop A m d s) (parse A m d s) t [] (parse-sound A m d s) e), λ h. text-whole m d s t (h .0) (h .1))
@@ -191,7 +191,7 @@ module _ (A : List ℕ) where
       let e′ = text-whole m-alternation d s t′ h′ (loose-most t′) in
       cc
 
-  -- The function and the grammar agree.
+  -- The parser and the grammar agree.
   pub exact : (s : List ℕ) (t : Tree) → (expressionOf A s ≡ found t []) ↔ TextOf A 16 t s
   unfolding expressionOf then whole
   exact s t = (
@@ -208,7 +208,7 @@ module _ (A : List ℕ) where
   pub words-of-text : (s : List ℕ) (t : Tree) → expressionOf A s ≡ found t [] → (w : List ℕ) → WordsOf A s w ↔ Words A t w
   words-of-text s t e w = (λ h. rw (one-tree 16 s t (h .0) (exact s t .0 e) (h .1)) (h .2), λ h. (t, exact s t .0 e, h))
 
-  -- an expression is read to its end
+  -- an expression is parsed to its end
   pub expression-whole : (s : List ℕ) (t : Tree) (r : List ℕ) → expressionOf A s ≡ found t r → r ≡ []
   unfolding expressionOf whole
   expression-whole s t r e = let g = then-found (parse A m-alternation 16 s) whole t r e in by (g .0) (g .1) (g .3)

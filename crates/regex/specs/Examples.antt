@@ -1,5 +1,5 @@
--- Texts read by computation: the expression lines of document 01, the readings taken of its brackets and braces, a case for each refusal
--- and for each tie of places.
+-- Texts parsed by computation: the expression lines of document 01, what its rules on brackets and braces are taken to mean, a case for
+-- each refusal and for each tie of places.
 use mathlib.Core.Path.{_≡_, refl}
 use mathlib.Core.Option.{none}
 use mathlib.Core.List.{List, [], _∷_, _++_}
@@ -23,12 +23,12 @@ use Rattle.regex.specs.Sets.{closed, reserved, items, members, inside, b
 use Rattle.regex.specs.Repetition.{number, from-on, from-to, comma, counts, sign, repetition}
 use Rattle.regex.specs.Parse.{grouped, step, go, parse, whole, expressionOf}
 
--- A text that is an expression, with the number of its letters; one that is refused, with the fault's place.
-data Row : Type 0 where
-  letters-of : String → ℕ → Row
-  refused-as : String → Refusal → ℕ → Row
+-- A text that is an expression, with the number of its letters; one that is refused, with the refusal and the fault's place.
+data Case : Type 0 where
+  letters-of : String → ℕ → Case
+  refused-as : String → Refusal → ℕ → Case
 
-meets : List ℕ → Row → Bool
+meets : List ℕ → Case → Bool
 unfolding expressionOf
 meets A (letters-of t k) = of (expressionOf A (bytes t))
   where
@@ -41,14 +41,14 @@ meets A (refused-as t n k) = of (expressionOf A (bytes t))
     of (found r s) = false
     of (fault m s) = eqb (numberOf n) (numberOf m) && eqb k (length (bytes t) - length s)
 
--- the first row that is not as it says
-failing : List ℕ → List Row → List Row
+-- the first case that is not as it says
+failing : List ℕ → List Case → List Case
 failing A [] = []
 failing A (r ∷ rs) = elim (meets A r) [ true ↦ failing A rs | false ↦ r ∷ [] ]
 
 -- over `ab`
-rows : List Row
-rows =
+refusals : List Case
+refusals =
     -- "Lines to try"
     letters-of "ab" 2 ∷ letters-of "aa" 2 ∷ letters-of "a*" 1 ∷ letters-of "a" 1 ∷ letters-of "a|b" 2 ∷ letters-of "a{2}" 2 ∷
     letters-of "(a|b)*" 2 ∷ letters-of "ab*" 2 ∷ letters-of "a{127}" 127 ∷ letters-of "a{128}" 128 ∷ letters-of "a*?" 1 ∷
@@ -77,14 +77,14 @@ rows =
     -- 8
     letters-of "[a-c]" 2 ∷ letters-of "[^a]" 1 ∷ letters-of "." 2 ∷ refused-as "[c]" Foreign 0 ∷ refused-as "[^ab]" Foreign 0 ∷
     refused-as "\\." Foreign 0 ∷
-    -- the leftmost; at one byte the lower number
+    -- the leftmost fault; at one byte the lower number
     refused-as "c)" Foreign 0 ∷ refused-as "a)c" MisplacedSign 1 ∷ refused-as "(c" Foreign 1 ∷ refused-as "[b-a](" Bracket 0 ∷
     refused-as "a{0}c" refusal.Count 1 ∷ refused-as "ca{0}" Foreign 0 ∷ refused-as "((((((((((((((((a)(" MisplacedSign 19 ∷ refused-as "[d-c]" Bracket 0 ∷
     refused-as "c{0}" Foreign 0 ∷ []
 
 -- over `+-.:=A[]\`ab}`
-bracket-rows : List Row
-bracket-rows =
+bracket-refusals : List Case
+bracket-refusals =
     letters-of "-" 1 ∷ letters-of "]}" 2 ∷ letters-of "." 13 ∷ letters-of "\\\\" 1 ∷ letters-of "\\." 1 ∷
     -- `-` first or just before the closing `]`, or as a range's end
     letters-of "[--b]" 11 ∷ letters-of "[---]" 1 ∷ letters-of "[+--]" 2 ∷ letters-of "[a-b-]" 3 ∷ letters-of "[a-]" 2 ∷ letters-of "[-]" 1 ∷
@@ -98,12 +98,13 @@ bracket-rows =
     refused-as "[[.]" Bracket 0 ∷ refused-as "[a[=]" Bracket 0 ∷ refused-as "[[:a:]]" Bracket 0 ∷ refused-as "[^[:a]" Bracket 0 ∷ []
 
 -- over `^ab`: `^` complements only right after the `[`
-complement-rows : List Row
-complement-rows = letters-of "[a^]" 2 ∷ letters-of "[^^]" 2 ∷ letters-of "[^a^]" 1 ∷ letters-of "\\^" 1 ∷ refused-as "[^^ab]" Foreign 0 ∷ []
+complement-refusals : List Case
+complement-refusals =
+    letters-of "[a^]" 2 ∷ letters-of "[^^]" 2 ∷ letters-of "[^a^]" 1 ∷ letters-of "\\^" 1 ∷ refused-as "[^^ab]" Foreign 0 ∷ []
 
 -- over `ba`: a range goes by byte value and not by label
-label-rows : List Row
-label-rows = letters-of "[a-b]" 2 ∷ refused-as "[b-a]" Bracket 0 ∷ []
+label-refusals : List Case
+label-refusals = letters-of "[a-b]" 2 ∷ refused-as "[b-a]" Bracket 0 ∷ []
 
 many : ℕ → List ℕ → List ℕ
 many zero s = []
@@ -120,10 +121,10 @@ sign-texts : List ℕ
 sign-texts = bytes "\\^\\.\\[\\$\\(\\)\\|\\*\\+\\?\\{\\\\"
 
 tried :
-    (failing (bytes "ab") rows ≡ [])
-    × (failing (bytes "+-.:=A[]\\`ab}") bracket-rows ≡ [])
-    × (failing (bytes "^ab") complement-rows ≡ [])
-    × (failing (bytes "ba") label-rows ≡ [])
+    (failing (bytes "ab") refusals ≡ [])
+    × (failing (bytes "+-.:=A[]\\`ab}") bracket-refusals ≡ [])
+    × (failing (bytes "^ab") complement-refusals ≡ [])
+    × (failing (bytes "ba") label-refusals ≡ [])
     -- each sign, made ordinary
     × (size signs (expressionOf signs sign-texts) ≡ 12)
     -- 232 bytes
@@ -137,7 +138,7 @@ tried :
     (join (times (set (alone 97)) (between 2 2)) (join (times (set (alone 97)) (onward 0)) (times (set (alone 97)) (between 1 2))))))) [])
     × (expressionOf (bytes "abc-") (bytes ".([^a-b-]*)")
     ≡ found (join (set (except [])) (group (times (set (except (range 97 98 ∷ range 45 45 ∷ []))) (onward 0)))) [])
-unfolding failing meets rows bracket-rows complement-rows label-rows many size signs sign-texts labelsOf letterCount then first-of split enclosed provided closed reserved items members inside bracket escaped a-set labelled-set number from-on from-to comma counts sign repetition grouped step go parse whole expressionOf
+unfolding failing meets refusals bracket-refusals complement-refusals label-refusals many size signs sign-texts labelsOf letterCount then first-of split enclosed provided closed reserved items members inside bracket escaped a-set labelled-set number from-on from-to comma counts sign repetition grouped step go parse whole expressionOf
 tried = (refl, refl, refl, refl, refl, refl, refl, refl, refl)
 
 -- "A `-` may begin an item only first or just before the closing `]`": in the middle it may not, whatever follows it inside

@@ -1,5 +1,5 @@
--- What is found, and where a fault stands, as facts on texts: the text in front of the rest is a text of the tree, and the text in front
--- of a fault can be continued to one; and how these are put together.
+-- What the parser's answer says of the text: what is before the rest is a text of the tree found, and what is before a fault can be
+-- continued to a text of a tree. Laws that put these facts together from those of the parts.
 use mathlib.Core.Path.{_≡_, refl, sym, ap, _∙_}
 use mathlib.Core.List.{List, [], _∷_, _++_, append-assoc, append-nil}
 use mathlib.Core.Bool.{Bool, true, false}
@@ -26,7 +26,7 @@ use Rattle.regex.specs.Own.{next-is, Here}
 use Rattle.regex.specs.OwnSets.{ASet}
 use Rattle.regex.specs.OwnCounts.{Repeating}
 
--- a branch neither ends at the text nor goes on with a repetition
+-- the text begins neither with the end of a branch nor with a repetition
 abbrev pub Starts : List ℕ → Type 0
 Starts s = (ends s ≡ false) × (repeats s ≡ false)
 
@@ -81,14 +81,14 @@ pub dot : (A : List ℕ) → 1 ≤ length A → (d : ℕ) → TextOf A d (set (e
 unfolding labelled-set a-set first-of then
 dot A h d = rw (dot-labels A h, then)
 
--- What is found: the text in front of the rest is a text of the tree, bound as closely as the mode asks.
+-- What is found: the text before the rest is a text of the tree, bound as closely as the mode asks.
 pub record Front (A : List ℕ) (m : Mode) (d : ℕ) (s : List ℕ) (t : Tree) (r : List ℕ) : Type 0 where
   pub front : List ℕ
   pub splits : s ≡ front ++ r
   pub text : TextOf A d t front
   pub close : loose t ≤ rank m
 
--- the text u can be continued to one of a tree
+-- the text u can be continued to a text of a tree
 abbrev pub Begins : List ℕ → Mode → ℕ → List ℕ → Type 0
 Begins A m d u = (v : List ℕ) × (t : Tree) × TextOf A d t (u ++ v) × (loose t ≤ rank m)
 
@@ -96,7 +96,7 @@ Begins A m d u = (v : List ℕ) × (t : Tree) × TextOf A d t (u ++ v) × (loose
 stray : (A : List ℕ) (d : ℕ) (s : List ℕ) → Begins A m-alternation d (code ")" ∷ s) → ⊥
 stray A d s b = let e = text-starts A (b .1) d (code ")" ∷ (s ++ b .0)) (b .2) [] .0 in let z : _≡_ {A = ℕ} 0 1 = cc in omega arith
 
--- A fault: the text in front of it can be continued.
+-- A fault: the text before it can be continued.
 pub record Stop (A : List ℕ) (m : Mode) (d : ℕ) (s : List ℕ) (n : Refusal) (r : List ℕ) : Type 0 where
   pub front : List ℕ
   pub splits : s ≡ front ++ r
@@ -159,7 +159,7 @@ module _ (A : List ℕ) (d : ℕ) where
               (b .0, join t (b .1), (f .front, g .front ++ b .0, append-assoc (f .front) (g .front) (b .0), f .text, omega (arith, f .close), b .2, b .3), omega arith);
         }
 
-    -- the fault stands behind the tree: a bad repetition, no `)` in its place, or nothing else that may stand there
+    -- the fault is right after the tree: a bad repetition, a missing `)`, or anything else that may not be there
     pub stop-behind : (m : Mode) → Front A m d s t s₁ → Here s₁ n r → Stop A m d s n r
     stop-behind m f h =
         record {

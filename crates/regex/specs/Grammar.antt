@@ -1,4 +1,4 @@
--- The grammar (document 01, "Expression text"): which texts a tree has, and so which words a text.
+-- The grammar (document 01, "Expression text"): which texts a tree has, and so which words a text has.
 use mathlib.Core.Path.{_≡_}
 use mathlib.Core.List.{List, [], _∷_, _++_}
 use Prim.Native.Nat.{ℕ, zero, suc, _≤_}

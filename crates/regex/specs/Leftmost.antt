@@ -16,8 +16,8 @@ use Rattle.regex.specs.Sound.{parse-sound}
 use Rattle.regex.specs.Exact.{exact}
 use Rattle.regex.specs.Places.{Place, refused-at}
 
--- A refusal of row 4 to 8 at the leftmost fault: the text from the fault on begins as the row says, the text is no expression, and the
--- text in front of the fault begins one, so that no fault is further left.
+-- One of refusals 4 to 8 at the leftmost fault: the text from the fault on begins as the refusal says, the text is no expression, and the
+-- text before the fault begins one, so that no fault is further left.
 pub record Leftmost (A s : List ℕ) (n : Refusal) (r : List ℕ) : Type 0 where
   pub place : Place A n r
   pub none : (t : Tree) → TextOf A 16 t s → ⊥

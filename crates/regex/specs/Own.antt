@@ -1,4 +1,5 @@
--- What is read from its own bytes alone, whatever stands behind them, and what is refused at its first byte.
+-- What it means that a part is parsed from its own bytes alone, whatever follows them, and laws that show it: of one byte, of one byte
+-- more, and of what is enclosed up to its closing sign.
 use mathlib.Core.Path.{_≡_, refl, ap, _∙_}
 use mathlib.Core.Logic.{_⊎_, inl, inr}
 use mathlib.Core.Option.{Option, some, none}
@@ -34,7 +35,7 @@ of-one P (c ∷ cs) b h e = by (or-either (eqb b c) (one-of cs b) e) (of-one P c
 abbrev pub Here : List ℕ → Refusal → List ℕ → Type 0
 Here s n r = r ≡ s
 
--- f answers from the bytes of s in front of r, whatever stands behind them
+-- f answers from the bytes of s before r, whatever follows them
 pub record Own {W R : Type 0} (f : W → List ℕ → R) (gives : List ℕ → R) (s r : List ℕ) : Type 0 where
   pub own : List ℕ
   pub splits : s ≡ own ++ r
@@ -57,7 +58,7 @@ module _ {W R : Type 0} (f : W → List ℕ → R) (gives : List ℕ → R) wher
   pub own-map : {R′ : Type 0} (k : R → R′) (s r : List ℕ) → Own f gives s r → Own (λ w t. k (f w t)) (λ v. k (gives v)) s r
   own-map k s r o = record { own = o .own; splits = o .splits; alone = λ w v. ap k (o .alone w v) }
 
-  -- so does a function that answers the same behind the first byte, if there has to be one
+  -- so does a function that agrees with f on texts that begin with b, if f needs a byte to answer so
   pub own-same :
       (g : W → List ℕ → R) (w : W) (b : ℕ) (s r : List ℕ) → (f w [] ≡ gives [] → ⊥) → ((w : W) (t : List ℕ) → g w (b ∷ t) ≡ f w (b ∷ t)) →
       Own f gives (b ∷ s) r → Own g gives (b ∷ s) r
@@ -104,7 +105,7 @@ enclosed-own n w f g s h = enclosed-says (Inside n f g s) (Here w) n w f (g s) r
     by : (x : List ℕ × List ℕ) (a : _) → f (x .0) ≡ some a → Ends g s (some x) → Inside n f g s a (x .1)
     by x a q o = (record { own = o .own; splits = o .splits; alone = λ w v. rw (o .alone tt v, enclosed) (rw q) }, x .0, q)
 
--- what is found is read from its own bytes
+-- what is found is parsed from its own bytes
 abbrev pub OwnAs : {W X : Type 0} → (W → List ℕ → Parsing X) → List ℕ → X → List ℕ → Type 0
 OwnAs f s a r = Own f (found a) s r
 

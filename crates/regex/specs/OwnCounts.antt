@@ -1,5 +1,5 @@
--- A repetition is read from its own bytes alone, in front of anything but a `?`, and its counts are in range, or it is refused at its
--- first byte. The modifier changes nothing.
+-- A repetition is parsed from its own bytes alone, if no `?` follows them, and its counts are in range, or it is refused at its first byte.
+-- The modifier changes nothing.
 use mathlib.Core.Path.{_≡_, refl, sym, ap, _∙_}
 use mathlib.Core.Option.{Option, some, none}
 use mathlib.Core.List.{List, [], _∷_, _++_, append-assoc, append-nil}
@@ -26,7 +26,7 @@ abbrev pub InRange : Count → Type 0
 InRange (between n m) = (n ≤ m) × (1 ≤ m) × (m ≤ 255)
 InRange (onward n) = n ≤ 255
 
--- of what may be there
+-- P holds of what is there, if anything is
 abbrev If : {X : Type 0} → (X → Type 0) → Option X → Type 0
 If P none = Unit {0}
 If P (some a) = P a
@@ -71,7 +71,7 @@ counts-in-range i = by (split "," i)
     by none = from-to-in-range (number i) (number i) (number-small i)
     by (some x) = comma-in-range (x .0) (x .1)
 
--- a count in range, from its own bytes
+-- a count in range, parsed from its own bytes
 abbrev ACount : {W : Type 0} → (W → List ℕ → Parsing Count) → List ℕ → Count → List ℕ → Type 0
 ACount f s c r = OwnAs f s c r × InRange c
 
@@ -100,14 +100,14 @@ sign-says (b ∷ s) =
     (λ c r h. (own-more (λ _. sign) (found c) braces b s r (λ _ t. (b ∷ t, rw (e₁, sign) (rw (e₂, e₃, e₄)))) (h .0), h .1)))
     (λ e₄. refl))))
 
--- a count in range, in front of anything but a `?`
+-- a count in range, parsed from its own bytes if no `?` follows them
 pub record Repeating (s : List ℕ) (c : Count) (r : List ℕ) : Type 0 where
   pub own : List ℕ
   pub splits : s ≡ own ++ r
   pub alone : (v : List ℕ) → next "?" v ≡ false → repetition (own ++ v) ≡ found c v
   pub in-range : InRange c
 
--- behind a sign, with the modifier or without it, the same count is found
+-- a sign gives the same count with the modifier after it and without
 repetition-plain : (s : List ℕ) (c : Count) (v : List ℕ) → sign s ≡ found c v → next "?" v ≡ false → repetition s ≡ found c v
 unfolding repetition then
 repetition-plain s c v e k = rw (e, repetition) (rw (k, then))

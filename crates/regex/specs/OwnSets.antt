@@ -1,4 +1,4 @@
--- A set is read from its own bytes alone and has a label, or is refused at its first byte.
+-- A set is parsed from its own bytes alone and has a label, or is refused at its first byte.
 use mathlib.Core.Path.{_≡_, refl, sym, subst}
 use mathlib.Core.Option.{some}
 use mathlib.Core.List.{List, [], _∷_}
@@ -81,7 +81,7 @@ a-set-says (b ∷ s) =
     (λ e₄. own-one (λ _. a-set) _ b s (λ _ t. rw (e₄, a-set) (rw (e₁, e₂, e₃)))))))
 
 module _ (A : List ℕ) where
-  -- a set with a label, from its own bytes
+  -- a set with a label, parsed from its own bytes
   abbrev pub ASet : List ℕ → Set → List ℕ → Type 0
   ASet s c r = Alone (labelled-set A) s c r × (1 ≤ labelsOf A c)
 

@@ -1,4 +1,5 @@
--- From text to tree, or to the refusal of the leftmost fault (document 01, "Expression text" and rows 4 to 8 of "What is turned away").
+-- From text to tree, or to the refusal of the leftmost fault (document 01, "Expression text" and refusals 4 to 8 of "What is turned
+-- away").
 use mathlib.Core.List.{List, [], _∷_}
 use mathlib.Core.Bool.{Bool, true, false}
 use Prim.Native.Nat.{ℕ, zero, suc, _+_, _*_}
@@ -11,12 +12,12 @@ use Rattle.text.specs.Text.{next, one-of, rest}
 use Rattle.regex.specs.Sets.{labelled-set}
 use Rattle.regex.specs.Repetition.{repeats, repetition}
 
--- "Alternation `|` binds loosest, then joining, then repetition": a branch stands between `|`, a piece is joined to others, a group is
--- what a repetition repeats, in parentheses or a set.
+-- "Alternation `|` binds loosest, then joining, then repetition": branches have `|` between them, pieces are joined to a branch, a group
+-- is what a repetition repeats, in parentheses or a set.
 pub data Mode : Type 0 where
   m-alternation m-branch m-piece m-group : Mode
 
--- a branch ends here: the text's end, `|` or `)`
+-- a branch ends here: at the text's end, `|` or `)`
 abbrev pub ends : List ℕ → Bool
 ends [] = true
 ends (b ∷ s) = one-of (bytes "|)") b
@@ -27,8 +28,8 @@ grouped content zero s = fault refusal.Depth s
 grouped content (suc d) s = then (content d (rest s)) (λ r s₁.
     elim (next ")" s₁) [ true ↦ found (group r) (rest s₁) | false ↦ fault refusal.MisplacedSign s₁ ])
 
--- One step of the reading, where d more groups may be opened and `read` says what is read of less text, or of as much in a closer mode:
--- the tree and the unread text, or the refusal and the text from the fault on. A `)` that is missing is misplaced where it should stand.
+-- One step of parsing, where d more groups may be opened and `parse` parses less text, or the same text in a closer mode: the tree and the
+-- rest of the text, or the refusal and the text from the fault on. A missing `)` is a misplaced sign at the place where it should be.
 unfoldable pub step : List ℕ → (Mode → ℕ → List ℕ → Parsing Tree) → Mode → ℕ → List ℕ → Parsing Tree
 step A parse m-alternation d s = then (parse m-branch d s) (λ r s₁.
     elim (next "|" s₁) [ true ↦ then (parse m-alternation d (rest s₁)) (λ t s₂. found (either r t) s₂) | false ↦ found r s₁ ])
@@ -46,7 +47,7 @@ rank m-piece = 1
 rank m-branch = 2
 rank m-alternation = 3
 
--- what falls from each step to those that it asks
+-- a number that falls from each step to those that it calls
 abbrev pub measure : Mode → List ℕ → ℕ
 measure m s = 4 * length s + rank m
 
@@ -55,16 +56,16 @@ unfoldable pub go : List ℕ → ℕ → Mode → ℕ → List ℕ → Parsing T
 go A zero m d s = fault refusal.MisplacedSign s
 go A (suc k) m d s = step A (go A k) m d s
 
--- What is read of a text over the alphabet A, where d more groups may be opened. The depth is always enough: `read A` is the one function
--- with `read A m d s ≡ step A (read A) m d s` (Steps).
+-- Parses the front of a text over the alphabet A, where d more groups may be opened. The depth is always enough: `parse A` is the one
+-- function with `parse A m d s ≡ step A (parse A) m d s` (Steps).
 unfoldable pub parse : List ℕ → Mode → ℕ → List ℕ → Parsing Tree
 parse A m d s = go A (suc (measure m s)) m d s
 
--- behind the expression nothing is left: a stray `)` is misplaced
+-- nothing may be left after the expression: a stray `)` is misplaced
 unfoldable pub whole : Tree → List ℕ → Parsing Tree
 whole t [] = found t []
 whole t (b ∷ s) = fault refusal.MisplacedSign (b ∷ s)
 
--- The tree of a text over the alphabet A, with nothing left unread, or the refusal and the text from the fault on.
+-- The tree of the whole text over the alphabet A, or the refusal and the text from the fault on.
 unfoldable pub expressionOf : List ℕ → List ℕ → Parsing Tree
 expressionOf A s = then (parse A m-alternation 16 s) whole

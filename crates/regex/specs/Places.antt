@@ -1,4 +1,4 @@
--- Where a fault of rows 4 to 8 is: what the text from it on begins with, and that it is bad.
+-- Where the fault of refusals 4 to 8 is: the text from there on begins with something bad, of the refusal's kind.
 use mathlib.Core.Path.{_≡_, refl, ap₂}
 use mathlib.Core.List.{List, [], _∷_}
 use mathlib.Core.Bool.{Bool, true, false, _||_}
@@ -29,8 +29,8 @@ abbrev pub misplaced : List ℕ → Bool
 misplaced [] = true
 misplaced (b ∷ r) = one-of (bytes "*+?{|)^$\\") b
 
--- What the text r from the fault on begins with, by the fault's row: a sign or the text's end, an opening parenthesis, bad braces, a bad
--- bracket, a set without a label. The other rows have no place in the text.
+-- What the text r from the fault on begins with, by the refusal: a sign or the text's end, an opening parenthesis, bad braces, a bad
+-- bracket, a set without a label. The other refusals have no place in the text.
 pub data Place (A : List ℕ) : Refusal → List ℕ → Type 0 where
   at-sign : {r : List ℕ} → misplaced r ≡ true → Place A refusal.MisplacedSign r
   at-group : {r : List ℕ} → next "(" r ≡ true → Place A refusal.Depth r
@@ -51,7 +51,7 @@ special-misplaced b s e k =
     either c = one-of (bytes "(.[") c || misplaced (c ∷ s)
 
 module _ (A : List ℕ) where
-  -- a fault is at its place, and P says what is found
+  -- a fault is at its place, and P holds of what is found
   abbrev Placed : {X : Type 0} → (X → List ℕ → Type 0) → Parsing X → Type 0
   Placed P x = Says P (Place A) x
 
@@ -63,7 +63,7 @@ module _ (A : List ℕ) where
       Placed P x → ((a : X) (r : List ℕ) → P a r → Placed P′ (f a r)) → Placed P′ (then x f)
   then-placed P P′ x f h g = then-says P P′ (Place A) (Place A) x f h (λ n r p. p) g
 
-  -- the row n, at the text w
+  -- the refusal n, at the text w
   abbrev At : Refusal → List ℕ → Refusal → List ℕ → Type 0
   At n w m r = (m ≡ n) × (r ≡ w)
 
@@ -129,9 +129,9 @@ module _ (A : List ℕ) where
   After m-branch t r = ends r ≡ true
   After m-alternation t r = ends r ≡ true
 
-  -- What a step says, where what is read of less text, or of as much in a closer mode, says so.
+  -- A step's faults are at their places, if those in less text, or in the same text in a closer mode, are.
   module _ (k : ℕ) (h : (m : Mode) (d : ℕ) (s : List ℕ) → measure m s < k → Placed (After m) (parse A m d s)) where
-    -- with the equation, by which less text is left
+    -- with the equation, which shows that less text is left
     parse-found : (m : Mode) (d : ℕ) (s : List ℕ) → measure m s < k → Placed (λ t r. After m t r × (parse A m d s ≡ found t r)) (parse A m d s)
     parse-found m d s l = says-found (After m) (Place A) (parse A m d s) (h m d s l)
 
@@ -173,7 +173,7 @@ module _ (A : List ℕ) where
   whole-placed t [] g = tt
   whole-placed t (b ∷ r) g = at-sign (end-misplaced (b ∷ r) g)
 
-  -- A text is refused at the row's place.
+  -- A text is refused at the refusal's place.
   pub refused-at : (s : List ℕ) (n : Refusal) (r : List ℕ) → expressionOf A s ≡ fault n r → Place A n r
   unfolding expressionOf
   refused-at s n r e =
@@ -182,7 +182,7 @@ module _ (A : List ℕ) where
       (parse-placed (suc (measure m-alternation s)) m-alternation 16 s (omega arith)) whole-placed)
       e
 
--- Texts with nothing wrong at their front are no places: `a`, `{2}`, `[a]`, and over `a` the character itself.
+-- A text with nothing wrong at its front is no such place: `a`, `{2}`, `[a]`, and over `a` the character itself.
 record NoPlaces : Type 0 where
   sign-place : Place (bytes "a") refusal.MisplacedSign (bytes "a") → ⊥
   group-place : Place (bytes "a") refusal.Depth (bytes "a") → ⊥

@@ -30,20 +30,20 @@ from-to none _ = none
 from-to (some n) none = none
 from-to (some n) (some m) = provided (leb n m && leb 1 m) (some (between n m))
 
--- what stands in front of the comma, and behind it
+-- what is before the comma, and what is after it
 unfoldable pub comma : List ℕ → List ℕ → Option Count
 comma n [] = from-on (number n)
 comma n (b ∷ m) = from-to (number n) (number (b ∷ m))
 
--- what stands in the braces
+-- what is in the braces
 unfoldable pub counts : List ℕ → Option Count
 counts i = elim (split "," i) [ none ↦ from-to (number i) (number i) | some x ↦ comma (x .0) (x .1) ]
 
--- a repetition stands here
+-- a repetition begins here
 abbrev pub repeats : List ℕ → Bool
 repeats s = next-of (bytes "*+?{") s
 
--- Row 6: "braces ill-formed or out of range", at the `{`.
+-- Refusal 6: "braces ill-formed or out of range", at the `{`.
 unfoldable pub sign : List ℕ → Parsing Count
 sign [] = fault refusal.MisplacedSign []
 sign (b ∷ s) =

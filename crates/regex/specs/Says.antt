@@ -1,4 +1,5 @@
--- What holds of an answer, whichever it is: one fact of what was found, another of a fault.
+-- What holds of a parser's answer, one fact of what was found and another of a fault: it is shown part by part, as the answer is put
+-- together.
 use mathlib.Core.Path.{_≡_, refl}
 use mathlib.Core.Option.{Option, some, none}
 use mathlib.Core.List.{List, _∷_}
@@ -61,7 +62,7 @@ pub says-map :
 says-map P P′ Q (found a s) h p = p a s h
 says-map P P′ Q (fault n s) h p = h
 
--- `then` and a branch of two answers that are the same
+-- `then`, and a branch, over answers that are equal
 pub then-same :
     {X Y : Type 0} (x x′ : Parsing X) (f f′ : X → List ℕ → Parsing Y) → x ≡ x′ →
     ((a : X) (s : List ℕ) → x′ ≡ found a s → f a s ≡ f′ a s) → then x f ≡ then x′ f′
@@ -78,7 +79,7 @@ pub branch-same :
 branch-same true x y x′ y′ f g = f refl
 branch-same false x y x′ y′ f g = g refl
 
--- what was found by going on was found behind something
+-- what `then` finds is found after something else
 pub then-found :
     {X Y : Type 0} (x : Parsing X) (f : X → List ℕ → Parsing Y) (b : Y) (r : List ℕ) → then x f ≡ found b r →
     (a : X) × (s : List ℕ) × (x ≡ found a s) × (f a s ≡ found b r)

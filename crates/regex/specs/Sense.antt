@@ -1,5 +1,5 @@
--- What the tree of a text has: a label in each set and counts in range, hence a letter at least. Letters may be counted up to 128 and no
--- further.
+-- The tree of a text has a label in each set and counts in range, and so at least one letter. Its letters may be counted up to 128 at each
+-- sum and product.
 use mathlib.Core.Path.{_≡_, ap, _∙_}
 use mathlib.Core.Logic.{_⊎_, inl, inr}
 use mathlib.Core.List.{List, []}
@@ -25,7 +25,7 @@ Sensible A (times r c) = Sensible A r × InRange c
 Sensible A (join r s) = Sensible A r × Sensible A s
 Sensible A (either r s) = Sensible A r × Sensible A s
 
--- a repetition opens into a copy at least
+-- a repetition opens into at least one copy
 pub copies-some : (c : Count) → InRange c → 1 ≤ copiesOf c
 copies-some (between n m) h = h .1
 copies-some (onward zero) h = omega arith

@@ -1,4 +1,4 @@
--- What a reading says, by its steps: what is found has a text, and what stands in front of a fault can be continued.
+-- The parser is sound, step by step: what is before the rest is a text of the tree found, and what is before a fault begins one.
 use mathlib.Core.Path.{_≡_, refl}
 use mathlib.Core.List.{List}
 use mathlib.Core.Bool.{true}
@@ -15,7 +15,7 @@ use Rattle.regex.specs.OwnSets.{labelled-set-says}
 use Rattle.regex.specs.OwnCounts.{repetition-says}
 use Rattle.regex.specs.Front.{Front, Stop, looser, stop-looser, stop-here, stop-behind, either-front, either-stop, join-front, join-stop, times-front, set-front, group-front, group-stop}
 
--- What a step says, where the steps that it asks say so.
+-- A step is sound if those that it calls are.
 module _ (A : List ℕ) where
   abbrev pub Sound : (Mode → ℕ → List ℕ → Parsing Tree) → Type 0
   Sound f = (m : Mode) (d : ℕ) (s : List ℕ) → Says (Front A m d s) (Stop A m d s) (f m d s)

@@ -1,4 +1,4 @@
--- The reading goes forward, and `read` is the one function that satisfies its equation.
+-- What is found leaves less text, and so `parse` is the one function that satisfies its equation.
 use mathlib.Core.Path.{_≡_, refl, sym, ap, _∙_}
 use mathlib.Core.List.{List, [], _∷_}
 use mathlib.Core.Bool.{true}
@@ -32,7 +32,7 @@ module _ (A : List ℕ) where
   pub parse-forward : (m : Mode) (d : ℕ) (s : List ℕ) (t : Tree) (r : List ℕ) → parse A m d s ≡ found t r → length r < length s
   parse-forward m d s t r e = forward m d s t r (of-found (Front A m d s) (Stop A m d s) (parse A m d s) t r (parse-sound A m d s) e)
 
-  -- a step asks only steps whose measure is less
+  -- a step calls only steps whose measure is less
   module _ (f g : Mode → ℕ → List ℕ → Parsing Tree) (sound : Sound A g) where
     less : (m : Mode) (d : ℕ) (s : List ℕ) (t : Tree) (r : List ℕ) → g m d s ≡ found t r → length r < length s
     less m d s t r e = forward m d s t r (of-found (Front A m d s) (Stop A m d s) (g m d s) t r (sound m d s) e)
@@ -64,7 +64,7 @@ module _ (A : List ℕ) where
         (λ k. grouped-same d s (λ d′. let l = rest-less "(" s k in h m-alternation d′ (rest s) (omega arith)))
         (λ k. refl)
 
-  -- deep enough is as good as deeper
+  -- every depth above the measure gives the same answer
   enough : (k k′ : ℕ) (m : Mode) (d : ℕ) (s : List ℕ) → measure m s < k → measure m s < k′ → go A k m d s ≡ go A k′ m d s
   unfolding go
   enough zero k′ m d s h h′ = absurd (omega arith)
@@ -72,13 +72,13 @@ module _ (A : List ℕ) where
   enough (suc k) (suc k′) m d s h h′ =
       step-same (go A k) (go A k′) (go-sound A k′) m d s (λ m′ d′ s′ l. enough k k′ m′ d′ s′ (omega arith) (omega arith))
 
-  -- The equation: what is read is one step over what is read of less text.
+  -- The equation: `parse` is one step over itself.
   pub parse-step : (m : Mode) (d : ℕ) (s : List ℕ) → parse A m d s ≡ step A (parse A) m d s
   unfolding parse go
   parse-step m d s =
       step-same (go A (measure m s)) (parse A) (parse-sound A) m d s (λ m′ d′ s′ l. enough (measure m s) (suc (measure m′ s′)) m′ d′ s′ l (omega arith))
 
-  -- Nothing else satisfies it.
+  -- No other function satisfies it.
   pub only-parse :
       (f : Mode → ℕ → List ℕ → Parsing Tree) → ((m : Mode) (d : ℕ) (s : List ℕ) → f m d s ≡ step A f m d s) →
       (m : Mode) (d : ℕ) (s : List ℕ) → f m d s ≡ parse A m d s

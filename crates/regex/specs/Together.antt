@@ -1,4 +1,4 @@
--- Texts put together: what stands behind an expression's text and more room for groups change nothing, `r|s` means the words of r or
+-- Texts put together: neither what follows an expression's text nor more room for groups changes its tree, `r|s` means the words of r or
 -- of s, and the modifier `?` means nothing.
 -- For the reader: nothing uses it.
 use mathlib.Core.Path.{_≡_, refl}
@@ -26,8 +26,8 @@ module _ (A : List ℕ) where
   roomier (join r t) d e l s h = (h .0, h .1, h .2, roomier r d e l (h .0) (h .3), h .4, roomier t d e l (h .1) (h .5), h .6)
   roomier (either r t) d e l s h = (h .0, h .1, h .2, roomier r d e l (h .0) (h .3), h .4, roomier t d e l (h .1) (h .5))
 
-  -- A text that is read whole is read to the same tree where at least as many groups may be opened, in front of anything that may follow:
-  -- a branch in front of `|`, `)` and the end, an alternation in front of `)` and the end.
+  -- A text that is parsed whole gives the same tree where at least as many groups may be opened, before anything that may follow: a branch
+  -- before `|`, `)` and the end, an alternation before `)` and the end.
   pub parse-in-front :
       (m : Mode) (d e : ℕ) → d ≤ e → (s : List ℕ) (t : Tree) → parse A m d s ≡ found t [] → (w : List ℕ) → Follows m w →
       parse A m e (s ++ w) ≡ found t w
@@ -63,7 +63,7 @@ module _ (A : List ℕ) where
   beside-words (join r t) q w = Iff·rfl
   beside-words (either r t) q w = Iff·trans (either-iff Iff·rfl (beside-words t q w)) regroup
 
-  -- The words of `r|s` are those of r or of s, where both are expressions: and so is `r|s`.
+  -- Where r and s are expressions, so is `r|s`, and its words are those of r or of s.
   pub alternation :
       (r s : List ℕ) (t q : Tree) → expressionOf A r ≡ found t [] → expressionOf A s ≡ found q [] →
       (expressionOf A (r ++ (code "|" ∷ s)) ≡ found (beside t q) [])
@@ -75,7 +75,7 @@ module _ (A : List ℕ) where
             (Iff·trans (beside-words t q w) (either-iff (Iff·symm (words-of-text A r t h w)) (Iff·symm (words-of-text A s q g w)))),
       )
 
-  -- One `?` behind a repetition leaves the tree unaltered, hence the set of words, and the text behind it.
+  -- One `?` after a repetition leaves the tree unaltered, and so its set of words, and the rest of the text.
   pub modifier :
       (d : ℕ) (t : Tree) (u : List ℕ) → TextOf A d t u → loose t ≤ 0 → (v : List ℕ) (c : Count) → sign v ≡ found c [] →
       (w : List ℕ) → repeats w ≡ false →

@@ -1,1 +1,1 @@
-// What an expression's text means: tree, words, grammar and reading, as definitions and laws: see specs/.
+// What an expression's text means: tree, words, grammar and parsing, as definitions and laws: see specs/.

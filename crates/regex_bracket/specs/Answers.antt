@@ -1,4 +1,4 @@
--- What the functions that find a set answer, by the definitions of `expression`.
+-- What the functions that find a set answer, by the definitions of `regex`.
 use mathlib.Core.List.{List, []}
 use mathlib.Core.Bool.{Bool, true, false, cond}
 use Prim.Native.Nat.{ℕ, _+_}
@@ -17,7 +17,7 @@ abbrev pub endOf : {X : Type 0} → List ℕ → Parsing X → End
 endOf text (found a r) = end.At (place text r)
 endOf text (fault n r) = end.Refused n
 
--- something was found, and the set that was
+-- whether something was found, and the set that was
 abbrev pub is-found : {X : Type 0} → Parsing X → Bool
 is-found (found a r) = true
 is-found (fault n r) = false
@@ -26,11 +26,11 @@ abbrev pub setOf : Parsing Set → Set
 setOf (found c r) = c
 setOf (fault n r) = only []
 
--- where the first item stands, behind `[` or `[^`
+-- where the first item is, after `[` or `[^`
 unfoldable pub opened : List ℕ → ℕ → ℕ
 opened text at = cond (eqb (getD text (at + 1) 0) (code "^")) (at + 2) (at + 1)
 
--- where the closing `]` stands, or past the end: a `]` as first item is ordinary
+-- where the closing `]` is, or past the end: a `]` as first item is ordinary
 unfoldable pub closing : List ℕ → ℕ → ℕ
 closing text first =
     cond (eqb (getD text first 0) (code "]"))

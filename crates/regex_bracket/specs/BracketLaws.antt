@@ -63,7 +63,7 @@ module _ (text : List ℕ) (first : ℕ) where
       take (e - first) (drop first text) ≡ getD text first 0 ∷ take (e - (first + 1)) (drop (first + 1) text)
   take-here e l h = let n : e - first ≡ suc (e - (first + 1)) = omega arith in rw (drop-here 0 text first l, n)
 
-  -- the inside is what stands between
+  -- the inside is what is between
   closed-found :
       closing text first < length text →
       closed (drop first text) ≡ some (take (closing text first - first) (drop first text), drop (closing text first + 1) text)
@@ -101,7 +101,7 @@ module _ (text : List ℕ) (first : ℕ) where
           ∙ ap (in-front (code "]")) (split-missing "]" text (first + 1) e k (omega arith) l)
       by false q e k l = split-missing "]" text first e k h l
 
--- what a bracket gives whose inside gives these ranges, if it does
+-- what a bracket gives, by the ranges that its inside gives, if it gives any
 abbrev given : (List Range → Set) → List ℕ → Option (List Range) → List ℕ → Parsing Set
 given f w none r = fault refusal.Bracket w
 given f w (some rs) r = found (f rs) r
@@ -127,7 +127,7 @@ bracket-inside text at = rw (next-at "^" text (at + 1) refl, bracket) (by (compl
     by true = let e : at + 1 + 1 ≡ at + 2 = omega arith in rw (rest-at text (at + 1), e)
     by false = refl
 
--- its first item stands at `first`, and its closing `]` at e, or past the end if there is none
+-- its first item is at `first`, and its closing `]` at e, which is past the end if there is none
 pub record Bracket (text : List ℕ) (at first e : ℕ) : Type 0 where
   pub begins : at < length text
   pub opens : first ≡ opened text at

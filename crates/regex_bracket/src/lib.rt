@@ -18,7 +18,7 @@ pub enum End {
     Refused(Refusal),
 }
 
-// Where the first item of a bracket stands: `[` or `[^` is in front of it.
+// Where the first item of a bracket is: after `[` or `[^`.
 fn opening(text: &[u8], at: usize) -> usize
     requires { ⌜ at < length (now text) ⌝ }
     ensures { λ r. ⌜ r ≡ opened (old text) at ⌝ }
@@ -40,7 +40,7 @@ fn closing(text: &[u8], first: usize) -> usize
     find(text, first, b']')
 }
 
-// Where the bracket ends that begins here.
+// Where the bracket that begins here ends.
 pub fn bracket_end(text: &[u8], at: usize) -> End
     requires { ⌜ at < length (now text) ⌝ }
     ensures { λ r. ⌜ r ≡ endOf (old text) (bracketAt (old text) at) ⌝ }

@@ -1,4 +1,4 @@
--- Parts of a text as the parser answers them: joined, repeated, in parentheses; and where a branch ends.
+-- Parts of a text as the parser answers them: joined, repeated, in parentheses.
 use mathlib.Core.List.{List}
 use mathlib.Core.Bool.{cond}
 use Prim.Native.Nat.{ℕ, _+_, _*_}
@@ -14,7 +14,7 @@ use Rattle.regex_set.specs.declared.Part.the-variants as part
 use Rattle.regex_repetition.specs.declared.Repeats.{Repeats}
 use Rattle.regex_repetition.specs.declared.Repeats.the-variants as count
 
--- a part that goes on behind n letters
+-- a part that goes on after n letters
 abbrev pub add : ℕ → Part → Part
 add n (part.Found e m) = part.Found e (few (n + m))
 add n (part.Refused x) = part.Refused x
@@ -25,7 +25,7 @@ repeated n (count.Between least most e) = part.Found e (few (most * n))
 repeated n (count.Onward least e) = part.Found e (few (copiesOf (onward least) * n))
 repeated n (count.Refused x) = part.Refused x
 
--- a group's content, and the `)` behind it
+-- a group's content, and the `)` after it
 abbrev pub closed : List ℕ → Part → Part
 closed text (part.Found e n) = cond (eqb (getD text e 0) (code ")")) (part.Found (e + 1) n) (part.Refused refusal.MisplacedSign)
 closed text (part.Refused x) = part.Refused x

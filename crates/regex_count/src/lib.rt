@@ -1,5 +1,5 @@
 // The letters of a part of the text, counted up to 128: parts joined, repeated, in parentheses; and whether a branch ends, or a repetition
-// stands, at a place (document 01, "Expression text"). The text may have any bytes.
+// begins, at a place (document 01, "Expression text"). The text may have any bytes.
 use refusal::Refusal;
 use regex_repetition::Repeats;
 use regex_set::Part;
@@ -56,7 +56,7 @@ pub fn copies(n: usize) -> usize
     if n == 0 { 1 } else { n }
 }
 
-// A part that goes on behind n letters.
+// A part that goes on after n letters.
 pub fn added(n: usize, rest: Part) -> Part
     ensures { λ r. ⌜ r ≡ add n rest ⌝ }
 {
@@ -77,7 +77,7 @@ pub fn repeated(n: usize, r: Repeats) -> Part
     }
 }
 
-// A group: its content, and the `)` behind it.
+// A group: its content, and the `)` after it.
 pub fn closed(text: &[u8], content: Part) -> Part
     ensures { λ r. ⌜ r ≡ closedOf (old text) content ⌝ }
 {
@@ -102,7 +102,7 @@ pub fn is_end(text: &[u8], at: usize) -> bool
     one_of(b"|)", text[at])
 }
 
-// Does a repetition stand here?
+// Does a repetition begin here?
 pub fn is_repeated(text: &[u8], at: usize) -> bool
     ensures { λ r. ⌜ r ≡ repeatsHere (drop at (old text)) ⌝ }
 {

@@ -1,4 +1,4 @@
--- The items inside a bracket, one at a time.
+-- Laws on the items inside a bracket, one at a time.
 use mathlib.Core.Path.{_≡_, refl, sym, ap, _∙_}
 use mathlib.Core.Option.{Option, some, none}
 use mathlib.Core.List.{List, [], _∷_}
@@ -113,7 +113,7 @@ module _ (inside : List ℕ) (i : ℕ) where
         1 < length inside - i → begins first (getD inside i 0) ≡ true → leb (getD inside i 0) (upto (drop i inside)) ≡ fits first (drop i inside)
     fits-by l e = sym (fits-more l ∙ ap (λ t. t && leb (getD inside i 0) (upto (drop i inside))) e)
 
--- What is left at index i of a bracket's inside.
+-- What is left of a bracket's inside at index i.
 module _ (inside : List ℕ) (i : ℕ) where
   abbrev pub behind : ℕ
   behind = i + width (drop i inside)
@@ -137,7 +137,7 @@ module _ (inside : List ℕ) (i : ℕ) where
   pub width-bounds : (r : ℕ) → r ≡ width (drop i inside) → i < length inside → (1 ≤ r) × (i + r ≤ length inside)
   width-bounds r e l = let a = width-some in let b = width-within l in (omega arith, omega arith)
 
-  -- the item at i and the items behind it
+  -- the item at i and the items after it
   left-item :
       i < length inside →
       left inside i ≡ provided (fits (eqb i 0) (drop i inside)) (with (range (getD inside i 0) (upto (drop i inside))) (left inside behind))
@@ -146,7 +146,7 @@ module _ (inside : List ℕ) (i : ℕ) where
       items-of (eqb i 0) (drop i inside) (getD inside i 0) (drop (i + 1) inside) (drop-here 0 inside i l)
       ∙ rw (n, drop-drop (width (drop i inside)) i inside)
 
-  -- An item that may not stand there spoils the bracket; behind one that may, the items behind it decide.
+  -- An item that is not allowed spoils the bracket; after one that is, the later items decide.
   module _ (l : i < length inside) where
     pub left-spoilt : fits (eqb i 0) (drop i inside) ≡ false → is-some (left inside i) ≡ false
     unfolding provided
@@ -167,7 +167,7 @@ module _ (inside : List ℕ) (i : ℕ) where
         by true e = refl
         by false e = let z : _≡_ {A = Bool} true false = sym h ∙ left-spoilt e in sym z
 
-    -- where all are well formed, so are the items behind, and a byte is in this item's range or in theirs
+    -- where all are well formed, so are the later ones, and a member is in this item's range or in one of theirs
     pub some-more : is-some (left inside i) ≡ true → is-some (left inside behind) ≡ true
     some-more h = sym (left-more (fits-some h)) ∙ h
 
@@ -204,7 +204,7 @@ module _ (inside : List ℕ) (i : ℕ) where
     pub among-end : (b : ℕ) → among (listed (left inside i)) b ≡ false
     among-end b = ap (λ x. among (listed x) b) left-end
 
--- Or further on.
+-- `[.`, `[=` or `[:` at index i, or further on.
 module _ (inside : List ℕ) (i : ℕ) where
   opens-first : i < length inside → opens (drop i inside) ≡ (eqb (getD inside i 0) (code "[") && one-of (bytes ".=:") (getD inside (i + 1) 0))
   unfolding opens
@@ -234,7 +234,7 @@ module _ (inside : List ℕ) (i : ℕ) where
   unfolding reserved
   reserved-end l = rw (drop-all inside i l, reserved)
 
--- Both together: the members.
+-- The members: nothing is reserved, and the items decide.
 module _ (inside : List ℕ) where
   pub members-reserved : reserved inside ≡ true → false ≡ is-some (members inside)
   unfolding members provided

@@ -1,5 +1,5 @@
 // The items inside a bracket (document 01, "Brackets"): whether they are well formed, and whether a byte is in the range of one. The
-// inside is a part of the text, and index 0 there is the first item's place.
+// inside is a part of the text, and the first item is at index 0 of it.
 use text::one_of;
 use text::peek;
 ghost use mathlib.Core.Path.{_≡_};
@@ -12,7 +12,7 @@ ghost use Rattle.regex.specs.Tree.{among as amongOf, range, within};
 ghost use Rattle.regex.specs.Sets.{begins, reserved, members};
 ghost use Rattle.regex_items.specs.Items.{opens, fits, ranges, upto as uptoOf, width as widthOf, left, is-some, listed};
 
-// Does `[.`, `[=` or `[:` stand here?
+// Does `[.`, `[=` or `[:` begin here?
 fn opens_class(inside: &[u8], i: usize) -> bool
     requires { ⌜ i < length (now inside) ⌝ }
     ensures { λ r. ⌜ r ≡ opens (drop i (old inside)) ⌝ }
@@ -79,7 +79,7 @@ fn may_begin(first: bool, c: u8) -> bool
     c != b'-'
 }
 
-// May the item stand here?
+// Is the item allowed here?
 fn item_fits(inside: &[u8], i: usize) -> bool
     requires { ⌜ i < length (now inside) ⌝ }
     ensures { λ r. ⌜ r ≡ fits (eqb i 0) (drop i (old inside)) ⌝ }

@@ -29,7 +29,7 @@ use Rattle.regex_count.specs.Parts.{add, repeated, closed}
 use Rattle.regex_parse.specs.Parts.{partAt, Found, part-found}
 
 module _ (A text : List ℕ) where
-  -- what is made of a tree that was read, where its letters are known
+  -- a parsed tree as part of a larger one, whose letters are known from its own
   part-under :
       (f : Tree → Tree) (g : ℕ → ℕ) → ((t : Tree) → few (letterCount A (f t)) ≡ g (few (letterCount A t))) → (p : Part → Part) →
       ((e n : ℕ) → p (part.Found e n) ≡ part.Found e (g n)) → ((x : Refusal) → p (part.Refused x) ≡ part.Refused x) → (x : Parsing Tree) →
@@ -57,7 +57,7 @@ module _ (A text : List ℕ) where
   times-repeated t (found (onward n) r) = ap (part.Found (place text r)) (few-times (copiesOf (onward n)) (letterCount A t))
   times-repeated t (fault x r) = refl
 
-  -- The steps, with the test at hand.
+  -- The steps, with the test as an argument.
   abbrev bar : Bool → ℕ → Tree → List ℕ → Parsing Tree
   bar b d t s = elim b [ true ↦ then (parse A m-alternation d (rest s)) (λ u r. found (either t u) r) | false ↦ found t s ]
 
@@ -73,7 +73,7 @@ module _ (A text : List ℕ) where
   abbrev opening : Bool → ℕ → List ℕ → Parsing Tree
   opening b d s = elim b [ true ↦ grouped (parse A m-alternation) d s | false ↦ set-tree A s ]
 
-  -- A refusal is handed on.
+  -- A refusal is passed on.
   then-refused :
       (f : Tree → List ℕ → Parsing Tree) (x : Refusal) (y : Parsing Tree) → part.Refused x ≡ partOf A text y → part.Refused x ≡ partOf A text (then y f)
   unfolding then
@@ -94,7 +94,7 @@ module _ (A text : List ℕ) where
     unfolding step
     piece-refused h = then-refused _ x (parse A m-group d (drop at text)) h ∙ ap (partOf A text) (sym (parse-step A m-piece d (drop at text)))
 
-  -- A group, in parentheses or a set.
+  -- A group: in parentheses, or a set.
   by-open : (d at : ℕ) (b : Bool) → eqb (getD text at 0) (code "(") ≡ b → parse A m-group d (drop at text) ≡ opening b d (drop at text)
   unfolding step
   by-open d at b k = parse-step A m-group d (drop at text) ∙ ap (λ t. opening t d (drop at text)) (next-at "(" text at refl ∙ k)
@@ -144,11 +144,11 @@ module _ (A text : List ℕ) where
       ∙ ap (λ s. partOf A text (then (parse A m-alternation d s) (λ t s. closing (next ")" s) t s))) (sym (rest-at text at))
       ∙ ap (partOf A text) (sym (by-open (suc d) at true (eq-eqb (getD text at 0) (code "(") k)))
 
--- A part that was read, and nothing behind it.
+-- A parsed part, to which nothing is added.
 alone : {A text : List ℕ} {m : Mode} {d at e n : ℕ} (f : Found A text m d at e n) → part.Found e n ≡ partOf A text (found (f .tree) (drop e text))
 alone {text = text} {e = e} f = ap₂ part.Found (sym (place-drop text e (f .within))) (f .letters)
 
--- A branch that was read: a `|` stands behind it, or none.
+-- A parsed branch: there is a `|` after it, or none.
 module _ {A text : List ℕ} {d at e n : ℕ} (f : Found A text m-branch d at e n) where
   by-bar : (b : Bool) → eqb (getD text e 0) (code "|") ≡ b → parse A m-alternation d (drop at text) ≡ bar A text b d (f .tree) (drop e text)
   unfolding step then
@@ -166,7 +166,7 @@ module _ {A text : List ℕ} {d at e n : ℕ} (f : Found A text m-branch d at e 
       ∙ ap (λ s. partOf A text (then (parse A m-alternation d s) (λ u r. found (either (f .tree) u) r))) (sym (rest-at text e))
       ∙ ap (partOf A text) (sym (by-bar true (eq-eqb (getD text e 0) (code "|") k)))
 
--- A piece that was read: the branch ends behind it, or goes on.
+-- A parsed piece: the branch ends after it, or goes on.
 module _ {A text : List ℕ} {d at e n : ℕ} (f : Found A text m-piece d at e n) where
   by-end : (b : Bool) → ends (drop e text) ≡ b → parse A m-branch d (drop at text) ≡ last A text b d (f .tree) (drop e text)
   unfolding step then
@@ -182,7 +182,7 @@ module _ {A text : List ℕ} {d at e n : ℕ} (f : Found A text m-piece d at e n
       ap (λ i. add i (partAt A text m-branch d e)) (f .letters) ∙ add-join A text (f .tree) (parse A m-branch d (drop e text))
       ∙ ap (partOf A text) (sym (by-end false k))
 
--- A group that was read: a repetition stands behind it, or none.
+-- A parsed group: there is a repetition after it, or none.
 module _ {A text : List ℕ} {d at e n : ℕ} (f : Found A text m-group d at e n) where
   by-sign : (b : Bool) → repeats (drop e text) ≡ b → parse A m-piece d (drop at text) ≡ repeating A text b (f .tree) (drop e text)
   unfolding step then

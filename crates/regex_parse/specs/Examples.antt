@@ -1,4 +1,4 @@
--- Texts checked by computation: letters up to 128, and each refusal.
+-- Texts checked by computation: letters up to 128, and each of refusals 4 to 8.
 use mathlib.Core.Path.{_≡_, refl}
 use mathlib.Core.List.{List, [], _∷_, map}
 use Prim.Native.String.{String}

@@ -1,4 +1,4 @@
--- The parts of a text at their places, as the parser answers them, and what a part that was read says.
+-- The parts of a text at their places, as the parser answers them, and what is known of a parsed part.
 use mathlib.Core.Path.{_≡_, refl, sym, ap, _∙_}
 use mathlib.Core.List.{List}
 use Prim.Native.Nat.{ℕ, _≤_, _<_}
@@ -24,7 +24,7 @@ module _ (A text : List ℕ) where
   abbrev pub partAt : Mode → ℕ → ℕ → Part
   partAt m d at = partOf A text (parse A m d (drop at text))
 
-  -- a part that was read
+  -- a parsed part
   pub record Found (m : Mode) (d at e n : ℕ) : Type 0 where
     pub tree : Tree
     pub reads : parse A m d (drop at text) ≡ found tree (drop e text)

@@ -1,4 +1,4 @@
--- What the functions of this crate answer, by the definitions of `expression`.
+-- What the functions of this crate answer, by the definitions of `regex`.
 use mathlib.Core.List.{List}
 use Prim.Native.Nat.{ℕ, _+_}
 use Rattle.regex.specs.Tree.{Count, between, onward}
@@ -37,12 +37,10 @@ abbrev pub counted : Option Count → ℕ → Repeats
 counted none e = repeats.Refused refusal.Count
 counted (some c) e = times c e
 
--- The braces at a place, closed at e.
+-- the repetition in braces at a place
 unfoldable pub braced : List ℕ → ℕ → Repeats
 braced text at = repeatsOf text (enclosed refusal.Count (drop at text) counts (split "}" (drop (at + 1) text)))
 
--- One `?` behind it.
-
--- the place behind one `?`, if one stands there
+-- the place after one `?`, if there is one
 unfoldable pub modified : List ℕ → ℕ → ℕ
 modified text at = cond (eqb (getD text at 0) (code "?")) (at + 1) at

@@ -1,4 +1,4 @@
--- What stands in braces: a number by its digits, and a count with or without a comma.
+-- What is in braces: a number by its digits, and a count with or without a comma.
 use mathlib.Core.Path.{_≡_, refl, sym, ap, ap₂, _∙_}
 use mathlib.Core.Option.{Option, some, none}
 use mathlib.Core.List.{List, [], _∷_}
@@ -50,7 +50,7 @@ not-in-range : (s : List ℕ) → in-range s ≡ false → 256 ≡ number-or (nu
 unfolding number provided
 not-in-range s e = sym (ap (λ t. number-or (provided t (some (value 0 s)))) e)
 
--- what is left of the digits at index i, behind those that make n
+-- what is left of the digits at index i, after those that make n
 pub record Digits (s : List ℕ) (i n : ℕ) : Type 0 where
   pub within : i ≤ length s
   pub small : n ≤ 255
@@ -133,7 +133,7 @@ ranged-counted (some n) (some m) e a b = rw (le-leb m 255 b, and-true) (by (leb 
     by true = refl
     by false = refl
 
--- What stands in the braces, with or without a comma at k.
+-- What is in the braces, with or without a comma at k.
 comma-more : (n m : List ℕ) → (length m ≡ 0 → ⊥) → comma n m ≡ from-to (number n) (number m)
 unfolding comma
 comma-more n [] h = absurd (h refl)

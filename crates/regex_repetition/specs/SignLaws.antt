@@ -1,4 +1,4 @@
--- The repetition at a place of a text: its sign or its braces, one `?` behind it, and its end.
+-- The repetition at a place of a text: its sign or its braces, one `?` after it, and its end.
 use mathlib.Core.Path.{_≡_, refl, sym, ap, ap₂, _∙_}
 use mathlib.Core.Option.{Option, some, none}
 use mathlib.Core.List.{List, []}
@@ -87,7 +87,7 @@ pub modified-not : (text : List ℕ) (at : ℕ) → (getD text at 0 ≡ code "?"
 unfolding modified
 modified-not text at e = rw (ne-eqb (getD text at 0) (code "?") e)
 
--- the rest of a sign is the text from its end on
+-- the rest after a sign is the text from its end on
 abbrev Rest : List ℕ → Count → List ℕ → Type 0
 Rest text c r = drop (place text r) text ≡ r
 
@@ -135,7 +135,7 @@ times-refused (between n m) e k h = let z : _≡_ {A = ℕ} 0 1 = cc in omega ar
 times-refused (onward n) e k h = let z : _≡_ {A = ℕ} 0 1 = cc in omega arith
 
 module _ (text : List ℕ) (at : ℕ) where
-  -- what is made of a sign, where a `?` stands behind it or not
+  -- what a sign gives, with a `?` after it or without
   abbrev modifier : Bool → Count → List ℕ → Parsing Count
   modifier t c r = elim t [ true ↦ found c (rest r) | false ↦ found c r ]
 

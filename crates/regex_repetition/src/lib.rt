@@ -9,7 +9,7 @@ ghost use Rattle.lists.specs.Memory.{old};
 ghost use Rattle.regex.specs.Repetition.{number as numberOf, counts as countsOf, sign as signOf, repetition as repetitionOf};
 ghost use Rattle.regex_repetition.specs.Answers.{repeatsOf, number-or, ranged, counted, braced, modified};
 
-// A repetition: at least and at most so many, or so many and more; then where it ends. Or why it is turned away.
+// A repetition: the least and the most words, or the least alone; then where it ends. Or why it is turned away.
 pub enum Repeats {
     Between(usize, usize, usize),
     Onward(usize, usize),
@@ -45,7 +45,7 @@ fn number(digits: &[u8]) -> usize
     n
 }
 
-// From n to m words, then the place behind the braces.
+// From n to m words; `end` is the place after the braces.
 fn range(n: usize, m: usize, end: usize) -> Repeats
     ensures { λ r. ⌜ r ≡ ranged n m end ⌝ }
 {
@@ -61,7 +61,7 @@ fn range(n: usize, m: usize, end: usize) -> Repeats
     Repeats::Between(n, m, end)
 }
 
-// What stands inside the braces, of which `end` is the place behind.
+// The count inside the braces; `end` is the place after them.
 fn counts(inside: &[u8], end: usize) -> Repeats
     ensures { λ r. ⌜ r ≡ counted (countsOf (old inside)) end ⌝ }
 {
@@ -115,7 +115,7 @@ fn sign(text: &[u8], at: usize) -> Repeats
     Repeats::Refused(Refusal::MisplacedSign)
 }
 
-// The place behind one `?`, if one stands here.
+// The place after one `?`, if there is one here.
 fn behind_modifier(text: &[u8], at: usize) -> usize
     ensures { λ r. ⌜ r ≡ modified (old text) at ⌝ }
 {

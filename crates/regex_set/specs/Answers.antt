@@ -1,4 +1,4 @@
--- What the functions of this crate and of `parse` answer, by the definitions of `expression`.
+-- What the functions of this crate and of `regex_parse` answer, by the definitions of `regex`.
 use mathlib.Core.Path.{_≡_}
 use mathlib.Core.List.{List}
 use mathlib.Core.Bool.{true}
@@ -14,7 +14,7 @@ use Rattle.regex_bracket.specs.Answers.{is-found, setOf}
 use Rattle.regex_set.specs.declared.Part.{Part}
 use Rattle.regex_set.specs.declared.Part.the-variants as part
 
--- where what was found in the text ends, with how many letters, up to 128; or the refusal
+-- where what was found in the text ends, and its letters, counted up to 128; or the refusal
 abbrev pub partOf : List ℕ → List ℕ → Parsing Tree → Part
 partOf A text (found t r) = part.Found (place text r) (few (letterCount A t))
 partOf A text (fault n r) = part.Refused n
@@ -23,7 +23,7 @@ partOf A text (fault n r) = part.Refused n
 abbrev pub set-tree : List ℕ → List ℕ → Parsing Tree
 set-tree A s = then (labelled-set A s) (λ c r. found (set c) r)
 
--- the set at a place, where one stands
+-- the set at a place, where there is one
 abbrev pub SetAt : List ℕ → ℕ → Type 0
 SetAt text at = is-found (a-set (drop at text)) ≡ true
 

@@ -27,7 +27,7 @@ use Rattle.regex_bracket.specs.Answers.{endOf, is-found, setOf, bracketAt}
 use Rattle.regex_set.specs.declared.Part.the-variants as part
 use Rattle.regex_set.specs.Answers.{partOf, set-tree, SetAt, setAt}
 
--- a byte alone is in its set
+-- the set of one byte has that byte alone
 member-alone : (b x : ℕ) → eqb b x ≡ member (alone b) x
 member-alone b x = same-truth (eqb b x) (leb b x && leb x b) forth back ∙ sym (or-false (leb b x && leb x b))
   where
@@ -51,7 +51,7 @@ module _ (text : List ℕ) (at : ℕ) where
   unfolding a-set
   set-empty l = rw (drop-all text at l, a-set)
 
-  -- where a set stands there is a byte
+  -- where there is a set, there is a byte
   pub set-within : SetAt text at → at < length text
   set-within h = by (lt-or-le at (length text))
     where
@@ -101,7 +101,7 @@ module _ (text : List ℕ) (at : ℕ) where
 
 -- Where the set ends.
 module _ (text : List ℕ) (at : ℕ) where
-  -- a byte that is found ends behind it
+  -- a set that is one byte long ends after that byte
   one-byte : at < length text → end.At (at + 1) ≡ end.At (place text (drop (at + 1) text))
   one-byte l = ap end.At (sym (place-drop text (at + 1) (omega arith)))
 
@@ -166,7 +166,7 @@ module _ (text : List ℕ) (at : ℕ) (h : SetAt text at) (x : ℕ) where
       by true k = absurd (not-both true refl (sym h ∙ ap is-found (set-special text at (set-within text at h) a b c k)))
       by false k = member-alone (getD text at 0) x ∙ sym (ap (λ y. member (setOf y) x) (set-alone text at (set-within text at h) a b c k))
 
--- Its labels: one more of the alphabet.
+-- Its labels, counted through the alphabet.
 pub labels-none : (A : List ℕ) (c : Set) → 0 + labelsOf A c ≡ labelsOf A c
 labels-none A c = omega arith
 
@@ -185,7 +185,7 @@ module _ (A : List ℕ) (c : Set) (i n : ℕ) where
 
 -- The set as a part of the text.
 module _ (A text s : List ℕ) where
-  -- what is made of the set that was found
+  -- what the set that was found gives: a refusal if it has no label, or its tree
   abbrev judged : Bool → Set → List ℕ → Parsing Set
   judged t c r = elim t [ true ↦ fault refusal.Foreign s | false ↦ found c r ]
 

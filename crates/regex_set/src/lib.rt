@@ -1,5 +1,5 @@
-// What stands at a place of an expression's text (document 01, "Expression text"), where it is a set: an ordinary character, `.` or a
-// bracket. Each answer is that of crate `expression`'s definition on the text from that place on. The text may have any bytes.
+// The set at a place of an expression's text (document 01, "Expression text"): an ordinary character, `.` or a bracket. Each answer is that
+// of crate `regex`'s definition on the text from that place on. The text may have any bytes.
 use numbers::one_if;
 use refusal::Refusal;
 use regex_bracket::End;
@@ -24,14 +24,14 @@ pub enum Part {
     Refused(Refusal),
 }
 
-// Is the byte a sign that is ordinary only behind a `\`?
+// Is the byte a sign that is ordinary only after a `\`?
 fn is_special(b: u8) -> bool
     ensures { λ r. ⌜ r ≡ special b ⌝ }
 {
     one_of(b"^.[$()|*+?{\\", b)
 }
 
-// Where the escaped character ends whose `\` stands here.
+// Where the escaped character ends whose `\` is here.
 fn escape_end(text: &[u8], at: usize) -> End
     requires { ⌜ at < length (now text) ⌝ }
     ensures { λ r. ⌜ r ≡ endOf (old text) (escaped (drop at (old text)) (drop (at + 1) (old text))) ⌝ }
@@ -42,7 +42,7 @@ fn escape_end(text: &[u8], at: usize) -> End
     End::Refused(Refusal::MisplacedSign)
 }
 
-// Where the set ends that begins here, or why there is none.
+// Where the set that begins here ends, or why there is none.
 pub fn set_end(text: &[u8], at: usize) -> End
     ensures { λ r. ⌜ r ≡ endOf (old text) (a-set (drop at (old text))) ⌝ }
 {
@@ -83,7 +83,7 @@ pub fn member(text: &[u8], at: usize, b: u8) -> bool
     c == b
 }
 
-// How many labels of the alphabet the set has that begins here.
+// How many labels of the alphabet the set that begins here has.
 fn count_labels(alphabet: &[u8], text: &[u8], at: usize) -> usize
     requires { ⌜ SetAt (now text) at ⌝ }
     ensures { λ r. ⌜ r ≡ labelsOf (old alphabet) (setAt (old text) at) ⌝ }
@@ -97,14 +97,14 @@ fn count_labels(alphabet: &[u8], text: &[u8], at: usize) -> usize
     n
 }
 
-// n, or 128 where it is more.
+// n, or 128 if it is more.
 pub fn capped_at_128(n: usize) -> usize
     ensures { λ r. ⌜ r ≡ few n ⌝ }
 {
     if n < 128 { n } else { 128 }
 }
 
-// The set that begins here, as a part of the text; 8 if no label of the alphabet is in it.
+// The set that begins here, as a part of the text; refusal 8 if no label of the alphabet is in it.
 pub fn set(alphabet: &[u8], text: &[u8], at: usize) -> Part
     ensures { λ r. ⌜ r ≡ partOf (old alphabet) (old text) (set-tree (old alphabet) (drop at (old text))) ⌝ }
 {

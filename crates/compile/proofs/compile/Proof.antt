@@ -1,4 +1,4 @@
--- `compile::compile` meets its contract: rows 1 to 3, or what the text gives.
+-- `compile::compile` meets its contract: refusals 1 to 3, or what the text gives.
 use mathlib.Core.Path.{sym, _∙_, subst}
 use lib.ListN.{length}
 use denote.Ref.{now}

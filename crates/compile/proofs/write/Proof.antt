@@ -1,4 +1,4 @@
--- `compile::write` meets its contract: the arrays built tell the automaton of the text's tree, and they are written as its form.
+-- `compile::write` meets its contract: the arrays built hold the automaton of the text's tree, and they are written as its form.
 use mathlib.Core.Path.{_≡_, subst}
 use native.Mathlib.Omega.{arith}
 use lib.ListN.{length}

@@ -1,4 +1,4 @@
--- `regex_items::has` meets its contract: the byte is in no item in front of i, and the items from i on decide.
+-- `regex_items::has` meets its contract: the byte is in no item before i, and the items from i on decide.
 use native.Mathlib.Omega.{arith}
 use denote.Ref.{now}
 use Prim.Native.Nat.{_≤_, _-_}

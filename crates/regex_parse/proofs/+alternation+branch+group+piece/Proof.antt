@@ -1,5 +1,5 @@
--- `alternation`, `branch`, `piece` and `group` meet their contracts, together. The measure is 4 × the unread text, and 3, 2, 1 or 0 for
--- the function: it falls at each call.
+-- `alternation`, `branch`, `piece` and `group` meet their contracts, together. The measure is 4 × the length of the text that is left, plus
+-- 3, 2, 1 or 0 for the function: it falls at each call.
 mod Measure
 mod Alternation
 mod Branch

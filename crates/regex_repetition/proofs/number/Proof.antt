@@ -1,4 +1,4 @@
--- `regex_repetition::number` meets its contract: n is what the digits in front of i make.
+-- `regex_repetition::number` meets its contract: n is what the digits before i make.
 use native.Mathlib.Omega.{arith}
 use denote.Ref.{now}
 use Prim.Native.Nat.{_-_}

@@ -1,4 +1,4 @@
--- `regex_set::count_labels` meets its contract: those counted and those from i on are all.
+-- `regex_set::count_labels` meets its contract: the labels counted and those from i on are all.
 use native.Mathlib.Omega.{arith}
 use denote.Ref.{now}
 use Prim.Native.Nat.{_≤_, _-_, _+_}

@@ -1,4 +1,4 @@
--- `alternation` at each place of its code, where what it calls meets its contract below the measure.
+-- The proof of `alternation`, place by place, where the functions that it calls meet their contracts below the measure.
 use mathlib.Core.Path.{sym, ap, _∙_}
 use Prim.Native.Nat.{ℕ}
 use native.Mathlib.Omega.{arith}
@@ -13,7 +13,7 @@ use Rattle.regex_parse.proofs.alternation.Reads as alternation
 use Rattle.regex_parse.proofs.+alternation+branch+group+piece.Lts-alternation as alternation-lts
 use Rattle.regex_parse.proofs.+alternation+branch+group+piece.Proof.Measure.{alternation-at, alternation-calls}
 
--- what each reads first
+-- the branch that is parsed first
 pub first-branch : (t : ℕ) (c : alternation-lts.After-e (alternation-calls t) (alternation-at t) alternation.Post) →
     Found (now (c .before .before .before .before .before .args .alphabet)) (now (c .before .before .before .before .before .args .text))
     m-branch (c .before .before .before .before .before .args .room) (c .before .before .before .before .before .args .at)

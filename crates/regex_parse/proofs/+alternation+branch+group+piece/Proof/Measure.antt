@@ -1,4 +1,4 @@
--- By which number the recursion of `alternation`, `branch`, `group` and `piece` ends, and what may be asked of a call below it.
+-- The number by which the recursion of `alternation`, `branch`, `group` and `piece` ends, and the contracts of the calls below it.
 use Prim.Native.Nat.{ℕ, _+_, _*_, _-_, _<_}
 use lib.ListN.{length}
 use denote.Ref.{now}
