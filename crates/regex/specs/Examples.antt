@@ -47,8 +47,8 @@ failing A [] = []
 failing A (r ∷ rs) = elim (meets A r) [ true ↦ failing A rs | false ↦ r ∷ [] ]
 
 -- over `ab`
-refusals : List Case
-refusals =
+text-cases : List Case
+text-cases =
     -- "Lines to try"
     letters-of "ab" 2 ∷ letters-of "aa" 2 ∷ letters-of "a*" 1 ∷ letters-of "a" 1 ∷ letters-of "a|b" 2 ∷ letters-of "a{2}" 2 ∷
     letters-of "(a|b)*" 2 ∷ letters-of "ab*" 2 ∷ letters-of "a{127}" 127 ∷ letters-of "a{128}" 128 ∷ letters-of "a*?" 1 ∷
@@ -83,8 +83,8 @@ refusals =
     refused-as "c{0}" Foreign 0 ∷ []
 
 -- over `+-.:=A[]\`ab}`
-bracket-refusals : List Case
-bracket-refusals =
+bracket-cases : List Case
+bracket-cases =
     letters-of "-" 1 ∷ letters-of "]}" 2 ∷ letters-of "." 13 ∷ letters-of "\\\\" 1 ∷ letters-of "\\." 1 ∷
     -- `-` first or just before the closing `]`, or as a range's end
     letters-of "[--b]" 11 ∷ letters-of "[---]" 1 ∷ letters-of "[+--]" 2 ∷ letters-of "[a-b-]" 3 ∷ letters-of "[a-]" 2 ∷ letters-of "[-]" 1 ∷
@@ -98,13 +98,13 @@ bracket-refusals =
     refused-as "[[.]" Bracket 0 ∷ refused-as "[a[=]" Bracket 0 ∷ refused-as "[[:a:]]" Bracket 0 ∷ refused-as "[^[:a]" Bracket 0 ∷ []
 
 -- over `^ab`: `^` complements only right after the `[`
-complement-refusals : List Case
-complement-refusals =
+complement-cases : List Case
+complement-cases =
     letters-of "[a^]" 2 ∷ letters-of "[^^]" 2 ∷ letters-of "[^a^]" 1 ∷ letters-of "\\^" 1 ∷ refused-as "[^^ab]" Foreign 0 ∷ []
 
 -- over `ba`: a range goes by byte value and not by label
-label-refusals : List Case
-label-refusals = letters-of "[a-b]" 2 ∷ refused-as "[b-a]" Bracket 0 ∷ []
+label-cases : List Case
+label-cases = letters-of "[a-b]" 2 ∷ refused-as "[b-a]" Bracket 0 ∷ []
 
 many : ℕ → List ℕ → List ℕ
 many zero s = []
@@ -121,10 +121,10 @@ sign-texts : List ℕ
 sign-texts = bytes "\\^\\.\\[\\$\\(\\)\\|\\*\\+\\?\\{\\\\"
 
 tried :
-    (failing (bytes "ab") refusals ≡ [])
-    × (failing (bytes "+-.:=A[]\\`ab}") bracket-refusals ≡ [])
-    × (failing (bytes "^ab") complement-refusals ≡ [])
-    × (failing (bytes "ba") label-refusals ≡ [])
+    (failing (bytes "ab") text-cases ≡ [])
+    × (failing (bytes "+-.:=A[]\\`ab}") bracket-cases ≡ [])
+    × (failing (bytes "^ab") complement-cases ≡ [])
+    × (failing (bytes "ba") label-cases ≡ [])
     -- each sign, made ordinary
     × (size signs (expressionOf signs sign-texts) ≡ 12)
     -- 232 bytes
@@ -138,7 +138,7 @@ tried :
     (join (times (set (alone 97)) (between 2 2)) (join (times (set (alone 97)) (onward 0)) (times (set (alone 97)) (between 1 2))))))) [])
     × (expressionOf (bytes "abc-") (bytes ".([^a-b-]*)")
     ≡ found (join (set (except [])) (group (times (set (except (range 97 98 ∷ range 45 45 ∷ []))) (onward 0)))) [])
-unfolding failing meets refusals bracket-refusals complement-refusals label-refusals many size signs sign-texts labelsOf letterCount then first-of split enclosed provided closed reserved items members inside bracket escaped a-set labelled-set number from-on from-to comma counts sign repetition grouped step go parse whole expressionOf
+unfolding failing meets text-cases bracket-cases complement-cases label-cases many size signs sign-texts labelsOf letterCount then first-of split enclosed provided closed reserved items members inside bracket escaped a-set labelled-set number from-on from-to comma counts sign repetition grouped step go parse whole expressionOf
 tried = (refl, refl, refl, refl, refl, refl, refl, refl, refl)
 
 -- "A `-` may begin an item only first or just before the closing `]`": in the middle it may not, whatever follows it inside
