@@ -1,5 +1,4 @@
--- The accepted words of an automaton, decided: a search over its letters. Two automata that agree on their letters accept the same
--- words.
+-- Which words an automaton accepts, as a test that computes: a search over its letters.
 use Prim.Native.Nat.{ℕ}
 use mathlib.Core.Bool.{Bool, _&&_}
 use mathlib.Core.List.{List, [], _∷_}
@@ -7,7 +6,7 @@ use lib.Dec.{eqb}
 use Rattle.lists.specs.Lists.{any, numbers}
 use Rattle.automaton.specs.Automaton.{Automaton}
 
--- some walk behind letter i spells the word
+-- some walk after letter i spells the word
 unfoldable pub spells : Automaton → ℕ → List ℕ → Bool
 spells A i [] = A .ends i
 spells A i (x ∷ w) = any (λ j. A .follow i j && eqb (A .label j) x && spells A j w) (numbers 1 (A .letters))

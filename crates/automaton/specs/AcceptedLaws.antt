@@ -1,4 +1,4 @@
--- The test decides what is accepted; automata that agree accept the same words.
+-- The test `accepts` decides which words are accepted; automata that agree accept the same words.
 use Prim.Native.Nat.{ℕ, _≤_}
 use mathlib.Core.Path.{_≡_, refl, sym, ap₂, _∙_}
 use mathlib.Core.Bool.{true, _&&_}
@@ -15,7 +15,7 @@ use Rattle.automaton.specs.Automaton.{Automaton, Walk, spelt, Spells, Ac
 use Rattle.automaton.specs.Proper.{Proper}
 use Rattle.automaton.specs.Accepted.{spells, accepts}
 
--- the first letter of a walk, and a letter in front of one
+-- the first letter of a walk, and a letter before a walk
 pub spells-letter : (A : Automaton) (i x : ℕ) (w : List ℕ) → Spells A i (x ∷ w) → (j : ℕ) × (A .follow i j ≡ true) × (A .label j ≡ x) × Spells A j w
 spells-letter A i x w ([], walk, e) = let z : _≡_ {A = ℕ} 0 1 = cc in absurd (omega arith)
 spells-letter A i x w (j ∷ js, walk, e) = (j, walk .0, cc, (js, walk .1, cc))
@@ -55,7 +55,7 @@ module _ (A : Automaton) where
     pub accepts-decides : (w : List ℕ) → (accepts A w ≡ true) ↔ Accepts A w
     accepts-decides w = (spells-true 0 w, true-spells 0 w)
 
--- the same letters, labels, arcs and ends; of what is no letter nothing is said
+-- the same letters, labels, arcs and ends; nothing is said of numbers that are no letters
 pub record Agree (A B : Automaton) : Type 0 where
   pub letters : A .letters ≡ B .letters
   pub label : (j : ℕ) → 1 ≤ j → j ≤ A .letters → A .label j ≡ B .label j

@@ -5,15 +5,15 @@ use mathlib.Core.Path.{_≡_}
 use mathlib.Core.Bool.{Bool, true}
 use mathlib.Core.List.{List, [], _∷_, map}
 
--- how many letters; the label of a letter; whether a letter may stand behind another, behind 0 if it may be first; whether a word may
--- end behind a letter, behind 0 if the empty word is accepted
+-- the number of letters; the label of a letter; whether a letter may follow another, or follow 0 if it may be first; whether a word may end
+-- after a letter, or after 0 if the empty word is accepted
 pub record Automaton : Type 0 where
   pub letters : ℕ
   pub label : ℕ → ℕ
   pub follow : ℕ → ℕ → Bool
   pub ends : ℕ → Bool
 
--- the letters, one behind another from letter i on, are a walk to a place where a word may end
+-- after letter i these letters, one after another, are a walk to where a word may end
 abbrev pub Walk : Automaton → ℕ → List ℕ → Type 0
 Walk A i [] = A .ends i ≡ true
 Walk A i (j ∷ js) = (A .follow i j ≡ true) × Walk A j js
@@ -22,7 +22,7 @@ Walk A i (j ∷ js) = (A .follow i j ≡ true) × Walk A j js
 abbrev pub spelt : Automaton → List ℕ → List ℕ
 spelt A js = map (A .label) js
 
--- a walk that spells the word behind letter i
+-- a walk after letter i that spells the word
 abbrev pub Spells : Automaton → ℕ → List ℕ → Type 0
 Spells A i w = (js : List ℕ) × Walk A i js × (spelt A js ≡ w)
 

@@ -22,7 +22,7 @@ use Rattle.automaton.specs.Words.{Head, Letter, Arc, head-fields, letter
 use Rattle.automaton.specs.Valid.{Valid}
 use Rattle.automaton.specs.ValidLaws.{Parts, valid-parts, parts-valid, valid-at, view-proper, may-be-first, may-be-last, letter-at, length-letterWords, follow-arc, arc-among, among-follow}
 
--- a word of an automaton's arcs
+-- the word of one of an automaton's arcs
 record ArcOf (A : Automaton) (w : ℕ) : Type 0 where
   pub from : ℕ
   pub to : ℕ
@@ -37,8 +37,8 @@ abbrev arcsOf : Automaton → List ℕ
 arcsOf A = flatMap (arcsFrom A) (numbers 1 (A .letters))
 
 module _ (A : Automaton) where
-  row-among : (i w : ℕ) → Among w (arcsFrom A i) → (j : ℕ) × (1 ≤ j) × (j ≤ A .letters) × (A .follow i j ≡ true) × (w ≡ arcWord i j)
-  row-among i w m =
+  letter-among : (i w : ℕ) → Among w (arcsFrom A i) → (j : ℕ) × (1 ≤ j) × (j ≤ A .letters) × (A .follow i j ≡ true) × (w ≡ arcWord i j)
+  letter-among i w m =
       let r = map-among (arcWord i) w (keep (A .follow i) (numbers 1 (A .letters))) m in
       let q = keep-among (A .follow i) (r .0) (numbers 1 (A .letters)) (r .1) in
       let n = numbers-among 1 (A .letters) (r .0) (q .0) in
@@ -48,7 +48,7 @@ module _ (A : Automaton) where
   arcs-among w m =
       let r = flat-among (arcsFrom A) w (numbers 1 (A .letters)) m in
       let n = numbers-among 1 (A .letters) (r .0) (r .1) in
-      let q = row-among (r .0) w (r .2) in
+      let q = letter-among (r .0) w (r .2) in
       record { from = r .0; to = q .0; from-low = n .0; from-high = omega arith; to-low = q .1; to-high = q .2; follows = q .3; same = q .4 }
 
   among-arcs : (w : ℕ) → ArcOf A w → Among w (arcsOf A)
@@ -67,8 +67,8 @@ module _ (A : Automaton) where
       (λ i m. ascending-map (arcWord i) (keep (A .follow i) (numbers 1 (A .letters))) (λ a b p q l. omega arith)
       (ascending-keep (A .follow i) (numbers 1 (A .letters)) (ascending-numbers 1 (A .letters))))
       (λ i j w v m n l p q.
-      let a = row-among i w p in
-      let b = row-among j v q in
+      let a = letter-among i w p in
+      let b = letter-among j v q in
       let e : w ≡ arcWord i (a .0) = a .4 in
       let g : v ≡ arcWord j (b .0) = b .4 in
       let h : a .0 ≤ A .letters = a .2 in

@@ -1,4 +1,4 @@
--- Compiled forms, computed: encoded, valid, read back; and lists that are no forms.
+-- Compiled forms, computed: encoded, tested, taken apart; and lists that are no forms.
 use Prim.Native.Nat.{ℕ}
 use mathlib.Core.Path.{_≡_, refl}
 use mathlib.Core.Bool.{true, false, _&&_, _||_}
@@ -31,7 +31,7 @@ ab-repeated = record {
   ends = λ i. eqb i 0 || eqb i 2;
 }
 
--- `(a|b)*`: by target the second arc would be the third
+-- `(a|b)*`: in the order of target the second arc would be the third
 a-or-b-repeated : Automaton
 a-or-b-repeated = record { letters = 2; label = λ i. i; follow = λ i j. in-range 1 2 j; ends = λ i. true }
 
@@ -83,18 +83,18 @@ forms =
     form ∷ nullable ∷ either ∷ (0x10010001 ∷ 0x20000001 ∷ []) ∷ (0x105f0001 ∷ 0x2000005f ∷ []) ∷ (0x1001007f ∷ replicate 127 0x20000001)
     ∷ (0x1001007f ∷ (replicate 127 0x20000001 ++ (0x30007f7f ∷ []))) ∷ []
 
--- Lists that are none, each by one fault.
+-- Lists that are no forms, each with one fault.
 no-forms : List (List ℕ)
 no-forms =
     -- no head; a letter missing; no letter; 128 letters; no character; 96 characters; an unnamed bit; another kind
     [] ∷ (0x10010001 ∷ []) ∷ (0x10010000 ∷ []) ∷ (0x10010080 ∷ replicate 128 0x20000001) ∷ (0x10000001 ∷ 0x20000001 ∷ [])
     ∷ (0x10600001 ∷ 0x20000001 ∷ []) ∷ (0x10010201 ∷ 0x20000001 ∷ []) ∷ (0x11010001 ∷ 0x20000001 ∷ []) ∷ (0x20010001 ∷ 0x20000001 ∷ [])
-    -- of a letter: label 0; a label over K; an unnamed bit; another kind
+    -- in a letter: label 0; a label over K; an unnamed bit; another kind
     ∷ (0x10010001 ∷ 0x20000000 ∷ []) ∷ (0x10010001 ∷ 0x20000002 ∷ []) ∷ (0x10010001 ∷ 0x20000401 ∷ []) ∷ (0x10010001 ∷ 0x30000101 ∷ [])
-    -- of an arc: source 0; target 0; source or target over L; an unnamed bit; another kind
+    -- in an arc: source 0; target 0; source or target over L; an unnamed bit; another kind
     ∷ (0x10010001 ∷ 0x20000001 ∷ 0x30000001 ∷ []) ∷ (0x10010001 ∷ 0x20000001 ∷ 0x30000100 ∷ []) ∷ (0x10010001 ∷ 0x20000001 ∷ 0x30000201 ∷ [])
     ∷ (0x10010001 ∷ 0x20000001 ∷ 0x30000102 ∷ []) ∷ (0x10010001 ∷ 0x20000001 ∷ 0x30010101 ∷ []) ∷ (0x10010001 ∷ 0x20000001 ∷ 0x20000001 ∷ [])
-    -- arcs: one twice; by target and not by source; descending by target
+    -- in the arcs: one twice; in the order of target and not of source; descending by target
     ∷ (0x10010001 ∷ 0x20000001 ∷ 0x30000101 ∷ 0x30000101 ∷ []) ∷ (0x10010002 ∷ 0x20000001 ∷ 0x20000001 ∷ 0x30000201 ∷ 0x30000102 ∷ [])
     ∷ (0x10010002 ∷ 0x20000001 ∷ 0x20000001 ∷ 0x30000102 ∷ 0x30000101 ∷ []) ∷ []
 
@@ -102,7 +102,7 @@ valid : (all validForm forms ≡ true) × (any validForm no-forms ≡ false)
 unfolding forms no-forms all any validForm ordered
 valid = (refl, refl)
 
--- the same `ab*` by arrays, with a third entry that says nothing
+-- the same `ab*` by arrays, with a third entry that means nothing
 unfoldable pub ab*-by-arrays : Automaton
 ab*-by-arrays =
     arrayed 2 false (1 ∷ 2 ∷ 9 ∷ []) (true ∷ false ∷ true ∷ []) (true ∷ true ∷ true ∷ [])

@@ -11,7 +11,7 @@ use Rattle.automaton.specs.Automaton.{Automaton}
 abbrev pub bit : Bool → ℕ
 bit b = cond b 1 0
 
--- The three kinds of word, each the sum of its fields; what no field names is 0. The kind stands in bits 28 to 31.
+-- The three kinds of word, each the sum of its fields; bits of no field are 0. The kind is in bits 28 to 31.
 -- head: L in bits 0 to 7, bit 8 set if the empty word is accepted, K in bits 16 to 23
 abbrev pub headWord : ℕ → Bool → ℕ → ℕ
 headWord l empty k = 1 * 2 ^ 28 + k * 2 ^ 16 + bit empty * 2 ^ 8 + l
@@ -46,7 +46,7 @@ source w = byte1 w
 abbrev pub target : ℕ → ℕ
 target w = byte0 w
 
--- L, K, the label of a letter, the words of the letters and the words behind them
+-- L, K, the label of a letter, the words of the letters and the words after them
 abbrev pub lettersOf : List ℕ → ℕ
 lettersOf f = byte0 (getD f 0 0)
 
@@ -66,7 +66,7 @@ arcWords f = drop (suc (lettersOf f)) f
 abbrev pub isHead : ℕ → Bool
 isHead w = eqb w (headWord (byte0 w) (bit8 w) (byte2 w)) && in-range 1 127 (byte0 w) && in-range 1 95 (byte2 w)
 
--- a letter over an alphabet of k
+-- a letter over an alphabet of k characters
 abbrev pub isLetter : ℕ → ℕ → Bool
 isLetter k w = eqb w (letterWord (byte0 w) (bit8 w) (bit9 w)) && in-range 1 k (byte0 w)
 
@@ -74,7 +74,7 @@ isLetter k w = eqb w (letterWord (byte0 w) (bit8 w) (bit9 w)) && in-range 1 k (b
 abbrev pub isArc : ℕ → ℕ → Bool
 isArc l w = eqb w (arcWord (source w) (target w)) && in-range 1 l (source w) && in-range 1 l (target w)
 
--- by source, then target
+-- in the order of source, then target
 abbrev pub before : ℕ → ℕ → Bool
 before w v = ltb (source w) (source v) || (eqb (source w) (source v) && ltb (target w) (target v))
 
@@ -83,7 +83,7 @@ ordered [] = true
 ordered (w ∷ []) = true
 ordered (w ∷ (v ∷ ws)) = before w v && ordered (v ∷ ws)
 
--- where the head is missing it reads as 0, which is no head; all words behind the letters are arcs
+-- a missing head counts as 0, which is no head; all words after the letters are arcs
 unfoldable pub validForm : List ℕ → Bool
 validForm f =
     isHead (getD f 0 0)
@@ -96,12 +96,12 @@ validForm f =
 abbrev pub leads : ℕ → ℕ → ℕ → Bool
 leads i j w = eqb (source w) i && eqb (target w) j
 
--- behind 0 the letters that may be first, behind a letter the targets of its arcs
+-- the letters that may be first follow 0, the targets of a letter's arcs follow the letter
 unfoldable pub followOf : List ℕ → ℕ → ℕ → Bool
 followOf f zero j = in-range 1 (lettersOf f) j && bit8 (getD f j 0)
 followOf f (suc i) j = any (leads (suc i) j) (arcWords f)
 
--- behind 0 if the empty word is accepted, behind a letter that may be last
+-- a word may end after 0 if the empty word is accepted, and after a letter that may be last
 unfoldable pub endsOf : List ℕ → ℕ → Bool
 endsOf f zero = bit8 (getD f 0 0)
 endsOf f (suc i) = leb (suc i) (lettersOf f) && bit9 (getD f (suc i) 0)
@@ -109,15 +109,15 @@ endsOf f (suc i) = leb (suc i) (lettersOf f) && bit9 (getD f (suc i) 0)
 abbrev pub view : List ℕ → Automaton
 view f = record { letters = lettersOf f; label = labelOf f; follow = followOf f; ends = endsOf f }
 
--- The form of an automaton over an alphabet of k.
+-- The form of an automaton over an alphabet of k characters.
 abbrev pub letterOf : Automaton → ℕ → ℕ
 letterOf A i = letterWord (A .label i) (A .follow 0 i) (A .ends i)
 
--- the arcs of a letter, by target
+-- the arcs of a letter, in the order of target
 abbrev pub arcsFrom : Automaton → ℕ → List ℕ
 arcsFrom A i = map (arcWord i) (keep (A .follow i) (numbers 1 (A .letters)))
 
--- the head, the letters by number, the arcs by source and then target
+-- the head, the letters in the order of number, the arcs in the order of source, then target
 unfoldable pub encode : ℕ → Automaton → List ℕ
 encode k A =
     headWord (A .letters) (A .ends 0) k

@@ -46,7 +46,7 @@ empty-accepted f = (there, λ e. ([], accepts-empty f ∙ e, refl))
     there ([], walk, e) = sym (accepts-empty f) ∙ walk
     there (j ∷ js, walk, e) = let z : _≡_ {A = ℕ} 0 1 = cc in absurd (omega arith)
 
--- of a form; in another list an arc may lead to what is no letter
+-- of a valid form; in another list an arc may lead to a number that is no letter
 module _ (f : List ℕ) (valid : validForm f ≡ true) where
   facts : Valid f
   facts = valid-at f valid

@@ -1,4 +1,4 @@
--- What laws ask of an automaton: arcs between its letters only.
+-- What laws ask of an automaton: its arcs lead to its letters, and these have labels of the alphabet.
 use Prim.Native.Nat.{ℕ, _≤_}
 use mathlib.Core.Path.{_≡_}
 use mathlib.Core.Bool.{true}

@@ -1,11 +1,11 @@
--- What a valid form says of its words, index by index, and of its automaton.
+-- What holds of the words of a valid form, index by index.
 use Prim.Native.Nat.{ℕ, _<_, _≤_}
 use mathlib.Core.List.{List}
 use lib.ListN.{length, getD}
 use Rattle.automaton.specs.Form.{lettersOf, alphabetOf}
 use Rattle.automaton.specs.Words.{Head, Letter, Arc}
 
--- a valid form, index by index
+-- the head, the letters and the arcs are well formed, and the arcs ascend
 pub record Valid (f : List ℕ) : Type 0 where
   pub head : Head (getD f 0 0)
   pub long : lettersOf f < length f

@@ -1,4 +1,4 @@
--- What a valid form says, word by word; its automaton is proper.
+-- What holds of the words of a valid form, from the test for it; and its automaton is proper.
 use Prim.Native.Nat.{ℕ, zero, suc, _+_, _-_, _<_, _≤_}
 use mathlib.Core.Path.{_≡_, refl, sym, ap, subst, _∙_}
 use mathlib.Core.Bool.{true, _&&_}
@@ -31,7 +31,7 @@ length-letterWords f h = length-take-le (lettersOf f) (drop 1 f) (omega (arith, 
 pub length-arcWords : (f : List ℕ) → length (arcWords f) ≡ length f - suc (lettersOf f)
 length-arcWords f = length-drop (suc (lettersOf f)) f
 
--- the order of neighbours is the order of all
+-- arcs ascend exactly if neighbours are in order
 pub ordered-ascending : (l : ℕ) (ws : List ℕ) → Each (Arc l) ws → ordered ws ≡ true → Ascending ws
 unfolding ordered
 ordered-ascending l [] arcs e = tt
@@ -48,7 +48,7 @@ ascending-ordered l (w ∷ []) arcs h = refl
 ascending-ordered l (w ∷ (v ∷ ws)) arcs h =
     and-both (before w v) (ordered (v ∷ ws)) (before-less l w v (arcs .0) (arcs .1 .0) ∙ lt-ltb w v (h .0 .0)) (ascending-ordered l (v ∷ ws) (arcs .1) (h .1))
 
--- the five parts of the test
+-- what the five parts of the test show
 pub record Parts (f : List ℕ) : Type 0 where
   pub head : Head (getD f 0 0)
   pub long : lettersOf f < length f
@@ -107,7 +107,7 @@ valid-at f e =
           omega (arith, arc-at f m past, arc-at f n (omega arith));
     }
 
--- an arc word that stands for the arc from i to j
+-- the word at an index is the arc from i to j
 pub record ArcAt (f : List ℕ) (i j : ℕ) : Type 0 where
   pub index : ℕ
   pub past : lettersOf f < index
@@ -160,7 +160,7 @@ pub accepts-empty : (f : List ℕ) → endsOf f 0 ≡ bit8 (getD f 0 0)
 unfolding endsOf
 accepts-empty f = refl
 
--- what is followed, and where a word ends, is a letter or 0
+-- a first letter is a letter, and a word ends after a letter or 0
 pub first-letter : (f : List ℕ) (j : ℕ) → followOf f 0 j ≡ true → (1 ≤ j) × (j ≤ lettersOf f)
 unfolding followOf
 first-letter f j h = range-true 1 (lettersOf f) j (and-left (in-range 1 (lettersOf f) j) (bit8 (getD f j 0)) h)

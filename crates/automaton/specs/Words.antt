@@ -1,4 +1,4 @@
--- The words of a form: what the test of each kind says, the order of arcs as that of numbers, and the fields of a word that was made
+-- The words of a form: what the test of each kind shows, the order of arcs as the order of numbers, and the fields of a word that was made
 -- of fields.
 use Prim.Native.Nat.{ℕ, _/_, _%_, _<_, _≤_}
 use mathlib.Core.Path.{_≡_}

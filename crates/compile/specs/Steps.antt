@@ -97,7 +97,7 @@ buildable A s h c =
       reads = c .reads;
       few = c .within;
       labelled = omega (arith, length-replicate {A = ℕ} 127 0);
-      rows = omega (arith, length-replicate 127 (replicate 127 false));
+      followers = omega (arith, length-replicate 127 (replicate 127 false));
       clear = no-arc 127 127;
     }
 

@@ -1,5 +1,5 @@
--- The check of a form as it goes through the list: a word put together again from its fields, the arcs each compared with the last,
--- and the five tests one behind another.
+-- The check of a form as it goes through the list: a word is put together again from its fields, each arc is compared with the one before,
+-- and the five tests are made one after another.
 use Prim.Native.Nat.{ℕ, suc, _+_, _-_, _*_, _/_, _%_, _<_, _≤_}
 use mathlib.Core.Path.{_≡_, refl, sym, ap, ap₂, _∙_}
 use mathlib.Core.Bool.{Bool, true, false, _&&_}
@@ -17,7 +17,7 @@ use Rattle.lists.specs.Lists.{all}
 use Rattle.automaton.specs.Form.{bit, bit8, bit9, byte0, byte2, headWord, letterWord, isHead, isLetter, isArc, before, ordered, validForm, lettersOf, alphabetOf, letterWords, arcWords}
 use Rattle.automaton.specs.Words.{Arc, arc-true, before-less}
 
--- a bit by its test
+-- the test of a bit, as a number, is the bit
 parity : (n : ℕ) → bit (eqb (n % 2) 1) ≡ n % 2
 parity n = by (eq-or-ne (n % 2) 1)
   where
@@ -31,12 +31,12 @@ head-sum w = omega (arith, parity (w / 0x100))
 pub letter-sum : (w : ℕ) → letterWord (byte0 w) (bit8 w) (bit9 w) ≡ 0x20000000 + w / 0x200 % 2 * 0x200 + w / 0x100 % 2 * 0x100 + byte0 w
 letter-sum w = omega (arith, parity (w / 0x100), parity (w / 0x200))
 
--- arcs, each behind the last
+-- arcs, each above the one before
 unfoldable pub behind : ℕ → ℕ → List ℕ → Bool
 behind l last [] = true
 behind l last (w ∷ ws) = isArc l w && ltb last w && behind l w ws
 
--- two tests of each element, one of them with what follows
+-- one pass that makes two tests gives what two passes of one test give
 both : (a b t x y z : Bool) → (a ≡ true → b ≡ t) → (a ≡ true → x ≡ (y && z)) → (a && t && x) ≡ ((a && y) && (b && z))
 both false b t x y z f g = refl
 both true true true x y z f g = g refl

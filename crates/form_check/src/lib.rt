@@ -21,7 +21,7 @@ fn is_head(w: u32) -> bool
     in_range(1, 95, k as usize)
 }
 
-// A letter over an alphabet of k?
+// Is the word a letter over an alphabet of k characters?
 fn is_letter(k: u32, w: u32) -> bool
     ensures { λ r. ⌜ r ≡ isLetter k w ⌝ }
 {
@@ -32,7 +32,7 @@ fn is_letter(k: u32, w: u32) -> bool
     in_range(1, k as usize, x as usize)
 }
 
-// An arc between two of l letters?
+// Is the word an arc between two of l letters?
 fn is_arc(l: u32, w: u32) -> bool
     ensures { λ r. ⌜ r ≡ isArc l w ⌝ }
 {

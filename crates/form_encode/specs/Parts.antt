@@ -1,4 +1,4 @@
--- The form of an automaton that is given by arrays, part by part as it is counted and written.
+-- The words of a form's letters, by the arrays that give its automaton.
 use Prim.Native.Nat.{ℕ, _-_}
 use mathlib.Core.Bool.{Bool}
 use mathlib.Core.List.{List, map}

@@ -1,4 +1,4 @@
--- The form of an automaton that is given by arrays, part by part.
+-- The head, letters and arcs that are written from arrays are the form of each automaton that the arrays tell.
 use Prim.Native.Nat.{ℕ, zero, suc, _-_, _≤_}
 use mathlib.Core.Path.{_≡_, refl, sym, ap, ap₂, _∙_}
 use mathlib.Core.Bool.{Bool, false, _&&_}
@@ -13,7 +13,7 @@ use Rattle.lists.specs.AscendingLaws.{numbers-among}
 use Rattle.lists.specs.RemainingLoops.{from, from-first}
 use Rattle.automaton.specs.Automaton.{Automaton}
 use Rattle.automaton.specs.Form.{headWord, letterWord, arcWord, letterOf, arcsFrom, encode}
-use Rattle.form_encode_arcs.specs.Rows.{rowBy, rowAt, arcsBy}
+use Rattle.form_encode_arcs.specs.Arcs.{letterArcs, letterArcsAt, arcsBy}
 use Rattle.automaton.specs.Arrays.{has, arrayed, Tells}
 use Rattle.form_encode.specs.Parts.{letterBy, lettersBy}
 
@@ -29,9 +29,9 @@ module _ (empty : Bool) (labels : List ℕ) (first last : List Bool) (follow : L
         ap (λ x. letterWord x (A .follow 0 j) (A .ends j)) (tells .label j low high)
         ∙ ap₂ (letterWord (getD labels (j - 1) 0)) (tells .begins j low high) (tells .ends j low high)
 
-    row-is : (i : ℕ) → 1 ≤ i → i ≤ A .letters → arcsFrom A i ≡ rowAt (A .letters) follow i
-    unfolding rowBy
-    row-is i low high =
+    letter-arcs-is : (i : ℕ) → 1 ≤ i → i ≤ A .letters → arcsFrom A i ≡ letterArcsAt (A .letters) follow i
+    unfolding letterArcs
+    letter-arcs-is i low high =
         ap (map (arcWord i))
         (keep-same (A .follow i) (has (getD follow (i - 1) [])) (numbers 1 (A .letters)) (λ j m.
         let r = numbers-among 1 (A .letters) j m in
@@ -46,11 +46,11 @@ module _ (empty : Bool) (labels : List ℕ) (first last : List Bool) (follow : L
         (map-same (letterOf A) (letterBy labels first last) (numbers 1 (A .letters)) (λ j m.
         let r = numbers-among 1 (A .letters) j m in
         letter-is j (r .0) (omega arith)))
-        (flat-same (arcsFrom A) (rowAt (A .letters) follow) (numbers 1 (A .letters)) (λ i m.
+        (flat-same (arcsFrom A) (letterArcsAt (A .letters) follow) (numbers 1 (A .letters)) (λ i m.
         let r = numbers-among 1 (A .letters) i m in
-        row-is i (r .0) (omega arith))))
+        letter-arcs-is i (r .0) (omega arith))))
 
-  -- they tell the automaton that they stand for
+  -- the arrays tell the automaton that they stand for
   module _ (l : ℕ) where
     inside : (i j : ℕ) (b : Bool) → i ≤ l → 1 ≤ j → j ≤ l → (leb i l && in-range 1 l j && b) ≡ b
     inside i j b g low high = rw (le-leb i l g, le-leb 1 j low, le-leb j l high)
@@ -80,6 +80,6 @@ module _ (empty : Bool) (labels : List ℕ) (first last : List Bool) (follow : L
     unfolding arrayed
     arrayed-words k = told-words (arrayed l empty labels first last follow) arrayed-tells k
 
-  -- so what is written of the arrays is the form of any automaton that they tell
+  -- so what is written from the arrays is the form of each automaton that they tell
   pub told-form : (k : ℕ) (A : Automaton) → Tells A empty labels first last follow → encode k (arrayed (A .letters) empty labels first last follow) ≡ encode k A
   told-form k A tells = arrayed-words (A .letters) k ∙ sym (told-words A tells k)

@@ -1,4 +1,4 @@
--- The whole form, written in three parts: the head, the letters from place 1 on, and the arcs behind them. And how long it is.
+-- The whole form, written in three parts: the head, the letters from place 1 on, and the arcs after them; and how long it is.
 use Prim.Native.Nat.{ℕ, _+_, _≤_}
 use mathlib.Core.Path.{_≡_, ap, subst, _∙_}
 use mathlib.Core.Bool.{Bool}
@@ -10,7 +10,7 @@ use Rattle.lists.specs.Lists.{numbers}
 use Rattle.lists.specs.FillingLoops.{Filling, filling-none, filling-more, filling-stored, filling-room, filling-all}
 use Rattle.lists.specs.Memory.{Stored, Wrote}
 use Rattle.automaton.specs.Form.{encode}
-use Rattle.form_encode_arcs.specs.Rows.{arcsBy}
+use Rattle.form_encode_arcs.specs.Arcs.{arcsBy}
 use Rattle.automaton.specs.Arrays.{arrayed}
 use Rattle.form_encode.specs.Parts.{letterBy, lettersBy}
 use Rattle.form_encode.specs.PartsLaws.{arrayed-words}

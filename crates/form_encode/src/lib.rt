@@ -30,7 +30,7 @@ fn letter_word(label: u8, first: bool, last: bool) -> u32
     narrow(0x20000000 + one_if(last) * 0x200 + one_if(first) * 0x100 + label as usize)
 }
 
-// Writes the letters from place 1 on; the next place.
+// Writes the letters from place 1 on and returns the next place.
 fn write_letters(
     letters: usize,
     labels: &[u8],
@@ -50,7 +50,7 @@ fn write_letters(
     letter
 }
 
-// Writes the form; its length.
+// Writes the form and returns its length.
 fn write_words(
     k: usize,
     letters: usize,

@@ -1,4 +1,4 @@
--- Sets of letters, a letter or an arc at a time.
+-- What one iteration of each loop over sets of letters marks, and how such sets decide whether a word is accepted.
 use Prim.Native.Nat.{ℕ, zero, suc, _+_, _<_, _≤_}
 use mathlib.Core.Path.{_≡_, refl, sym, ap, subst, _∙_}
 use mathlib.Core.Bool.{Bool, true, false}
@@ -25,6 +25,7 @@ use Rattle.form_sets.specs.Sets.{Enters, Advanced, EndsIn, noLetter, Lab
 abbrev pub SpellsFrom : Automaton → List Bool → List ℕ → Type 0
 SpellsFrom A set w = (i : ℕ) × Has set i × Spells A i w
 
+-- what the iteration of `advance` at i marks: what may follow i, if i is in the set
 abbrev pub Left : List ℕ → ℕ → List Bool → ℕ → ℕ → Type 0
 Left f x set i k = Has set i × Enters (view f) x i k
 
@@ -119,7 +120,7 @@ module _ (f : List ℕ) (x : ℕ) where
       by j (inl g) = absurd (has-none 128 j g)
       by j (inr q) = (q .0, q .3 .0, q .3 .1)
 
-  -- what a turn at i marks, if i is in the set, and if it is not
+  -- what the iteration at i marks, if i is in the set, and if it is not
   pub left-behind : (s u t : List Bool) (i : ℕ) → Has s i → Marks (Enters (view f) x i) u t → Marks (Left f x s i) u t
   left-behind s u t i h m = marks-same (Enters (view f) x i) (Left f x s i) u t (λ k q. (h, q)) (λ k q. q .1) m
 

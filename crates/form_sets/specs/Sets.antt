@@ -1,4 +1,4 @@
--- Sets of letters, 0 for 'no letter yet': what it means to take a set on by one label, and how this decides which words are accepted.
+-- Sets of letters, with 0 for 'no letter yet': what it means that a set was advanced by one label, and that a word may end in it.
 use Prim.Native.Nat.{ℕ}
 use mathlib.Core.Path.{_≡_}
 use mathlib.Core.Bool.{Bool, true, false}
@@ -8,17 +8,17 @@ use Rattle.lists.specs.Marks.{Has}
 use Rattle.automaton.specs.Automaton.{Automaton}
 use Rattle.automaton.specs.Form.{labelOf, view, target}
 
--- letter j has label x and may stand behind i
+-- letter j has label x and may follow i
 abbrev pub Enters : Automaton → ℕ → ℕ → ℕ → Type 0
 Enters A x i j = (A .follow i j ≡ true) × (A .label j ≡ x)
 
--- the letters of label x that may stand behind one of the set
+-- the letters with label x that may follow one of the set
 pub record Advanced (A : Automaton) (x : ℕ) (set next : List Bool) : Type 0 where
   pub size : length next ≡ 128
   pub reached : (i j : ℕ) → Has set i → Enters A x i j → Has next j
   pub only : (j : ℕ) → Has next j → (i : ℕ) × Has set i × Enters A x i j
 
--- a word may end behind one of the set
+-- a word may end after one of the set
 abbrev pub EndsIn : Automaton → List Bool → Type 0
 EndsIn A set = (i : ℕ) × Has set i × (A .ends i ≡ true)
 
@@ -26,7 +26,7 @@ EndsIn A set = (i : ℕ) × Has set i × (A .ends i ≡ true)
 abbrev pub noLetter : List Bool
 noLetter = true ∷ replicate 127 false
 
--- what one turn of each loop marks: letter j itself, letter j if it may be first, the target of the arc at n, what may stand behind i
+-- what is marked if it has label x: letter j, letter j if it may be first, the target of the arc at n
 abbrev pub Labelled : List ℕ → ℕ → ℕ → ℕ → Type 0
 Labelled f x j k = (k ≡ j) × (labelOf f k ≡ x)
 

@@ -1,4 +1,4 @@
-// Sets of letters, 0 for 'no letter yet': the set behind one label more, and whether a word may end there.
+// Sets of letters, with 0 for 'no letter yet': the set after one more label, and whether a word may end there.
 use form_words::label;
 use form_words::letters;
 use form_words::may_be_first;
@@ -36,7 +36,7 @@ fn mark_first(form: &[u32], x: usize, j: usize, set: &mut [bool; 128])
     }
 }
 
-// Marks the letters of label x that may be first.
+// Marks the letters with label x that may be first.
 fn mark_firsts(form: &[u32], x: usize, set: &mut [bool; 128])
     requires { ⌜ Valid (now form) × (length (now set) ≡ 128) ⌝ }
     ensures { λ _. ⌜ Marks (Enters (view (old form)) x 0) (old set) (new set) ⌝ }
@@ -49,7 +49,7 @@ fn mark_firsts(form: &[u32], x: usize, set: &mut [bool; 128])
     }
 }
 
-// Marks the targets of label x of the arcs from b up to e.
+// Marks the targets with label x of the arcs from b up to e.
 fn mark_targets(form: &[u32], x: usize, b: usize, e: usize, set: &mut [bool; 128])
     requires { ⌜ Valid (now form) × (length (now set) ≡ 128) × (lettersOf (now form) < b) × (b ≤ e) × (e ≤ length (now form)) ⌝ }
     ensures { λ _. ⌜ Marks (Iterations (Reached (old form) x) b e) (old set) (new set) ⌝ }
@@ -61,7 +61,7 @@ fn mark_targets(form: &[u32], x: usize, b: usize, e: usize, set: &mut [bool; 128
     }
 }
 
-// Marks the letters of label x that may stand behind i, whose arcs stand from b up to e.
+// Marks the letters with label x that may follow i, whose arcs are from b up to e.
 fn mark_behind(form: &[u32], x: usize, i: usize, b: usize, e: usize, set: &mut [bool; 128])
     requires { ⌜ Valid (now form) × (length (now set) ≡ 128) × StartsAt (now form) i b × StartsAt (now form) (i + 1) e ⌝ }
     ensures { λ _. ⌜ Marks (Enters (view (old form)) x i) (old set) (new set) ⌝ }
@@ -73,7 +73,7 @@ fn mark_behind(form: &[u32], x: usize, i: usize, b: usize, e: usize, set: &mut [
     mark_targets(form, x, b, e, set);
 }
 
-// The letters of label x that may stand behind one of the set.
+// The letters with label x that may follow one of the set.
 pub fn advance(form: &[u32], starts: &[usize], set: [bool; 128], x: usize) -> [bool; 128]
     requires { ⌜ Valid (now form) × ArcStarts (now form) (now starts) ⌝ }
     ensures { λ r. ⌜ Advanced (view (old form)) x set r ⌝ }
@@ -90,7 +90,7 @@ pub fn advance(form: &[u32], starts: &[usize], set: [bool; 128], x: usize) -> [b
     next
 }
 
-// May a word end behind one of the set?
+// May a word end after one of the set?
 pub fn some_may_end(form: &[u32], set: [bool; 128]) -> bool
     requires { ⌜ Valid (now form) ⌝ }
     ensures { λ r. ⌜ (r ≡ true) ↔ EndsIn (view (old form)) set ⌝ }

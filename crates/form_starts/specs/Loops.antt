@@ -1,4 +1,4 @@
--- Where arcs begin, an arc at a time.
+-- What one iteration of each loop of this crate shows of the starts; and that a letter's arcs are those from its start up to the next.
 use Prim.Native.Nat.{ℕ, _+_, _<_, _≤_}
 use mathlib.Core.Path.{_≡_, sym, subst}
 use mathlib.Core.Logic.{_⊎_, inl, inr}
@@ -22,7 +22,7 @@ below-more f n i m old new k l h = by (eq-or-ne k m)
     by (inl e) = subst (λ j. source (getD f j 0) < i) (sym e) new
     by (inr d) = old k l (omega arith)
 
--- the arcs of letter i stand where its own begin, up to where the next letter's begin
+-- the arcs of letter i are those from its start up to the start of the next letter
 module _ (f : List ℕ) (i b e : ℕ) (first : StartsAt f i b) (next : StartsAt f (i + 1) e) where
   pub range-source : (n : ℕ) → b ≤ n → n < e → source (getD f n 0) ≡ i
   range-source n l h =
@@ -59,7 +59,7 @@ module _ (f : List ℕ) (i b e : ℕ) (first : StartsAt f i b) (next : StartsAt 
 source-rises : (l w v : ℕ) → Arc l w → Arc l v → w < v → source w ≤ source v
 source-rises l w v a b h = omega arith
 
--- the loop over the letters: sources below i in front of n
+-- the loop over the letters: the arcs before n have sources below i
 abbrev pub Passed : List ℕ → ℕ → ℕ → Type 0
 Passed f i n = (lettersOf f < n) × (n ≤ length f) × ((m : ℕ) → lettersOf f < m → m < n → source (getD f m 0) < i)
 

@@ -1,4 +1,4 @@
-// Where each letter's arcs begin: they stand in the order of their sources.
+// Where each letter's arcs start: arcs are in the order of their sources.
 use form_words::letters;
 use form_words::source;
 ghost use Prim.Native.Nat.{_≤_};
@@ -7,7 +7,7 @@ ghost use Rattle.lists.specs.Memory.{old};
 ghost use Rattle.automaton.specs.Valid.{Valid};
 ghost use Rattle.form_starts.specs.Starts.{Skipped, ArcStarts};
 
-// From n on, the first index whose word has no source below i; the form's length if there is none.
+// The first index from n on whose word has no source below i; the form's length if there is none.
 fn skip_below(form: &[u32], n: usize, i: usize) -> usize
     requires { ⌜ n ≤ length (now form) ⌝ }
     ensures { λ r. ⌜ Skipped (old form) n i r ⌝ }
@@ -22,7 +22,7 @@ fn skip_below(form: &[u32], n: usize, i: usize) -> usize
     m
 }
 
-// Where each letter's arcs begin.
+// Where each letter's arcs start.
 pub fn arc_starts(form: &[u32]) -> [usize; 129]
     requires { ⌜ Valid (now form) ⌝ }
     ensures { λ r. ⌜ ArcStarts (old form) r ⌝ }

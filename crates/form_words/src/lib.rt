@@ -38,7 +38,7 @@ pub fn may_be_first(form: &[u32], j: usize) -> bool
     form[j] / 0x100 % 2 == 1
 }
 
-// May a word end behind letter i, or be empty if i is 0?
+// May a word end after letter i, or be empty if i is 0?
 pub fn may_end(form: &[u32], i: usize) -> bool
     requires { ⌜ (i ≤ lettersOf (now form)) × (lettersOf (now form) < length (now form)) ⌝ }
     ensures { λ r. ⌜ r ≡ endsOf (old form) i ⌝ }

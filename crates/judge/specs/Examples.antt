@@ -14,7 +14,7 @@ use Rattle.judge.specs.Judge.{judged}
 abbrev form : List ℕ
 form = 0x10020002 ∷ 0x20000301 ∷ 0x20000202 ∷ 0x30000102 ∷ 0x30000202 ∷ []
 
--- its last arc is missing a bit of its kind
+-- its last arc has the kind of a letter
 abbrev no-form : List ℕ
 no-form = 0x10020002 ∷ 0x20000301 ∷ 0x20000202 ∷ 0x30000102 ∷ 0x20000202 ∷ []
 
@@ -37,7 +37,7 @@ record Examples : Type 0 where
   over-characters :
       map (λ x. judged one-letter (x ∷ [])) (1 ∷ 2 ∷ 3 ∷ []) ++ map (λ x. judged one-character (1 ∷ x ∷ [])) (1 ∷ 2 ∷ [])
       ≡ passed false ∷ passed true ∷ refused Label ∷ passed true ∷ refused Label ∷ []
-  -- 11 before 17
+  -- refusal 11 before refusal 17
   both : judged no-form (3 ∷ []) ≡ refused BadForm
 
 examples : Examples

@@ -1,5 +1,5 @@
--- What the call Judge makes of a form and a word: accepted or not, or the refusal that applies (document 01, "What is turned away",
--- rows 11 and 17).
+-- What the call Judge answers for a form and a word: accepted or not, or the refusal that applies (document 01, "What is turned away",
+-- refusals 11 and 17).
 use Prim.Native.Nat.{ℕ}
 use mathlib.Core.Bool.{Bool, not}
 use mathlib.Core.List.{List, [], _∷_}

@@ -1,4 +1,4 @@
--- What Judge promises, in the words of document 01: accepted exactly if a walk spells the word.
+-- What Judge promises, as document 01 says it: a word is accepted exactly if a walk spells it.
 use Prim.Native.Nat.{ℕ, _≤_}
 use mathlib.Core.Path.{_≡_, refl, ap, _∙_}
 use mathlib.Core.Bool.{Bool, true, false, not}

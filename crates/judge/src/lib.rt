@@ -32,7 +32,7 @@ fn accepts(form: &[u32], word: &[u8]) -> bool
     some_may_end(form, set)
 }
 
-// Document 01's judging of a word: whether the form accepts it.
+// The call: whether the form accepts the word, or the refusal that applies.
 pub fn judge(form: &[u32], word: &[u8]) -> Judged
     ensures { λ r. ⌜ reported r ≡ report (judged (old form) (old word)) ⌝ }
 {

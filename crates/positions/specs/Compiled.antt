@@ -1,4 +1,4 @@
--- The compiled form of a tree (document 01, "Opening and the compiled form"): it is valid, and stands for the tree's words.
+-- The compiled form of a tree: that of its automaton (document 01, "Opening and the compiled form").
 use Prim.Native.Nat.{ℕ}
 use mathlib.Core.List.{List}
 use lib.ListN.{length}

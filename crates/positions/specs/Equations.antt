@@ -1,5 +1,5 @@
--- The numbered letters part by part, as equations: for each shape, for a set of labels as a whole, and for a repetition copy by copy;
--- and what a repetition keeps.
+-- Equations for numbered letters: how many a joining and an alternation have, a set of labels as a whole, and a repetition copy by copy.
+-- A property that each shape keeps holds of a repetition.
 use Prim.Native.Nat.{ℕ, zero, suc, _+_, _-_, _≤_, _<_}
 use mathlib.Core.Path.{_≡_, refl, sym}
 use mathlib.Core.Logic.{_⊎_, inl, inr}
@@ -22,14 +22,14 @@ pub letters-alternation : (r s : Opened) → letters (alternation r s) ≡ lette
 unfolding labels
 letters-alternation r s = length-append (labels r) (labels s)
 
--- the same letters, first, last and arcs
+-- the same empty word, first letters, last letters and arcs
 pub record Same (p q : Positions) : Type 0 where
   pub nullable : p .nullable ≡ q .nullable
   pub first : (i : ℕ) → p .first i ≡ q .first i
   pub last : (i : ℕ) → p .last i ≡ q .last i
   pub follow : (i j : ℕ) → p .follow i j ≡ q .follow i j
 
--- the empty word behind a part changes nothing
+-- the empty word after a part changes nothing
 pub joined-empty : (n : ℕ) (r : Opened) → Same (numbered n (joining r empty)) (numbered n r)
 unfolding numbered
 joined-empty n r =
@@ -100,7 +100,7 @@ pub onward-none : (r : Opened) → repeated r (onward 0) ≡ star r
 unfolding repeated
 onward-none r = refl
 
--- What each shape keeps, a repetition keeps.
+-- A property that each shape keeps holds of a repetition.
 pub record Kept (Q : Opened → Type 0) : Type 0 where
   pub joins : (r s : Opened) → Q r → Q s → Q (joining r s)
   pub optionals : (r : Opened) → Q r → Q (optional r)

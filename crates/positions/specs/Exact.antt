@@ -65,7 +65,7 @@ labelled-right label n l m h i d =
     let e : n + length l + i ≡ n + (length l + i) = omega arith in
     ap label e ∙ h (length l + i) (rw (length-append l m) (omega arith)) ∙ getD-append-add l m i 0
 
--- any number of words joined: none, or one and more
+-- any number of words joined: none, or at least one
 none-or-more : (P : List ℕ → Type 0) (w : List ℕ) → ((w ≡ []) ⊎ ((k : ℕ) × Joined P (suc k) w)) ↔ ((k : ℕ) × Joined P k w)
 none-or-more P w = (⊎-elim (λ e. (0, e)) (λ h. (suc (h .0), h .1)), λ h. by (h .0) (h .1))
   where
@@ -104,7 +104,7 @@ accepts-opened r = opened-exact (letters r) (labelAt r) 1 r (omega arith) (λ i 
 pub accepts-words : (A : List ℕ) (t : Tree) → Sensible A t → (w : List ℕ) → Accepts (automatonOf A t) w ↔ Words A t w
 accepts-words A t o w = Iff·trans (accepts-opened (opened A t) w) (Iff·symm (opening-keeps-words A t o w))
 
--- Each label is one of the alphabet's.
+-- the label is one of the alphabet's
 abbrev Named : List ℕ → ℕ → Type 0
 Named A x = (1 ≤ x) × (x ≤ length A)
 

@@ -51,10 +51,10 @@ abbrev abc : List ℕ
 abc = code "a" ∷ code "b" ∷ code "c" ∷ []
 
 record Examples : Type 0 where
-  -- the document's `ab*`, as it compiles and part by part
+  -- document 01's `ab*`, compiled and part by part
   compiled : formOf ab (join a (any b)) ≡ 0x10020002 ∷ 0x20000301 ∷ 0x20000202 ∷ 0x30000102 ∷ 0x30000202 ∷ []
   star-behind : over ab (join a (any b)) ≡ letters (1 ∷ 2 ∷ []) false (1 ∷ []) (1 ∷ 2 ∷ []) ((2 ∷ []) ∷ (2 ∷ []) ∷ [])
-  -- `(ab)*` accepts the empty word; `(a|b)*`: arcs by source and then by target
+  -- `(ab)*` accepts the empty word; `(a|b)*`: arcs in the order of source, then target
   compiled-nullable : formOf ab (any (group (join a b))) ≡ 0x10020102 ∷ 0x20000101 ∷ 0x20000202 ∷ 0x30000102 ∷ 0x30000201 ∷ []
   compiled-either :
       formOf ab (any (group (either a b)))
@@ -67,7 +67,7 @@ record Examples : Type 0 where
   star-of-joining : over ab (any (group (join a b))) ≡ letters (1 ∷ 2 ∷ []) true (1 ∷ []) (2 ∷ []) ((2 ∷ []) ∷ (1 ∷ []) ∷ [])
   -- `ab?c`: an arc over the b
   over-optional : over abc (join a (join (maybe b) c)) ≡ letters (1 ∷ 2 ∷ 3 ∷ []) false (1 ∷ []) (3 ∷ []) ((2 ∷ 3 ∷ []) ∷ (3 ∷ []) ∷ [] ∷ [])
-  -- `(a?b?)+`: every letter behind every letter
+  -- `(a?b?)+`: every letter may follow every letter
   round : over ab (some (group (join (maybe a) (maybe b)))) ≡ letters (1 ∷ 2 ∷ []) true (1 ∷ 2 ∷ []) (1 ∷ 2 ∷ []) ((1 ∷ 2 ∷ []) ∷ (1 ∷ 2 ∷ []) ∷ [])
   -- `a{2}`, `a{2,}`: an arc between the copies, and one back
   twice : over ab (times a (between 2 2)) ≡ letters (1 ∷ 1 ∷ []) false (1 ∷ []) (2 ∷ []) ((2 ∷ []) ∷ [] ∷ [])

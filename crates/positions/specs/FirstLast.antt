@@ -1,5 +1,5 @@
--- A letter may be first, or last, exactly if some word so begins, or ends, there (document 01, "Opening and the compiled form"), a word
--- being written by the numbers of its letters, and each set having a label.
+-- A letter may be first exactly if some word begins with it, and last exactly if some word ends with it (document 01, "Opening and the
+-- compiled form"). Words are written by the numbers of their letters, and each set has a label.
 -- For the reader: nothing uses it.
 use Prim.Native.Nat.{ℕ, zero, suc, _+_, _≤_}
 use mathlib.Core.Path.{_≡_, refl, sym, ap}
@@ -22,7 +22,7 @@ use Rattle.positions.specs.Inside.{Inside, goes-to}
 use Rattle.positions.specs.Exact.{numbered-inside}
 use Rattle.positions.specs.Marked.{marked, self, walks, word-walks}
 
--- There is some word; and there is one of each part that is joined to another.
+-- the expression has a word
 abbrev pub Some : Opened → Type 0
 Some (letter a) = Unit {0}
 Some (joining r s) = Some r × Some s
@@ -33,6 +33,7 @@ Some (plus r) = Some r
 Some empty = Unit {0}
 Some never = ⊥
 
+-- each part that is joined to another has a word
 abbrev pub Useful : Opened → Type 0
 Useful (letter a) = Unit {0}
 Useful (joining r s) = Useful r × Useful s × Some r × Some s
@@ -63,7 +64,7 @@ some-word n never h = absurd h
 empty-word : (n : ℕ) (r : Opened) → 1 ≤ n → numbered n r .nullable ≡ true → OpenedWords (marked n r) []
 empty-word n r l h = walks n r l [] .0 ([], h, refl)
 
--- the words that begin, and that end, with a letter
+-- some word begins, or ends, with letter i
 abbrev pub Begun : ℕ → Opened → ℕ → Type 0
 Begun n r i = (w : List ℕ) × OpenedWords (marked n r) (i ∷ w)
 
@@ -112,7 +113,7 @@ last-ends n (plus r) l u i h = let x = last-ends n r l u i h in (x .0, (0, once 
 last-ends n empty l u i h = absurd (not-both false h refl)
 last-ends n never l u i h = absurd (not-both false h refl)
 
--- conversely, by the walk that such a word is
+-- conversely: such a word is a walk
 walk-ends : (n m : ℕ) (p : Positions) → 1 ≤ n → Inside n m p → (k i : ℕ) (js : List ℕ) → Walk (assembled 0 self p) k (js ++ (i ∷ [])) → p .last i ≡ true
 walk-ends n m p l x k zero [] h = let z = goes-to x k 0 (h .0) in absurd (omega arith)
 walk-ends n m p l x k (suc i) [] h = h .1

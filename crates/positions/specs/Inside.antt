@@ -1,5 +1,5 @@
--- Where the letters of an opened expression lie, and so what a joining and an alternation do at a letter of each part: the letters of
--- the two parts are numbered apart.
+-- Which numbers the letters of an opened expression have. Two parts share no number, so it is known what a joining and an alternation do at
+-- a letter of each part.
 use Prim.Native.Nat.{ℕ, zero, suc, _+_, _≤_, _<_}
 use mathlib.Core.Path.{_≡_, refl, sym, _∙_}
 use mathlib.Core.Logic.{⊎-elim}
@@ -16,7 +16,7 @@ pub record Inside (n m : ℕ) (p : Positions) : Type 0 where
   pub source : (i j : ℕ) → p .follow i j ≡ true → (n ≤ i) × (i < m)
   pub target : (i j : ℕ) → p .follow i j ≡ true → (n ≤ j) × (j < m)
 
--- Positions that agree at some states, which arcs do not leave, have the same walks from there.
+-- p and q agree on the states in D, which no arc leaves: so they have the same walks from there.
 pub record Agree (D : ℕ → Type 0) (p q : Positions) : Type 0 where
   pub ends : (i : ℕ) → D i → ending p i ≡ ending q i
   pub arcs : (i j : ℕ) → D i → behind p i j ≡ behind q i j
@@ -27,7 +27,7 @@ pub goes-to : {n m : ℕ} {p : Positions} → Inside n m p → (i j : ℕ) → b
 goes-to x zero j h = x .first j h
 goes-to x (suc i) j h = x .target (suc i) j h
 
--- Where the letters lie.
+-- The numbers of the letters, shape by shape.
 pub inside-bare : (n : ℕ) (e : Bool) → Inside n n (bare e)
 inside-bare n e = record {
   first = λ i h. absurd (not-both false h refl);
@@ -55,7 +55,7 @@ inside-again {p = p} x = record {
   target = λ i j h. ⊎-elim (x .target i j) (λ e. x .first j (and-right (p .last i) (p .first j) e)) (or-either (p .follow i j) (p .last i && p .first j) h);
 }
 
--- At each state a repeated part goes on in itself, or from where it may end to where it begins.
+-- From each state a repeated part goes on within itself, or from where it may end to a first letter.
 pub again-ends : (p : Positions) (i : ℕ) → ending (again p) i ≡ ending p i
 again-ends p zero = refl
 again-ends p (suc i) = refl

@@ -1,4 +1,4 @@
--- A tree opens into as many letters as it counts (document 01, "Opening and the compiled form").
+-- A tree opens into as many letters as `letterCount` says (document 01, "Opening and the compiled form").
 use Prim.Native.Nat.{ℕ, zero, suc, _+_, _-_, _*_}
 use mathlib.Core.Path.{_≡_, refl, sym, ap, _∙_}
 use mathlib.Core.Bool.{cond}
@@ -15,7 +15,7 @@ use Rattle.regex.specs.OwnCounts.{InRange}
 use Rattle.regex.specs.Sense.{Sensible}
 use Rattle.positions.specs.Opened.{Opened, plus, labelsIn, anyOf, copies, nested, repeated, opened, labels, letters}
 
--- the labels of a set, where the first character is label y
+-- the labels of a set are counted, where the first character has label y
 pub labels-counted : (y : ℕ) (A : List ℕ) (c : Set) → length (keep (λ x. member c (getD A (x - y) 0)) (numbers y (length A))) ≡ labelsOf A c
 unfolding keep numbers labelsOf
 labels-counted y [] c = refl

@@ -39,7 +39,7 @@ marked-letters n (plus r) = marked-letters n r
 marked-letters n empty = refl
 marked-letters n never = refl
 
--- the labels do not matter to the positions
+-- positions do not depend on labels
 marked-numbered : (n : ℕ) (r : Opened) → numbered n (marked n r) ≡ numbered n r
 unfolding marked numbered
 marked-numbered n (letter a) = refl

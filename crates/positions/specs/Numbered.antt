@@ -1,5 +1,5 @@
 -- The letters of an opened expression numbered from left to right: which may be first, which last, and which arcs lead from letter to
--- letter; and the automaton that they make (document 01, "Opening and the compiled form").
+-- letter; and the automaton of these letters (document 01, "Opening and the compiled form").
 use Prim.Native.Nat.{ℕ, zero, suc, _+_, _-_}
 use mathlib.Core.Bool.{Bool, true, false, _&&_, _||_}
 use mathlib.Core.List.{List}
@@ -9,8 +9,8 @@ use Rattle.automaton.specs.Automaton.{Automaton}
 use Rattle.regex.specs.Tree.{Tree}
 use Rattle.positions.specs.Opened.{Opened, letter, joining, alternation, optional, star, plus, empty, never, opened, labels, letters}
 
--- whether the empty word is a word; whether a letter may be first, or last, in a word (exactly if some word so begins, or ends, there:
--- FirstLast.antt); whether an arc leads from a letter to another
+-- whether the empty word is a word; whether a letter may be first, or last, in a word (exactly if some word begins, or ends, with it:
+-- FirstLast.antt); whether an arc leads from one letter to another
 pub record Positions : Type 0 where
   pub nullable : Bool
   pub first : ℕ → Bool
@@ -62,7 +62,7 @@ numbered n (plus r) = again (numbered n r)
 numbered n empty = bare true
 numbered n never = bare false
 
--- The letters that may stand behind letter i, or behind 0 if no letter has been yet; and whether a word may end there.
+-- Whether letter j may follow letter i, or be first if i is 0; and whether a word may end after letter i, or be empty if i is 0.
 abbrev pub behind : Positions → ℕ → ℕ → Bool
 behind p zero j = p .first j
 behind p (suc i) j = p .follow (suc i) j

@@ -1,4 +1,4 @@
--- An opened expression, its set of words, and how the tree of an expression opens (document 01, "Opening and the compiled form").
+-- Opened expressions, their letters, and how the tree of an expression opens (document 01, "Opening and the compiled form").
 use Prim.Native.Nat.{ℕ, zero, suc, _-_}
 use mathlib.Core.List.{List, [], _∷_, _++_}
 use lib.ListN.{length, getD}
@@ -61,6 +61,6 @@ labels (plus r) = labels r
 labels empty = []
 labels never = []
 
--- how many letters
+-- the number of letters
 abbrev pub letters : Opened → ℕ
 letters r = length (labels r)

@@ -1,4 +1,4 @@
--- The words of an opened expression.
+-- Which words an opened expression has, by its shape.
 use Prim.Native.Nat.{ℕ, suc}
 use mathlib.Core.Path.{_≡_}
 use mathlib.Core.Logic.{_⊎_}

@@ -1,4 +1,4 @@
--- Opening keeps the set of words.
+-- Opening a tree keeps its set of words.
 use Prim.Native.Nat.{ℕ, zero, suc, _+_, _-_, _≤_}
 use mathlib.Core.Path.{_≡_, refl, ap}
 use mathlib.Core.Logic.{inl, inr, _↔_}
@@ -42,12 +42,12 @@ label-among A c x h =
 among-label : (A : List ℕ) (c : Set) (x : ℕ) → 1 ≤ x → x ≤ length A → member c (getD A (x - 1) 0) ≡ true → Among x (labelsIn A c)
 among-label A c x l h e = among-keep (λ y. member c (getD A (y - 1) 0)) x (numbers 1 (length A)) (among-numbers 1 (length A) x l (omega arith)) e
 
--- Repetitions. Words of one set joined are words of a larger one joined.
+-- Repetitions. Joined words of a set are joined words of each larger set.
 joined-map : (P Q : List ℕ → Type 0) → ((w : List ℕ) → P w → Q w) → (k : ℕ) (w : List ℕ) → Joined P k w → Joined Q k w
 joined-map P Q f zero w h = h
 joined-map P Q f (suc k) w h = (h .0, h .1, h .2, f (h .0) (h .3), joined-map P Q f k (h .1) (h .4))
 
--- If each word of r is in P, each word of a repetition is that number of words of P joined; C tells the numbers that t has.
+-- If each word of r is in P, each word of a repetition is an allowed number of words of P joined; C holds of the numbers allowed for t.
 module _ (r : Opened) (P : List ℕ → Type 0) (out : (w : List ℕ) → OpenedWords r w → P w) where
   copies-out :
       (t : Opened) (C : ℕ → Type 0) → ((v : List ℕ) → OpenedWords t v → (j : ℕ) × C j × Joined P j v)

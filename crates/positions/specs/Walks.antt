@@ -20,7 +20,7 @@ module _ (c : ℕ) (label : ℕ → ℕ) where
   abbrev Says : Positions → List ℕ → Type 0
   Says p w = Accepts (assembled c label p) w
 
-  -- the words that positions spell are those of a set
+  -- the words that the positions p spell are those of the set W
   abbrev pub Exact : Positions → (List ℕ → Type 0) → Type 0
   Exact p W = (w : List ℕ) → Says p w ↔ W w
 
@@ -205,7 +205,7 @@ module _ (c : ℕ) (label : ℕ → ℕ) where
           let g = again-in k (h .1) (h .4) in
           again-more w (h .0) (h .1) (h .2) (f (h .0) .1 (h .3)) (g .0, perhaps-walk one (inside-again x) (g .0) (g .1), g .2)
 
-      -- a walk of a repeated part, cut where it begins again: words of the part joined are what it spells from there
+      -- a walk of a repeated part, cut where the part first begins again: from there it spells words of the part joined
       pub record Round (i : ℕ) (js : List ℕ) : Type 0 where
         pub left : List ℕ
         pub right : List ℕ

@@ -1,1 +1,1 @@
-// An expression opened, its letters numbered, and its automaton, as definitions and laws: see specs/.
+// How an expression is opened, how its letters are numbered, and its automaton: definitions and laws, in specs/.

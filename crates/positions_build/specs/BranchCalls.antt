@@ -1,4 +1,5 @@
--- What each call in `alternation` and `branch` needs and what each return says, from the parts that were built before it.
+-- The calls and returns of `alternation` and `branch`: given the parts built before, what each call requires holds, and each return meets
+-- the contract.
 use mathlib.Core.Path.{_≡_, refl, ap, _∙_}
 use mathlib.Core.Logic.{_⊎_, inl, inr}
 use mathlib.Core.List.{List}
@@ -27,11 +28,11 @@ use Rattle.positions_build.specs.Made.{Two, alternation-alone, alternati
 use Rattle.positions_build.specs.Pieces.{piece-counted}
 
 module _ (A text : List ℕ) where
-  -- how many letters a part has that was read
+  -- the number of letters of a part that was parsed
   abbrev many : Parsing Tree → ℕ
   many x = length (labels (opened A (treeOf x)))
 
-  -- a part that was read, as it was built
+  -- the parsed part x was built
   abbrev BuildsParsed : ℕ → Parsing Tree → List (List Bool) → List (List Bool) → List ℕ → List ℕ → Built → Type 0
   BuildsParsed n x f g old new a = Builds n (opened A (treeOf x)) (place text (restOf x)) f g old new a
 
@@ -99,7 +100,7 @@ module _ (A text : List ℕ) where
               either-builds (parse A m-branch d (drop at text)) (parse A m-alternation d (drop (a .end + 1) text)) (parse A m-alternation d (drop at text)) u
               (alternation-more A text d at p (a .end) (u .ends) k) v c
 
-  -- A piece, of which no copy has been built.
+  -- A piece before its first copy is built.
   module _ (d at : ℕ) (p : PartAt A text m-piece d at) where
     whole-piece : Alike (leftAt A text d at 0) (openedAt A text m-piece d at)
     whole-piece =

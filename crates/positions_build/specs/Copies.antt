@@ -1,4 +1,4 @@
--- A repetition copy by copy: what is left of it behind some copies, and what the next copy adds (document 01, "Opening and the compiled
+-- A repetition copy by copy: what is left of it after some copies, and what the next copy adds (document 01, "Opening and the compiled
 -- form").
 use Prim.Native.Nat.{ℕ, zero, suc, _+_, _-_, _≤_, _<_}
 use mathlib.Core.Path.{_≡_, refl, sym, _∙_}
@@ -18,7 +18,7 @@ use Rattle.positions.specs.Equations.{Same, between-none, between-needed, betwe
 use Rattle.positions_letters.specs.Copies.{leastOf, isOnward}
 use Rattle.positions_build.specs.Places.{fewer}
 
--- r or nothing, where it may be spared; r once or more, where it goes onward
+-- `spared`: r or nothing if the flag is true; `looped`: r once or more if the flag is true
 unfoldable pub spared : Bool → Opened → Opened
 spared true r = optional r
 spared false r = r
@@ -75,7 +75,7 @@ alike-star : (r : Opened) → Alike (optional (plus r)) (star r)
 unfolding labels numbered
 alike-star r = record { labelled = refl; numbers = λ n. record { nullable = refl; first = λ i. refl; last = λ i. refl; follow = λ i j. refl } }
 
--- a repetition opens into 255 copies at most
+-- a repetition opens into at most 255 copies
 pub copies-few : (c : Count) → InRange c → copiesOf c ≤ 255
 copies-few (between n m) o = o .2
 copies-few (onward zero) o = omega arith
@@ -89,7 +89,7 @@ fewer-none (between n m) =
 fewer-none (onward n) = let x : n - 0 ≡ n = omega arith in rw x
 
 module _ (r : Opened) where
-  -- once
+  -- one copy
   pub one-copy : Alike (repeated r (between 1 1)) r
   one-copy = rw (between-needed r 0 0, between-none r) (alike-empty r)
 
@@ -113,7 +113,7 @@ module _ (r : Opened) where
       let z : suc n - k ≡ 1 = omega arith in
       rw (lt-leb (suc n) k (omega arith), z, onward-one r) (alike-by (plus r) (plus r) refl)
 
-  -- a copy that others follow
+  -- a copy that is not the last
   pub next-copy : (c : Count) (k : ℕ) → k + 1 < copiesOf c → repeated r (fewer c k) ≡ spared (leb (leastOf c) k) (joining r (repeated r (fewer c (k + 1))))
   unfolding spared
   next-copy (between n m) k l = by (lt-or-le k n)

@@ -23,7 +23,7 @@ ab = bytes "ab"
 abbrev a : Opened
 a = alternation (letter 1) never
 
--- in `b(a|b){2,}` a piece ends behind its repetition, a group before it
+-- in `b(a|b){2,}` a piece ends after its repetition, a group before it
 piece-ends : endAt ab (bytes "b(a|b){2,}") m-piece 16 1 ≡ 10
 unfolding parse go step grouped then labelled-set a-set first-of labelsOf repetition sign enclosed split counts comma from-on number provided
 piece-ends = refl
@@ -40,7 +40,7 @@ counts-one : countAt ab (bytes "ab") 16 0 ≡ between 1 1
 unfolding parse go step then labelled-set a-set first-of labelsOf counted
 counts-one = refl
 
--- `a{1,3}` behind one copy is `(a(a)?)?`, and `a{2,}` is `a+`
+-- after one copy `(a(a)?)?` is left of `a{1,3}`, and `a+` of `a{2,}`
 two-spare : leftAt ab (bytes "a{1,3}") 16 0 1 ≡ optional (joining a (optional (joining a empty)))
 unfolding parse go step then labelled-set a-set first-of labelsOf repetition sign enclosed split counts comma from-to number provided counted opened anyOf keep numbers repeated copies nested
 two-spare = refl
@@ -49,7 +49,7 @@ one-onward : leftAt ab (bytes "a{2,}") 16 0 1 ≡ plus a
 unfolding parse go step then labelled-set a-set first-of labelsOf repetition sign enclosed split counts comma from-on number provided counted opened anyOf keep numbers repeated copies
 one-onward = refl
 
--- the branch behind the first piece of `aa`
+-- the branch after the first piece of `aa`
 second : openedAt ab (bytes "aa") m-branch 16 1 ≡ a
 unfolding parse go step then labelled-set a-set first-of labelsOf opened anyOf keep numbers
 second = refl

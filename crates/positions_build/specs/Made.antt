@@ -1,4 +1,4 @@
--- A part of the text that was read from a place on; and what alternations and branches are made of, by the steps of their reading.
+-- A part that was parsed from a place of the text on; and the parts that make an alternation or a branch, by the steps of the parser.
 use mathlib.Core.Path.{_≡_, refl, sym, ap, subst, _∙_}
 use mathlib.Core.List.{List, []}
 use mathlib.Core.Bool.{Bool, true, false}
@@ -38,7 +38,7 @@ two g a b x e h = subst (Two g a b) (sym e) (by b (ap is-found (sym e) ∙ h))
     by (fault n r) h = not-found h
 
 module _ (A text : List ℕ) where
-  -- a part that was found from a place on
+  -- a part was found from a place on: where it ends, and that its tree makes sense
   pub record Reading (at : ℕ) (x : Parsing Tree) : Type 0 where
     pub is : x ≡ found (treeOf x) (drop (place text (restOf x)) text)
     pub rests : restOf x ≡ drop (place text (restOf x)) text
@@ -65,7 +65,7 @@ module _ (A text : List ℕ) where
           }
       by (fault n r) k h = not-found h
 
-  -- What goes on, by f, behind a part that was found.
+  -- A part was found, and f goes on after it.
   module _ (m : Mode) (d at : ℕ) (f : Tree → List ℕ → Parsing Tree) (x : Parsing Tree) (s : x ≡ then (parse A m d (drop at text)) f) (h : is-found x ≡ true) where
     pub first-found : PartAt A text m d at
     first-found = then-first f (parse A m d (drop at text)) (ap is-found (sym s) ∙ h)

@@ -1,4 +1,5 @@
--- What each call in `piece` and `group` needs and what each return says, from the parts that were built before it.
+-- The calls and returns of `piece` and `group`: given the parts built before, what each call requires holds, and each return meets the
+-- contract.
 use mathlib.Core.Path.{_≡_, refl, sym, ap, subst, _∙_}
 use mathlib.Core.Logic.{_⊎_, inl, inr}
 use mathlib.Core.List.{List}
@@ -41,7 +42,7 @@ looped-letters true r = refl
 looped-letters false r = refl
 
 module _ (A text : List ℕ) where
-  -- What is left of a piece behind k copies.
+  -- What is left of a piece after k copies.
   module _ (d at : ℕ) (p : PartAt A text m-piece d at) (k : ℕ) where
     pub few-copies : copiesOf (countAt A text d at) ≤ 255
     few-copies = copies-few (countAt A text d at) (piece-counted A text d at p .range)
@@ -78,7 +79,7 @@ module _ (A text : List ℕ) where
             let e = u .ends in
             (omega arith, rw e (piece-counted A text d at p .counts))
 
-        -- the count that was read
+        -- the count that was parsed
         module _ (c : Copies) (z : c ≡ copiesBy text (counted (drop (a .end) text))) where
           is : c ≡ copiesBy text (counted (drop (endAt A text m-group d at) text))
           is = z ∙ ap (λ e. copiesBy text (counted (drop e text))) (u .ends)

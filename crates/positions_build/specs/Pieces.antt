@@ -1,4 +1,4 @@
--- What a piece and a group are made of, by the steps of their reading: copies of a group, a set, or an alternation in parentheses.
+-- What a piece and a group are made of, by the steps of the parser: copies of a group, a set, or an alternation in parentheses.
 use mathlib.Core.Path.{_≡_, refl, sym, ap, subst, _∙_}
 use mathlib.Core.List.{List}
 use mathlib.Core.Bool.{Bool, true, false}
@@ -34,7 +34,7 @@ module _ (A text : List ℕ) where
   abbrev repeating : Bool → Tree → List ℕ → Parsing Tree
   repeating b t s = elim b [ true ↦ then (repetition s) (λ c r. found (times t c) r) | false ↦ found t s ]
 
-  -- x is the tree t, repeated as the count says that was read
+  -- x is the tree t, repeated as the parsed count y says
   pub record Counted (t : Tree) (y : Parsing Count) (x : Parsing Tree) : Type 0 where
     pub counts : is-found y ≡ true
     pub range : InRange (countOf y)
@@ -91,7 +91,7 @@ module _ (A text : List ℕ) where
   abbrev labelled : List ℕ → Parsing Set → Parsing Tree
   labelled s y = then (then y (λ c r. judged s (eqb (labelsOf A c) 0) c r)) (λ c r. found (set c) r)
 
-  -- x is the set that was read
+  -- x is the parsed set y
   pub record IsSet (y : Parsing Set) (x : Parsing Tree) : Type 0 where
     pub there : is-found y ≡ true
     pub is : x ≡ found (set (setOf y)) (restOf y)

@@ -1,4 +1,4 @@
--- The part of a text that is read at a place, where one is.
+-- The part that is parsed at a place of a text, if there is one: its tree, its end and how it opens; and the room to build it.
 use mathlib.Core.Path.{_≡_}
 use mathlib.Core.List.{List}
 use mathlib.Core.Bool.{true, Bool}
@@ -11,14 +11,14 @@ use Rattle.text.specs.Text.{place}
 use Rattle.regex_bracket.specs.Answers.{is-found}
 use Rattle.positions_letters.specs.Found.{restOf, treeOf, countOf, counted}
 
--- what a count asks behind k words
+-- what a count still asks for after k words
 abbrev pub fewer : Count → ℕ → Count
 fewer (between n m) k = between (n - k) (m - k)
 fewer (onward n) k = onward (n - k)
 
 -- in a text over the alphabet A
 module _ (A text : List ℕ) where
-  -- a part is found, where d more groups may be opened
+  -- a part is found at a place, where d more groups may be opened
   abbrev pub PartAt : Mode → ℕ → ℕ → Type 0
   PartAt m d at = is-found (parse A m d (drop at text)) ≡ true
 
@@ -32,16 +32,16 @@ module _ (A text : List ℕ) where
   abbrev pub openedAt : Mode → ℕ → ℕ → Opened
   openedAt m d at = opened A (treeAt m d at)
 
-  -- the count of the piece, and what is left of it behind k copies
+  -- the count of the piece, and what is left of it after k copies
   abbrev pub countAt : ℕ → ℕ → Count
   countAt d at = countOf (counted (drop (endAt m-group d at) text))
 
   abbrev pub leftAt : ℕ → ℕ → ℕ → Opened
   leftAt d at k = repeated (openedAt m-group d at) (fewer (countAt d at) k)
 
--- there is room to build r behind n letters
+-- there is room to build r after n letters
 pub record Room (A : List ℕ) (r : Opened) (n : ℕ) (marks : List ℕ) (follow : List (List Bool)) : Type 0 where
   pub alphabet : length A ≤ 255
   pub few : n + length (labels r) ≤ 127
   pub labelled : 127 ≤ length marks
-  pub rows : 127 ≤ length follow
+  pub followers : 127 ≤ length follow

@@ -1,5 +1,5 @@
--- How the arrays of parts put together tell the letters of the whole, and the room that there must be for it: index i stands for the letter
--- of number i + 1.
+-- How the arrays of parts that are put together show the letters of the whole, and the room that the parts need. Index i stands for letter
+-- i + 1.
 use Prim.Native.Nat.{ℕ, suc, _+_, _≤_}
 use mathlib.Core.Path.{_≡_, refl, ap, ap₂, subst, _∙_}
 use mathlib.Core.Bool.{Bool, true, false, _&&_, _||_, or-assoc, or-false}
@@ -18,7 +18,7 @@ use Rattle.positions_letters.specs.Shows.{Shows, Builds}
 use Rattle.positions_build.specs.Copies.{spared, looped, Alike}
 use Rattle.positions_build.specs.Places.{Room}
 
--- Parts put together tell the positions of the whole.
+-- Parts put together show the positions of the whole.
 module _ (f g : List (List Bool)) where
   pub shows-same : (p q : Positions) (x : Built) → Same p q → Shows p x f g → Shows q x f g
   shows-same p q x s h =
@@ -87,7 +87,7 @@ module _ (f g : List (List Bool)) where
           arcs = u .arcs;
         }
 
--- The same of what was built.
+-- The same for expressions that were built.
 pub builds-alike :
     {n : ℕ} {r s : Opened} {e : ℕ} {f g : List (List Bool)} {old new : List ℕ} {x : Built} → Alike r s → Builds n r e f g old new x → Builds n s e f g old new x
 builds-alike {n} {r} {s} {e} {f} {g} {old} {new} {x} h b =
@@ -164,7 +164,7 @@ module _ {n : ℕ} {r : Opened} {e : ℕ} {f g : List (List Bool)} {old mid : Li
 pub room-first :
     {A : List ℕ} {r : Opened} {n : ℕ} {marks : List ℕ} {f : List (List Bool)} (s : Opened) → length (labels s) ≤ length (labels r) → Room A r n marks f
     → Room A s n marks f
-room-first s l o = let k = o .few in record { alphabet = o .alphabet; few = omega arith; labelled = o .labelled; rows = o .rows }
+room-first s l o = let k = o .few in record { alphabet = o .alphabet; few = omega arith; labelled = o .labelled; followers = o .followers }
 
 pub room-next :
     {A : List ℕ} {r s t : Opened} {n e : ℕ} {old new : List ℕ} {f g : List (List Bool)} {a : Built}
@@ -175,5 +175,5 @@ room-next l o b =
     let x = stored-size (b .stored) in
     let y = b .shows .size in
     let p = o .labelled in
-    let q = o .rows in
-    record { alphabet = o .alphabet; few = omega arith; labelled = omega arith; rows = omega arith }
+    let q = o .followers in
+    record { alphabet = o .alphabet; few = omega arith; labelled = omega arith; followers = omega arith }

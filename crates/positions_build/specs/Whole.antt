@@ -1,4 +1,4 @@
--- The whole text as it is built: the arrays tell the automaton of its tree.
+-- What `build` needs of a text, and what it gives: arrays that tell the automaton of the text's tree.
 use Prim.Native.Nat.{ℕ, _≤_}
 use mathlib.Core.Path.{_≡_}
 use mathlib.Core.Bool.{Bool, true, false}
@@ -17,21 +17,21 @@ use Rattle.positions_parts.specs.declared.Built.{Built}
 use Rattle.positions_letters.specs.Found.{treeOf}
 use Rattle.positions_letters.specs.Shows.{Shows}
 
--- the tree of a text, where it has one
+-- the tree of a text, if it has one
 abbrev pub treeOfText : List ℕ → List ℕ → Tree
 treeOfText A text = treeOf (expressionOf A text)
 
--- the text has a tree of 127 letters at most, there are rows for them, and no arc yet
+-- the text has a tree of at most 127 letters, the arrays have an entry for each, and there is no arc yet
 pub record Buildable (A text marks : List ℕ) (follow : List (List Bool)) : Type 0 where
   pub alphabet : length A ≤ 255
   pub reads : is-found (expressionOf A text) ≡ true
   pub few : letterCount A (treeOfText A text) ≤ 127
   pub labelled : 127 ≤ length marks
-  pub rows : 127 ≤ length follow
+  pub followers : 127 ≤ length follow
   pub clear : (i j : ℕ) → arc follow i j ≡ false
 
--- the text was built up to its end: as many letters as its tree has, their labels in the first places of the lent list and nothing else
--- there, the arrays show the positions of the tree and nothing else, and so they tell the automaton of the tree
+-- the text was built up to its end, with as many letters as its tree has; their labels were stored from place 0 of the lent list on, and
+-- nothing else; the arrays show the positions of the tree, and so they tell the automaton of the tree
 pub record BuildsWhole (A text old new : List ℕ) (before after : List (List Bool)) (x : Built) : Type 0 where
   pub ends : x .end ≡ length text
   pub counts : x .letters ≡ letterCount A (treeOfText A text)

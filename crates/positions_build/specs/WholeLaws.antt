@@ -1,4 +1,4 @@
--- The automaton of the whole text.
+-- The call and the return of `build`: what the call requires holds of a buildable text, and the arrays then tell the automaton of its tree.
 use Prim.Native.Nat.{ℕ, zero, suc, _-_, _≤_}
 use mathlib.Core.Path.{_≡_, refl, sym, ap, _∙_}
 use mathlib.Core.Bool.{Bool, true, false, _||_}
@@ -100,7 +100,7 @@ module _ (A text : List ℕ) where
     text-room =
         let l = all-letters in
         let k = o .few in
-        record { alphabet = o .alphabet; few = omega arith; labelled = o .labelled; rows = o .rows }
+        record { alphabet = o .alphabet; few = omega arith; labelled = o .labelled; followers = o .followers }
 
     pub build-returns :
         {g : List (List Bool)} {new : List ℕ} {x : Built}

@@ -1,6 +1,6 @@
-// Builds the position automaton of a text that reads, as arrays (document 01, "Opening and the compiled form"): the label of each letter,
-// its row of the follow relation, and whether it may be first and last. The letter of number i stands at index i - 1. At each call of
-// alternation, branch, piece and group the unread text falls, or stays and the next closer part or the next copy is asked for.
+// Builds the position automaton of a well-formed text as arrays (document 01, "Opening and the compiled form"): the label of each letter,
+// the letters that may follow it, and whether it may be first and last. Letter i is at index i - 1. Each call among alternation, branch,
+// piece and group is further on in the text, or asks for a smaller part or the next copy at the same place.
 use positions_letters::copies_at;
 use positions_letters::set;
 use positions_parts::Built;
@@ -19,7 +19,7 @@ ghost use Rattle.positions_letters.specs.Shows.{Builds};
 ghost use Rattle.positions_build.specs.Places.{PartAt, openedAt, endAt, countAt, leftAt, Room};
 ghost use Rattle.positions_build.specs.Whole.{Buildable, BuildsWhole};
 
-// Branches with `|` between them, behind so many letters.
+// Branches with `|` between them, built after the first `letters` letters.
 fn alternation(
     alphabet: &[u8],
     text: &[u8],
@@ -67,7 +67,7 @@ fn branch(
     joint(a, b, follow)
 }
 
-// A group or a set, repeated or not: what is left of it behind so many copies.
+// A group or a set, repeated or not: what is left of it after `copies` copies.
 fn piece(
     alphabet: &[u8],
     text: &[u8],
@@ -128,7 +128,7 @@ fn group(
     ended(a, e + 1)
 }
 
-// The whole text, with at most 16 groups open together.
+// The whole text, with at most 16 groups open at once.
 pub fn build(alphabet: &[u8], text: &[u8], labels: &mut [u8], follow: &mut [[bool; 127]]) -> Built
     requires { ⌜ Buildable (now alphabet) (now text) (now labels) (now follow) ⌝ }
     ensures { λ r. ⌜ BuildsWhole (old alphabet) (old text) (old labels) (new labels) (old follow) (new follow) r ⌝ }

@@ -1,4 +1,4 @@
--- What one turn of each loop of this crate does, and what the loop leaves, over plain lists.
+-- What one iteration of each loop of this crate does, and what the whole loop gives, over plain lists.
 use Prim.Native.Nat.{ℕ, _+_, _<_, _≤_}
 use mathlib.Core.Path.{_≡_, sym, ap, _∙_}
 use mathlib.Core.Bool.{Bool, true, false, _&&_, _||_, or-false}
@@ -30,20 +30,20 @@ module _ (a b : List Bool) where
           let none : member b k ≡ false = List·getD-eq-default b false (omega arith) in
           u .rest k h ∙ sym (ap (λ t. member a k || t) none ∙ or-false (member a k))
 
--- The loop of `link`, over the rows.
+-- The loop of `link`, over the entries of `follow`.
 
 module _ (from to : List Bool) (before : List (List Bool)) where
   abbrev pub Arcs : ℕ → List Bool → Type 0
-  Arcs i row = (j : ℕ) → member row j ≡ (arc before i j || (member from i && member to j))
+  Arcs i targets = (j : ℕ) → member targets j ≡ (arc before i j || (member from i && member to j))
 
   none : (i : ℕ) → member from i ≡ false → Arcs i (getD before i [])
   none i e j = sym (ap (λ t. arc before i j || (t && member to j)) e ∙ or-false (arc before i j))
 
   pub link-step :
-      (i : ℕ) (present : List (List Bool)) (row : List Bool) → i < length before → Upto [] Arcs before i present → member from i ≡ true
-      → Union (getD present i []) to row → Upto [] Arcs before (i + 1) (set present i row)
-  link-step i present row l u e m =
-      upto-set [] Arcs before i present row l u
+      (i : ℕ) (present : List (List Bool)) (targets : List Bool) → i < length before → Upto [] Arcs before i present → member from i ≡ true
+      → Union (getD present i []) to targets → Upto [] Arcs before (i + 1) (set present i targets)
+  link-step i present targets l u e m =
+      upto-set [] Arcs before i present targets l u
       (λ j. m .at j ∙ ap (λ r. member r j || member to j) (u .rest i (omega arith)) ∙ sym (ap (λ t. arc before i j || (t && member to j)) e))
 
   pub link-pass : (i : ℕ) (present : List (List Bool)) → Upto [] Arcs before i present → member from i ≡ false → Upto [] Arcs before (i + 1) present

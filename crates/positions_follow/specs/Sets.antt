@@ -1,5 +1,5 @@
--- Sets of letters and the follow relation as lists of truth values, a letter's at the index below its number: what it says that a set
--- was joined to another, and that arcs were added.
+-- Sets of letters and the follow relation as lists of truth values, a letter's entry at the index below its number: what it means that a
+-- set was united with another, and that arcs were added.
 use Prim.Native.Nat.{ℕ}
 use mathlib.Core.Path.{_≡_}
 use mathlib.Core.Bool.{Bool, false, _&&_, _||_}

@@ -1,5 +1,4 @@
-// Sets of letters as arrays of bools, and the follow relation as an array of such rows, one row a letter; the letter of number i stands
-// at index i - 1.
+// Sets of letters as arrays of bools, and the follow relation as an array of such sets, one for each letter. Letter i is at index i - 1.
 ghost use mathlib.Core.Path.{_≡_};
 ghost use mathlib.Core.Bool.{_||_};
 ghost use Prim.Native.Nat.{_≤_};

@@ -17,6 +17,6 @@ abbrev pub isOnward : Count → Bool
 isOnward (between n m) = false
 isOnward (onward n) = true
 
--- a count that was read, as copies to build
+-- a count that was parsed, as copies to build
 abbrev pub copiesBy : List ℕ → Parsing Count → Copies
 copiesBy text x = record { least = leastOf (countOf x); most = copiesOf (countOf x); onward = isOnward (countOf x); end = place text (restOf x) }

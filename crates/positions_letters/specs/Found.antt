@@ -1,4 +1,4 @@
--- What was found by a reading, and the unread text behind it.
+-- What the parser found, and the text that is left after it.
 use mathlib.Core.List.{List, []}
 use mathlib.Core.Bool.{Bool, true, false}
 use Prim.Native.Nat.{ℕ}
@@ -6,7 +6,7 @@ use Rattle.regex.specs.Tree.{only, Count, between, Tree, set}
 use Rattle.regex.specs.Parsing.{Parsing, found, fault}
 use Rattle.regex.specs.Repetition.{repeats, repetition}
 
--- what was found, where something was; else d
+-- what was found; d if nothing was
 abbrev pub foundOr : {X : Type 0} → X → Parsing X → X
 foundOr d (found a r) = a
 foundOr d (fault n r) = d
@@ -21,7 +21,7 @@ treeOf x = foundOr (set (only [])) x
 abbrev pub countOf : Parsing Count → Count
 countOf x = foundOr (between 1 1) x
 
--- the repetition with which a text begins; one, where none stands there
+-- the repetition with which a text begins; once, if it begins with none
 abbrev pub repetitionIf : Bool → List ℕ → Parsing Count
 repetitionIf true s = repetition s
 repetitionIf false s = found (between 1 1) s

@@ -1,4 +1,4 @@
--- What is found at a place, and after it.
+-- What `counted` finds with a repetition and without, and what `then` finds in two steps.
 use mathlib.Core.Path.{_≡_, refl, ap}
 use mathlib.Core.List.{List}
 use mathlib.Core.Bool.{true, false}
@@ -21,7 +21,7 @@ counted-plain s k = ap (λ b. repetitionIf b s) k
 pub not-found : {P : Type 0} → false ≡ true → P
 not-found e = let z : _≡_ {A = ℕ} 0 1 = cc in absurd (omega arith)
 
--- what was found by going on was found behind something
+-- what `then` found was found after a first part
 module _ {X Y : Type 0} (f : X → List ℕ → Parsing Y) where
   pub then-first : (x : Parsing X) → is-found (then x f) ≡ true → is-found x ≡ true
   unfolding then

@@ -1,4 +1,4 @@
--- The labels of a set, a label at a time.
+-- A set built as letters: its labels and its range a step at a time, as the loops of `write_labels` and `range` go, and then the whole.
 use Prim.Native.Nat.{ℕ, zero, suc, _+_, _-_, _≤_, _<_}
 use mathlib.Core.Path.{_≡_, refl, sym, ap, _∙_}
 use mathlib.Core.Logic.{_⊎_, inl, inr}
@@ -21,7 +21,7 @@ use Rattle.positions.specs.Letters.{any-of-labels}
 use Rattle.positions_letters.specs.Shows.{Builds}
 use Rattle.positions_letters.specs.Letters.{Ranged}
 
--- The labels still to come at a label of the loop.
+-- The labels still to come when the loop is at a label.
 module _ (A : List ℕ) (c : Set) where
   abbrev pub passes : ℕ → Bool
   passes x = memberOf c (getD A (x - 1) 0)

@@ -1,4 +1,4 @@
--- What the arrays of a part that was built say of its letters: index i stands for the letter of number i + 1.
+-- What the arrays of a part that was built say of its letters. Index i stands for letter i + 1.
 use Prim.Native.Nat.{ℕ, suc}
 use mathlib.Core.Path.{_≡_}
 use mathlib.Core.Bool.{Bool, _||_}
@@ -10,8 +10,8 @@ use Rattle.positions.specs.Opened.{Opened, labels}
 use Rattle.positions.specs.Numbered.{Positions, numbered}
 use Rattle.positions_parts.specs.declared.Built.{Built}
 
--- The arrays tell the positions p: the part's own of the empty word and of first and last letters, and the follow relation has the arcs
--- of p beside those that it had before.
+-- The arrays show the positions p: the part x says whether the empty word is a word and which letters are first and last, and the follow
+-- relation has the arcs of p and those that it had before.
 pub record Shows (p : Positions) (x : Built) (before after : List (List Bool)) : Type 0 where
   pub nullable : x .nullable ≡ p .nullable
   pub first : (i : ℕ) → member (x .first) i ≡ p .first (suc i)
@@ -19,8 +19,8 @@ pub record Shows (p : Positions) (x : Built) (before after : List (List Bool)) :
   pub size : length after ≡ length before
   pub arcs : (i j : ℕ) → arc after i j ≡ (arc before i j || p .follow (suc i) (suc j))
 
--- The opened expression r was built behind n letters: it ends at e, its labels were stored in their places and nowhere else, and the
--- arrays tell its positions.
+-- The opened expression r was built after n letters: it ends at e, its labels were stored in their places and nowhere else, and the
+-- arrays show its positions.
 pub record Builds (n : ℕ) (r : Opened) (e : ℕ) (before after : List (List Bool)) (old new : List ℕ) (x : Built) : Type 0 where
   pub ends : x .end ≡ e
   pub stored : Stored (labels r) n old new (x .letters)

@@ -1,4 +1,4 @@
--- What the answers of `repetition` and `tokens` say of a repetition or a set that was found.
+-- What the answers of `repetition` and `set_end` say of a repetition or a set that was found.
 use mathlib.Core.Path.{_≡_, sym, ap, _∙_}
 use mathlib.Core.List.{List}
 use mathlib.Core.Bool.{Bool, true, false}

@@ -1,5 +1,5 @@
-// A set or a repetition at a place of the text, for the builder: a set as letters, one for each of its labels, a repetition as copies. The
-// letter of number i stands at index i - 1.
+// A set or a repetition at a place of the text, for the builder: a set as letters, one for each of its labels, a repetition as copies.
+// Letter i is at index i - 1.
 use numbers::narrow_byte;
 use positions_parts::Built;
 use regex_bracket::End;
@@ -25,7 +25,7 @@ ghost use Rattle.positions_letters.specs.Found.{restOf, counted};
 ghost use Rattle.positions_letters.specs.Copies.{copiesBy};
 ghost use Rattle.positions_letters.specs.Letters.{Ranged, SetRoom, SetBuilds};
 
-// A repetition: at least and at most so many copies are built, the last with arcs back or without; then where it ends.
+// A repetition: how many copies a word must have, how many are built, whether the last has arcs back, and where the repetition ends.
 pub struct Copies {
     pub least: usize,
     pub most: usize,
@@ -33,7 +33,7 @@ pub struct Copies {
     pub end: usize,
 }
 
-// The copies of what ends here: those of the repetition, or one where none stands.
+// The copies of the part that ends at `at`: those of the repetition there, or one if there is no repetition.
 pub fn copies_at(text: &[u8], at: usize) -> Copies
     requires { ⌜ (at ≤ length (now text)) × (is-found (counted (drop at (now text))) ≡ true) ⌝ }
     ensures { λ r. ⌜ r ≡ copiesBy (old text) (counted (drop at (old text))) ⌝ }
@@ -66,7 +66,7 @@ pub fn copies_at(text: &[u8], at: usize) -> Copies
     }
 }
 
-// The place behind the set that begins here.
+// The place after the set that begins at `at`.
 fn behind_set(text: &[u8], at: usize) -> usize
     requires { ⌜ SetAt (now text) at ⌝ }
     ensures { λ r. ⌜ r ≡ place (old text) (restOf (a-set (drop at (old text)))) ⌝ }
@@ -78,7 +78,7 @@ fn behind_set(text: &[u8], at: usize) -> usize
     }
 }
 
-// The letters behind the first `from`, up to the first `to`.
+// The letters `from` + 1 to `to`.
 fn range(from: usize, to: usize) -> [bool; 127]
     requires { ⌜ (from ≤ to) × (to ≤ 127) ⌝ }
     ensures { λ r. ⌜ Ranged from to r ⌝ }
@@ -92,7 +92,7 @@ fn range(from: usize, to: usize) -> [bool; 127]
     r
 }
 
-// The label goes to place n, if it is one of the set; the next place.
+// Writes the label at place n if it is in the set, and returns the next place.
 fn put_label(labels: &mut [u8], n: usize, label: u8, there: bool) -> usize
     requires { ⌜ n + length (keeping there label []) ≤ length (now labels) ⌝ }
     ensures { λ r. ⌜ Stored (keeping there label []) n (old labels) (new labels) r ⌝ }
@@ -104,7 +104,7 @@ fn put_label(labels: &mut [u8], n: usize, label: u8, there: bool) -> usize
     n
 }
 
-// Writes the labels of the set that begins here, ascending, from place n on; the next place.
+// Writes the labels of the set that begins at `at`, ascending, from place n on, and returns the next place.
 fn write_labels(alphabet: &[u8], text: &[u8], at: usize, labels: &mut [u8], n: usize) -> usize
     requires { ⌜ SetAt (now text) at ⌝ }
     requires { ⌜ (length (now alphabet) ≤ 255) × (n + length (labelsIn (now alphabet) (setAt (now text) at)) ≤ length (now labels)) ⌝ }
@@ -124,7 +124,7 @@ fn write_labels(alphabet: &[u8], text: &[u8], at: usize, labels: &mut [u8], n: u
     m
 }
 
-// The set that begins here, behind so many letters: one letter for each of its labels.
+// Builds the set that begins at `at`, after the first `letters` letters: one letter for each of its labels.
 pub fn set(alphabet: &[u8], text: &[u8], at: usize, letters: usize, labels: &mut [u8]) -> Built
     requires { ⌜ SetAt (now text) at ⌝ }
     requires { ⌜ SetRoom (now alphabet) (setAt (now text) at) letters (now labels) ⌝ }

@@ -1,4 +1,4 @@
--- Parts put together, case by case.
+-- Letters and arcs that are added only if a flag is true: what holds if it is, and if it is not.
 use mathlib.Core.Path.{_≡_, refl, sym, ap, _∙_}
 use mathlib.Core.Bool.{Bool, true, false, _&&_, _||_, or-false}
 use mathlib.Core.List.{List}

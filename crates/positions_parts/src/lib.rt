@@ -1,5 +1,5 @@
-// Parts of an automaton put together: sets of letters united, arcs added (document 01, "Opening and the compiled form"). The letter of
-// number i stands at index i - 1.
+// Puts parts of an automaton together: unites sets of letters and adds arcs (document 01, "Opening and the compiled form"). Letter i is at
+// index i - 1.
 use positions_follow::either;
 use positions_follow::link;
 use positions_follow::unite;
@@ -11,7 +11,7 @@ ghost use Rattle.lists.specs.Memory.{old, new};
 ghost use Rattle.positions_parts.specs.Together.{United, Chosen, Joined, Looped, Spared, Ended};
 
 // A part that was built: where it ends in the text; how many letters there are up to its end; whether it has the empty word; and which
-// letters may be first in it, and last.
+// letters may be first in it, and which last.
 pub struct Built {
     pub end: usize,
     pub letters: usize,
@@ -26,7 +26,7 @@ fn both(a: bool, b: bool) -> bool
     if a { b } else { false }
 }
 
-// The letters of a, and those of b too where `on` says so.
+// The letters of a, and also those of b if `on` is true.
 fn united(a: [bool; 127], on: bool, b: [bool; 127]) -> [bool; 127]
     ensures { λ r. ⌜ United a on b r ⌝ }
 {
@@ -78,7 +78,7 @@ pub fn joint(a: Built, b: Built, follow: &mut [[bool; 127]]) -> Built
     }
 }
 
-// An arc from each last letter of the part to each first, if it may be repeated onward.
+// Adds an arc from each last letter of the part to each first, if `onward` is true: the part may be repeated without limit.
 pub fn again(a: Built, onward: bool, follow: &mut [[bool; 127]])
     requires { ⌜ 127 ≤ length (now follow) ⌝ }
     ensures { λ _. ⌜ Looped onward (a .last) (a .first) (old follow) (new follow) ⌝ }
@@ -90,7 +90,7 @@ pub fn again(a: Built, onward: bool, follow: &mut [[bool; 127]])
     }
 }
 
-// The part, or nothing if it may be spared; it ends there.
+// The part, or also nothing if `spare` is true; it ends at `end`.
 pub fn perhaps(a: Built, spare: bool, end: usize) -> Built
     ensures { λ r. ⌜ Spared a spare end r ⌝ }
 {
@@ -105,7 +105,7 @@ pub fn perhaps(a: Built, spare: bool, end: usize) -> Built
     }
 }
 
-// The part itself; it ends there.
+// The part itself; it ends at `end`.
 pub fn ended(a: Built, end: usize) -> Built
     ensures { λ r. ⌜ Ended a end r ⌝ }
 {

@@ -41,7 +41,7 @@ write-form-requires c κs =
     let rows = b .kept .1 .1 .1 .0 in
     let first : 127 ≡ length (b .result .first) = slice-aggregate-write-form-2 (c .before .before .before) in
     let last : 127 ≡ length (b .result .last) = slice-aggregate-write-form-3 (c .before .before) in
-    record { alphabet = s .pre .0; few = omega arith; labelled = omega arith; begun = omega arith; ended = omega arith; rows = omega arith }
+    record { alphabet = s .pre .0; few = omega arith; labelled = omega arith; begun = omega arith; ended = omega arith; followers = omega arith }
 
 same-length : tie.Need-same-length
 same-length c = search needs

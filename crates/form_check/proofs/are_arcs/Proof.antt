@@ -1,4 +1,4 @@
--- `form_check::are_arcs` meets its contract: what is left of the list, behind the last arc, decides.
+-- `form_check::are_arcs` meets its contract: what is left of the list after the last arc decides.
 use Prim.Native.Nat.{_≤_, _-_}
 use mathlib.Core.Path.{_≡_, sym, _∙_}
 use mathlib.Core.Bool.{_&&_}

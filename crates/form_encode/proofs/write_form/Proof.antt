@@ -1,4 +1,4 @@
--- `form_encode::write_form` meets its contract: row 10 where the memory is shorter than the form, else the form's words.
+-- `form_encode::write_form` meets its contract: refusal 10 if the memory is shorter than the form, else the form's words.
 use Prim.Native.Nat.{_<_, _≤_}
 use mathlib.Core.Path.{_∙_}
 use mathlib.Core.List.{[]}

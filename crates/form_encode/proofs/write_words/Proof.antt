@@ -6,7 +6,7 @@ use lib.ListN.{length-set}
 use borrow.Author.Needs.{needs}
 use denote.Ref.{now}
 use Rattle.automaton.specs.Form.{encode}
-use Rattle.form_encode_arcs.specs.Rows.{arcsBy}
+use Rattle.form_encode_arcs.specs.Arcs.{arcsBy}
 use Rattle.automaton.specs.Arrays.{arrayed}
 use Rattle.form_encode.specs.Parts.{lettersBy}
 use Rattle.form_encode.specs.PartsLaws.{arrayed-words}
@@ -23,7 +23,7 @@ slice-write-form c =
     let h = c .before .before .before .before .before .pre .1 in
     omega (arith, length-words (s .k) (s .letters) (s .empty) (now (s .labels)) (now (s .first)) (now (s .last)) (now (s .follow)))
 
--- the words behind the head that was written
+-- the form is the head that was written, the letters and the arcs
 words :
     (c : tie.After-head-word)
     → encode (c .before .before .before .before .before .args .k) (arrayed (c .before .before .before .before .before .args .letters) (c .before .before .before .before .before .args .empty) (now (c .before .before .before .before .before .args .labels)) (now (c .before .before .before .before .before .args .first)) (now (c .before .before .before .before .before .args .last)) (now (c .before .before .before .before .before .args .follow)))
@@ -54,7 +54,7 @@ write-arcs-requires c κs =
     let letters = lettersBy (s .letters) (now (s .labels)) (now (s .first)) (now (s .last)) in
     let w = c .before .before .before .write-letters in (
       h .few,
-      h .rows,
+      h .followers,
       arcs-room whole (c .before .before .before .before .before .head-word .result) letters (arcsBy (s .letters) (now (s .follow))) (now (s .form)) (words (c .before .before .before .before .before)) (c .before .before .before .before .before .before .before .before .before .before .pre .1)
           (w .last .1 .1 .1 .1 .0) (w .result) (w .ensures),
     )

@@ -1,4 +1,4 @@
--- `form_sets::advance` meets its contract: the turns so far have marked what may stand behind their letters.
+-- `form_sets::advance` meets its contract: the iterations so far have marked what may follow their letters.
 use Prim.Native.Nat.{_≤_, _+_, _-_}
 use mathlib.Core.Path.{_≡_, sym, subst}
 use mathlib.Core.Bool.{false}

@@ -1,4 +1,4 @@
--- `form_sets::some_may_end` meets its contract: none of the letters passed is in the set and may end.
+-- `form_sets::some_may_end` meets its contract: none of the letters passed is in the set and may end a word.
 use Prim.Native.Nat.{ℕ, _≤_, _<_, _+_, _-_}
 use mathlib.Core.Path.{_≡_, refl, sym, _∙_}
 use mathlib.Core.Bool.{true, false}

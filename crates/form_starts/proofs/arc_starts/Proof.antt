@@ -1,4 +1,4 @@
--- `form_starts::starts` meets its contract: the starts noted so far are right, and the sources passed are below i.
+-- `form_starts::arc_starts` meets its contract: the starts noted so far are right, and the sources passed are below i.
 use Prim.Native.Nat.{ℕ, _≤_, _<_, _-_}
 use mathlib.Core.Path.{_≡_, refl, _∙_}
 use native.Mathlib.Omega.{arith}

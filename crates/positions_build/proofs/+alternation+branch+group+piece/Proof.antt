@@ -1,5 +1,5 @@
--- `alternation`, `branch`, `piece` and `group` meet their contracts, together. The measure is 512 × the unread text, and 258 for
--- `alternation`, 257 for `branch`, 256 less the copies built for `piece`, and 0 for `group`: it falls at each call.
+-- `alternation`, `branch`, `piece` and `group` meet their contracts, together. The measure is 512 × the length of the text left, plus 258
+-- for `alternation`, 257 for `branch`, 256 less the copies built for `piece`, and 0 for `group`: it falls at each call.
 mod Measure
 mod Alternation
 mod Branch

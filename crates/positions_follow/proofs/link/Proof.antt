@@ -1,4 +1,4 @@
--- `positions_follow::link` meets its contract: the rows below i have their arcs, those from i on are as they were.
+-- `positions_follow::link` meets its contract: the entries below i have their arcs, those from i on are as before.
 use Prim.Native.Nat.{_≤_, _-_}
 use mathlib.Core.Logic.{⊎-elim}
 use mathlib.Core.List.{[]}

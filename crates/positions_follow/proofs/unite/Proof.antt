@@ -1,4 +1,4 @@
--- `positions_follow::unite` meets its contract: below i the set is the union, from i on it is as it was.
+-- `positions_follow::unite` meets its contract: below i the set is the union, from i on it is as before.
 use Prim.Native.Nat.{_≤_, _-_}
 use mathlib.Core.Bool.{false}
 use native.Mathlib.Omega.{arith}

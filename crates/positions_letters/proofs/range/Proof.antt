@@ -1,4 +1,4 @@
--- `positions_letters::range` meets its contract: the letters up to i are marked.
+-- `positions_letters::range` meets its contract: the letters `from` + 1 to i are marked.
 use Prim.Native.Nat.{_≤_, _-_}
 use native.Mathlib.Omega.{arith}
 use mathlib.Core.Path.{_≡_, refl, subst}

@@ -1,4 +1,4 @@
--- `positions_letters::write_labels` meets its contract: what stands in front, what is written and the labels still to come make the whole.
+-- `positions_letters::write_labels` meets its contract: what is before n, what is written and the labels still to come make the whole.
 use Prim.Native.Nat.{_+_, _-_, _≤_}
 use mathlib.Core.Path.{subst}
 use mathlib.Core.List.{[], _++_}

@@ -1,4 +1,4 @@
--- `branch` at each place of its code, where what it calls meets its contract below the measure.
+-- `branch` at each place of its code, given that what it calls meets its contract below the measure.
 use mathlib.Core.Path.{sym, _∙_}
 use native.Mathlib.Omega.{arith}
 use denote.Ref.{now}
@@ -62,7 +62,7 @@ branch-branch-requires t c κs =
 
 pub branch-joint-requires : (t : ℕ) → branch-lts.Need-joint-requires (branch-calls t) (branch-at t) branch.Post
 branch-joint-requires t c κs =
-    let r = c .before .before .before .before .before .before .before .before .before .before .before .before .before .before .before .before .before .before .pre .1 .1 .rows in
+    let r = c .before .before .before .before .before .before .before .before .before .before .before .before .before .before .before .before .before .before .pre .1 .1 .followers in
     let x = c .before .before .before .before .before .before .before .before .before .before .before .before .piece .ensures .shows .size in
     let y = c .before .before .before .before .branch .ensures .shows .size in
     omega arith

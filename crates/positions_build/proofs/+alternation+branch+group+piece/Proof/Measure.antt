@@ -1,4 +1,4 @@
--- By which number the recursion of `alternation`, `branch`, `group` and `piece` ends, and what may be asked of a call below it.
+-- The measure by which the recursion of `alternation`, `branch`, `group` and `piece` ends, and what is assumed of a call below it.
 use lib.ListN.{length}
 use denote.Ref.{now}
 use Prim.Native.Nat.{ℕ, _+_, _*_, _-_, _<_}

@@ -1,4 +1,4 @@
--- `piece` at each place of its code, where what it calls meets its contract below the measure.
+-- `piece` at each place of its code, given that what it calls meets its contract below the measure.
 use mathlib.Core.Path.{_∙_}
 use native.Mathlib.Omega.{arith}
 use denote.Ref.{now}
@@ -55,7 +55,7 @@ piece-add-if1 t c =
 
 pub piece-again-requires : (t : ℕ) → piece-lts.Need-again-requires (piece-calls t) (piece-at t) piece.Post
 piece-again-requires t c κs =
-    let r = c .before .before .before .before .before .before .before .before .before .before .before .before .before .before .pre .1 .1 .1 .rows in
+    let r = c .before .before .before .before .before .before .before .before .before .before .before .before .before .before .pre .1 .1 .1 .followers in
     let x = c .before .before .before .before .before .before .before .before .group .ensures .shows .size in
     omega arith
 
@@ -117,7 +117,7 @@ piece-piece-requires t c κs =
 
 pub piece-joint-requires : (t : ℕ) → piece-lts.Need-joint-requires (piece-calls t) (piece-at t) piece.Post
 piece-joint-requires t c κs =
-    let r = c .before .before .before .before .before .before .before .before .before .before .before .before .before .before .before .before .before .before .before .before .pre .1 .1 .1 .rows in
+    let r = c .before .before .before .before .before .before .before .before .before .before .before .before .before .before .before .before .before .before .before .before .pre .1 .1 .1 .followers in
     let x = c .before .before .before .before .before .before .before .before .before .before .before .before .before .before .group .ensures .shows .size in
     let y = c .before .before .before .before .piece .ensures .shows .size in
     omega arith

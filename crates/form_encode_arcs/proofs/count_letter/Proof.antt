@@ -1,4 +1,4 @@
--- `form_encode_arcs::count_row` meets its contract: the letters counted and those still to come make the whole.
+-- `form_encode_arcs::count_letter` meets its contract: the letters counted and those still to come make the whole.
 use Prim.Native.Nat.{_+_, _-_, _<_, _≤_}
 use mathlib.Core.Path.{_≡_, ap}
 use native.Mathlib.Omega.{arith}
@@ -9,20 +9,20 @@ use Rattle.lists.specs.Lists.{keep, numbers}
 use Rattle.automaton.specs.Arrays.{has}
 use Rattle.lists.specs.RemainingLoops.{from, from-first}
 use Rattle.form_encode_arcs.specs.Loops.{count-here, count-past}
-use Rattle.form_encode_arcs.proofs.count_row.Statement.{statement}
-use Rattle.form_encode_arcs.proofs.count_row.Tie as tie
+use Rattle.form_encode_arcs.proofs.count_letter.Statement.{statement}
+use Rattle.form_encode_arcs.proofs.count_letter.Tie as tie
 
 abbrev Inv-loop : tie.InvT-loop
-Inv-loop letters row n₀ j₀ n j =
-    (n < j) × (j ≤ letters + 1) × (n + length (keep (has row) (from letters j)) ≡ length (keep (has row) (numbers 1 letters)))
+Inv-loop letters targets n₀ j₀ n j =
+    (n < j) × (j ≤ letters + 1) × (n + length (keep (has targets) (from letters j)) ≡ length (keep (has targets) (numbers 1 letters)))
 
 abbrev μ-loop : tie.MeasureT-loop
-μ-loop letters row n₀ j₀ n j = letters + 1 - j
+μ-loop letters targets n₀ j₀ n j = letters + 1 - j
 
 loop-holds : tie.Need-loop-holds Inv-loop μ-loop
 loop-holds c =
     let s = c .before .args in
-    let e = ap (λ js. length (keep (has (now (s .row))) js)) (from-first (s .letters)) in
+    let e = ap (λ js. length (keep (has (now (s .targets))) js)) (from-first (s .letters)) in
     (omega arith, omega arith, omega arith)
 
 sub-one-if : tie.Need-sub-one-if Inv-loop μ-loop
@@ -47,18 +47,18 @@ loop-again : tie.Need-loop-again Inv-loop μ-loop
 loop-again c =
     let s = c .before .before .before .before .before .args in
     let l = c .before .before .before .loop in
-    let t = count-here (s .letters) (now (s .row)) (l .j) (omega arith) in
+    let t = count-here (s .letters) (now (s .targets)) (l .j) (omega arith) in
     (omega arith, omega arith, omega arith)
 
 returns : tie.Need-returns Inv-loop μ-loop
 returns c =
     let s = c .before .before .before .args in
     let l = c .before .loop in
-    let z = count-past (s .letters) (now (s .row)) (l .j) (omega arith) in
+    let z = count-past (s .letters) (now (s .targets)) (l .j) (omega arith) in
     (omega arith, omega arith)
 
-pub count-row-spec : {M : Type 1} → statement M
-count-row-spec =
+pub count-letter-spec : {M : Type 1} → statement M
+count-letter-spec =
     tie.close
     (tie.spec
     Inv-loop
