@@ -1,5 +1,5 @@
 /* The calls of libkavurehy.a from C, by include/kavurehy.h: every test with guards around each list, then again with lent memory that is
-   uninitialised. Prints one line, or ends with 1 at the first difference. */
+   uninitialised. Prints one line, or exits with 1 at the first difference. */
 #include <stdio.h>
 
 #include "held.h"

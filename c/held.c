@@ -1,11 +1,11 @@
-/* The calls by their header alone. */
+/* Makes the calls through their header alone. */
 #include "held.h"
 
 #include "kavurehy.h"
 
 enum call { COMPILE, JUDGE, COLLAPSE, SPREAD, DECODE, READ, COSTS, CALLS };
 
-/* A call's name, and a bit for each number that it answers by the header. */
+/* A call's name, and a bit for each number that it returns according to the header. */
 static const struct {
     const char *name;
     uint32_t numbers;

@@ -1,5 +1,5 @@
-/* The seven calls, each made once on lists of its own and held to what is expected of it: the number, the counts, what is written, and
-   all other memory as it was. */
+/* Each function here makes one of the seven calls on lists of its own, and compares it with what is expected: the number, the counts, what
+   is written, and all other memory as it was. */
 #ifndef HELD_H
 #define HELD_H
 
@@ -12,15 +12,15 @@ struct line {
     size_t path, word, work;
 };
 
-/* What is expected of them: a number; a price, a path, its word as labels; and how many work words hold anything afterwards. At a refusal
-   price, path and word are nothing. */
+/* What is expected of them: a number; a price, a path, its word as labels; and how many work words may hold anything afterwards. At a
+   refusal the price is 0, and path and word are empty. */
 struct answer {
     uint32_t number, price;
     struct bytes path, word;
     size_t work;
 };
 
-/* With lent memory of this length, this number and these elements written are expected: none at a refusal. */
+/* With lent memory of this length the call must return this number and write these elements: none at a refusal. */
 void hold_compile(struct bytes alphabet, struct bytes text, size_t memory, uint32_t number, struct words form);
 void hold_collapse(size_t k, struct bytes path, size_t memory, uint32_t number, struct bytes word);
 void hold_spread(size_t k, struct bytes word, size_t memory, uint32_t number, struct bytes path);
@@ -29,10 +29,10 @@ void hold_costs(struct bytes confidences, size_t memory, uint32_t number, struct
 void hold_judge(struct words form, struct bytes word, uint32_t number, uint32_t accepted);
 void hold_decode(struct words form, struct line line, struct answer answer);
 
-/* The form is what is expected in the form memory: after 12 to 16 too, and nothing after 1 to 10. */
+/* `form` is what must be written to the form memory: after 12 to 16 too, and nothing after 1 to 10. */
 void hold_read(struct bytes alphabet, struct bytes text, struct line line, size_t memory, struct words form, struct answer answer);
 
-/* How many calls were made; fails unless each call answered each of its numbers, and no other. */
+/* Returns how many calls were made; fails unless each call returned each of its numbers and no other. */
 unsigned long calls_made(void);
 
 #endif

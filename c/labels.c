@@ -6,7 +6,7 @@
 #include "rooms.h"
 #include "search.h"
 
-/* One blank between each two equal neighbours and nowhere else; the path's length. */
+/* Puts one blank between each two equal neighbours and nowhere else; returns the path's length. */
 static size_t spread_list(const uint8_t *word, size_t length, uint8_t *path)
 {
     size_t labels = 0;

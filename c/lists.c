@@ -6,7 +6,7 @@
 #include <stdlib.h>
 #include <string.h>
 
-/* Elements in front of a list and after it: an odd number, so that a list of bytes begins anywhere. */
+/* Elements before a list and after it: an odd number, so that a list of bytes begins at an odd address. */
 enum { GUARD = 5 };
 
 int guarded = 1;
@@ -32,7 +32,7 @@ void fail(const char *format, ...)
     exit(1);
 }
 
-/* Never null, also for 0 bytes. */
+/* Never null, even for 0 bytes. */
 static unsigned char *memory(size_t bytes)
 {
     unsigned char *all = malloc(bytes > 0 ? bytes : 1);
@@ -41,7 +41,7 @@ static unsigned char *memory(size_t bytes)
     return all;
 }
 
-/* Another pattern for each list, so that an outcome that depends on lent memory is seen to change. */
+/* A different pattern for each list, so that an outcome that depends on lent memory changes. */
 static void fill(unsigned char *all, size_t bytes)
 {
     static uint32_t state = 1;

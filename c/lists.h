@@ -22,11 +22,11 @@ struct words {
 #define NO_BYTES ((struct bytes){NULL, 0})
 #define NO_WORDS ((struct words){NULL, 0})
 
-/* 1: a list has a pattern in front of it and after it, and lent memory has one in it. 0: a list has memory of exactly its size, and lent
-   memory is uninitialised, as malloc gives it; run so, valgrind sees an access outside a list, and a branch on what lent memory held. */
+/* 1: there is a pattern before and after each list, and in lent memory. 0: each list has memory of exactly its size, and lent memory is
+   uninitialised, as malloc gives it; valgrind then sees an access outside a list, and a branch on what lent memory held. */
 extern int guarded;
 
-/* A list for a call; all of its memory, and that as it was before the call, where this is known. */
+/* A list for a call: its first element, all of its memory, and a copy of that from before the call, if there is one. */
 struct list {
     void *first;
     unsigned char *all;
@@ -40,16 +40,16 @@ struct list given_words(struct words elements);
 struct list lent_bytes(size_t length);
 struct list lent_words(size_t length);
 
-/* After the call, each of these once for each list, which is then freed. The list begins with these elements, and the rest is as it was. */
+/* After the call, one of these three for each list, which it frees. The list begins with these elements, and the rest is as it was. */
 void wrote(const char *name, struct list *list, const void *elements, size_t n);
 
 /* It is as it was. */
 void kept(const char *name, struct list *list);
 
-/* It is as it was but for its first n elements, which hold anything. */
+/* It is as it was, except its first n elements, which may hold anything. */
 void used(const char *name, struct list *list, size_t n);
 
-/* Says which call is made, for the message where it fails. */
+/* Says which call is made, for the message if it fails. */
 void calling(const char *format, ...);
 
 /* Prints that call with what is wrong, and ends the program. */

@@ -42,7 +42,7 @@ static void alphabets_and_lengths(void)
     refuse_text(TEXT("a"), BYTES('a', 128, '{'), 3);
 }
 
-/* Texts over the alphabet ab; where several faults are in one, the leftmost counts, and 4 to 8 come before 9. */
+/* Texts over the alphabet ab; if one has several faults, the leftmost counts, and 4 to 8 come before 9. */
 static void texts(void)
 {
     static const struct {
@@ -111,7 +111,7 @@ static void forms(void)
         refuse_form((struct words){BAD_FORMS[n] + 1, BAD_FORMS[n][0]});
 }
 
-/* Decode and read of ab* with one line, and what both should say. */
+/* Decode and read of ab* with one line, and the number that both should return. */
 static void refuse_line(struct line line, uint32_t number)
 {
     struct words form = WORDS(0x10020002, 0x20000301, 0x20000202, 0x30000102, 0x30000202);
@@ -120,7 +120,7 @@ static void refuse_line(struct line line, uint32_t number)
     hold_read(TEXT("ab"), TEXT("ab*"), line, 4, NO_WORDS, refused(10));
 }
 
-/* Matrices that are none for K = 2: the list's length, the width, the number of columns. */
+/* Shapes of no matrix for K = 2: the list's length, the width, the number of columns. */
 static const size_t SHAPES[][3] = {
     {6, 2, 2}, /* the width, also without columns, and where the product is right */
     {6, 4, 2},
@@ -141,7 +141,7 @@ static const size_t SHAPES[][3] = {
     {1, SIZE_MAX, SIZE_MAX},
 };
 
-/* 12 by itself, and with all later ones. */
+/* Refusal 12 by itself, and with all later ones. */
 static void matrices(void)
 {
     static uint32_t costs[768];
@@ -155,7 +155,7 @@ static void matrices(void)
     }
 }
 
-/* 13 to 16, each with all later ones: T = 1 and L = 2 need 10 work words; T = 0 has no reading. */
+/* Refusals 13 to 16, each with all later ones: T = 1 and L = 2 need 10 work words; T = 0 has no reading. */
 static void memories(void)
 {
     uint32_t costs[3] = {0, 0, 0};
@@ -178,7 +178,7 @@ static void memories(void)
     decodes(no_first, none, no_reading(none));
 }
 
-/* 17 by itself, and after 14. */
+/* Refusal 17 by itself, and after 14. */
 static void label_lists(void)
 {
     static uint8_t ones[256];

@@ -17,14 +17,14 @@ size_t characters_of(struct words form);
 /* A matrix for a form, with exactly the memory that is needed. */
 struct line line_of(struct words form, const uint32_t *costs, size_t columns);
 
-/* Such a line with a price, a path and its word, or without a reading. */
+/* What is expected for such a line: a price, a path and its word, or no reading. */
 struct answer reading(struct line line, uint32_t price, struct bytes path, struct bytes word);
 struct answer no_reading(struct line line);
 
 /* What is expected at one of the other refusals. */
 struct answer refused(uint32_t number);
 
-/* Decode and read say this of a line with exactly the memory that is needed. */
+/* Decode and read must give this answer for a line with exactly the memory that is needed. */
 void decodes(struct words form, struct line line, struct answer answer);
 void reads(struct bytes alphabet, struct bytes text, struct words form, struct line line, struct answer answer);
 

@@ -1,4 +1,4 @@
-/* A search over all lists of labels on small matrices, by the document's sentences and by none of the calls. */
+/* A search over all lists of labels on small matrices, by the sentences of document 01 and without the calls. */
 #ifndef SEARCH_H
 #define SEARCH_H
 
@@ -14,7 +14,7 @@ size_t lists(size_t k, size_t length);
 /* The list of this number among those of its length, in the order of labels. */
 void nth_list(size_t k, size_t length, size_t number, uint8_t *list);
 
-/* First merges each run of equal neighbours into one, then deletes blanks; the word's length. */
+/* First merges each run of equal neighbours into one, then deletes blanks; returns the word's length. */
 size_t collapse_list(const uint8_t *path, size_t length, uint8_t *word);
 
 /* Says whether a word is accepted, by what the test knows of the form or the expression. */
@@ -29,7 +29,7 @@ struct language {
 struct language language_of(size_t k, acceptance *accepts, const void *what);
 int has_word(const struct language *language, const uint8_t *word, size_t length);
 
-/* The cheapest list whose collapse is accepted, the first of these by labels, if there is one; and is another as cheap? */
+/* The cheapest list whose collapse is accepted, the first of these by labels, if there is one; `tied` if another is as cheap. */
 struct best {
     int found, tied;
     uint32_t price;

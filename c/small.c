@@ -19,10 +19,10 @@ static uint32_t below(uint32_t n)
     return (uint32_t)(state >> 33) % n;
 }
 
-/* Lines with several best lists, lines whose best word needs a blank between equal labels, lines without a reading. */
+/* How many lines have several best lists, a best word that needs a blank between equal labels, no reading. */
 static unsigned long tied, parted, unread;
 
-/* Decode says of each of a few matrices what the search finds, and read too where there is a text. */
+/* Decode must find what the search finds for each of a few matrices, and so must read if there is a text. */
 static void hold_matrices(struct words form, const struct language *language, const char *alphabet, const char *text, int rounds)
 {
     size_t width = language->k + 1;
@@ -47,7 +47,7 @@ static void hold_matrices(struct words form, const struct language *language, co
         }
 }
 
-/* Judge accepts the words of the language and no others. */
+/* Judge must accept the words of the language and no others. */
 static void hold_words(struct words form, const struct language *language)
 {
     uint8_t word[COLUMNS];
@@ -86,7 +86,7 @@ static int accepted_by_form(const void *what, const uint8_t *word, size_t length
     return 0;
 }
 
-/* Forms of at most 3 characters and 5 letters, many of them with several walks for one word; made elsewhere than by compile. */
+/* Forms of at most 3 characters and 5 letters, many of them with several walks for one word; made without compile. */
 static void made_forms(void)
 {
     for (int n = 0; n < 600; n++) {
@@ -133,7 +133,7 @@ static struct language language_of_text(const char *alphabet, const char *text)
     return language;
 }
 
-/* Expressions of every construct but the modifier, which regcomp does not know. */
+/* Expressions of every construct except the modifier, which regcomp does not know. */
 static void texts(void)
 {
     static const char *const TEXTS[][2] = {

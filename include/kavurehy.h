@@ -1,22 +1,22 @@
-/* The calls of libkavurehy.a, for C and C++ on x86-64 Linux. Each is proved in Rattle to do what is said here, for every input:
-   crates/kavurehy/src/lib.rt has the promises, and document 01 the words that are used below.
+/* The calls of libkavurehy.a, for C and C++ on x86-64 Linux. Each call is proved in Rattle to do what is said here, for every input:
+   crates/kavurehy/src/lib.rt has the promises, and document 01 defines the words that are used below.
 
-   A list is passed as a pointer to its first element and its number of elements. Lent memory is what a call may write: lists whose pointers
-   are not const, and the counts. It may be uninitialised: what is returned and counted, and what is written to it but for the work words,
-   does not depend on what it held.
+   A list is passed as a pointer to its first element and its length, the number of its elements. Lent memory is what a call may write: the
+   lists whose pointers are not const, and the counts. It may be uninitialised: what a call returns, counts and writes, except the work
+   words, does not depend on what lent memory held.
 
    The caller has these duties:
-   - No pointer is null. A null pointer is not allowed where the number is 0 either: the proofs know no null pointer. For a list without
-     elements any other pointer will do.
-   - Each pointer points to at least as many elements as its number says, all of them readable, and writable too where they are lent.
-     Const lists are initialised.
-   - Each pointer to uint32_t is aligned to 4 bytes.
-   - Lent memory overlaps no other list of the call, lent or const.
-   - While a call runs, nothing else writes its lists, and nothing else reads its lent memory.
-   - The stack is long enough. The proofs do not count it: compile and read were seen to use up to 266 kB, the other calls less than 4 kB.
+   - Pointers must not be null, even for length 0: the proofs know no null pointer. For length 0 any other pointer will do.
+   - Each pointer must point to at least as many elements as its length says. All of them must be readable, and those of lent memory must be
+     writable too. Const lists must be initialised.
+   - Each pointer to uint32_t must be aligned to 4 bytes.
+   - Lent memory must not overlap any other list of the call, lent or const.
+   - While a call runs, nothing else may write its lists, and nothing else may read its lent memory.
+   - The stack must be large enough. The proofs do not count it: compile and read were seen to use up to 266 kB, the other calls less than
+     4 kB.
 
-   A call keeps no pointer and no state. Calls from several threads at once are safe while they share no lent memory: the lent memory of one
-   overlaps no list of another. Const lists may be shared.
+   A call keeps no pointer and no state. Calls from several threads at once are safe if they share no lent memory: the lent memory of one
+   call must not overlap any list of another. Const lists may be shared.
 
    Labels 1 to K are the characters of the alphabet in their order, and 0 is the blank. A form is a list of 32-bit words; its first word has
    L, the number of letters, in bits 0 to 7, and K in bits 16 to 23. Decode and read need (columns + 1) * (2 * L + 1) work words. No call
@@ -25,26 +25,26 @@
    Each call returns 0, or the number of the refusal that applies:
       1 alphabet       not 1 to 95 distinct bytes, each 32 to 126
       2 text length    0 or over 255
-      3 text byte      one outside 32 to 126
-      4 misplaced sign a repetition with nothing to repeat, or after another but for one ?; an empty branch or group; a stray or missing );
-                       ^ or $ outside brackets without \ in front; \ in front of none of the signs that it makes ordinary
+      3 text byte      a byte outside 32 to 126
+      4 misplaced sign a repetition with nothing to repeat, or after another repetition, except one ?; an empty branch or group; a stray or
+                       missing ); ^ or $ outside brackets without \ before it; \ not before a sign that it makes ordinary
       5 depth          a 17th open group
       6 count          braces ill-formed or out of range
-      7 bracket        unclosed, a range descending, a hyphen where no item may begin with it, or [. [= [: inside
+      7 bracket        unclosed, a descending range, a hyphen where no item may begin with it, or [. [= [: inside
       8 foreign        a character that is not in the alphabet, or a bracket without a label
       9 letters        more than 127
      10 form memory    shorter than the form
      11 bad form       the list is no valid form
-     12 matrix         more than 255 columns, a width other than K + 1, or a list of another length than columns * width
-     13 cost           one over 1,000,000
-     14 output memory  decode, read: path or word memory below the number of columns; collapse: below the path; spread: below the need;
-                       costs: below the number of confidences
+     12 matrix         more than 255 columns, a width other than K + 1, or a list whose length is not columns * width
+     13 cost           a cost over 1,000,000
+     14 output memory  decode, read: path or word memory shorter than the number of columns; collapse: shorter than the path;
+                       spread: shorter than the path needed; costs: shorter than the number of confidences
      15 work           fewer than (columns + 1) * (2 * L + 1) words
-     16 no reading     no path of so many labels collapses to a word that the form accepts (read: to a word of the expression)
-     17 label          K not 1 to 95, a label over K, 0 in a word, or a list over 255
-   Where several apply it is the lowest, but of 4 to 8 the one leftmost in the text. At a refusal each count is 0 and all other lent memory
-   is as it was, but for the needed work words after 16, and but for the form memory of read: 12 to 16 leave it as compile does. On success
-   the memory after what is counted is as it was too. */
+     16 no reading     no path with one label for each column collapses to a word that the form accepts (read: to a word of the expression)
+     17 label          K not 1 to 95, a label over K, 0 in a word, or a list longer than 255
+   If several apply, it is the lowest; but of 4 to 8 it is the one leftmost in the text. At a refusal each count is 0 and all other lent
+   memory is as it was, with two exceptions: after 16 the needed work words may hold anything, and after 12 to 16 the form memory of read is
+   as compile leaves it. On success the memory after what is counted is as it was too. */
 #ifndef KAVUREHY_H
 #define KAVUREHY_H
 
@@ -55,42 +55,44 @@
 extern "C" {
 #endif
 
-/* Writes the form of an expression over an alphabet: it accepts a word of labels exactly if the word is one of the expression's, by its
-   text. counts[0] is the form's length. No form is longer than 16,257 words: the head, 127 letters, an arc from each to each. Refusals:
-   1 to 10. */
+/* Writes the form of an expression over an alphabet to form, and its length to counts[0]. The form accepts a word of labels exactly if the
+   word is one of the expression's, by its text. No form is longer than 16,257 words: the head, 127 letters, an arc from each to each.
+   Returns 0, or a refusal: 1 to 10. */
 uint32_t kavurehy_compile(const uint8_t *alphabet, size_t alphabet_length, const uint8_t *text, size_t text_length, uint32_t *form,
                           size_t form_memory, uint32_t counts[1]);
 
-/* accepted[0] is 1 if the form accepts the word of labels 1 to K, and 0 if it does not, or at a refusal. Refusals: 11, 17. */
+/* Writes 1 to accepted[0] if the form accepts the word of labels 1 to K, and 0 if it does not, or at a refusal. Returns 0, or a refusal:
+   11, 17. */
 uint32_t kavurehy_judge(const uint32_t *form, size_t form_length, const uint8_t *word, size_t word_length, uint32_t accepted[1]);
 
-/* Writes the word that a path of labels 0 to k collapses to: each run of equal neighbours merged into one, then the blanks deleted.
-   counts[0] is the word's length. Refusals: 14 (word memory below the path's length), 17. */
+/* Writes to word the word that a path of labels 0 to k collapses to: each run of equal neighbours merged into one, then the blanks deleted.
+   Writes the word's length to counts[0]. Returns 0, or a refusal: 14 (word memory shorter than the path), 17. */
 uint32_t kavurehy_collapse(size_t k, const uint8_t *path, size_t path_length, uint8_t *word, size_t word_memory, uint32_t counts[1]);
 
-/* Writes the shortest path that collapses to a word of labels 1 to k: one blank between each two equal neighbours and nowhere else.
-   counts[0] is the path's length. Refusals: 14 (path memory below that length), 17. */
+/* Writes to path the shortest path that collapses to a word of labels 1 to k: one blank between each two equal neighbours and nowhere else.
+   Writes the path's length to counts[0]. Returns 0, or a refusal: 14 (path memory shorter than that), 17. */
 uint32_t kavurehy_spread(size_t k, const uint8_t *word, size_t word_length, uint8_t *path, size_t path_memory, uint32_t counts[1]);
 
-/* Reads a matrix, its columns one after another, each with the costs of labels 0 to K. Writes a path of one label for each column, and
-   the word that it collapses to. The form accepts the word. The price, counts[0], is the sum of the path's costs; no other path of so
-   many labels whose collapse the form accepts is cheaper, and each that is as cheap comes later in the order of the labels. counts[1] is
-   the word's length. The needed work words, (columns + 1) * (2 * L + 1) for a form of L letters, hold anything afterwards; the others are
-   as they were. Refusals: 11 to 16. */
+/* Reads a matrix, its columns one after another, each with the costs of labels 0 to K. Writes to path a path with one label for each
+   column, and to word the word that it collapses to, which the form accepts. Writes the price, the sum of the path's costs, to counts[0],
+   and the word's length to counts[1]. No other path of that length whose collapse the form accepts is cheaper, and each that is as cheap
+   comes later in the order of the labels. The needed work words, (columns + 1) * (2 * L + 1) for a form of L letters, may hold anything
+   afterwards; the others are as they were. Returns 0, or a refusal: 11 to 16. */
 uint32_t kavurehy_decode(const uint32_t *form, size_t form_length, const uint32_t *costs, size_t costs_length, size_t width, size_t columns,
                          uint8_t *path, size_t path_memory, uint8_t *word, size_t word_memory, uint32_t *work, size_t work_memory,
                          uint32_t counts[2]);
 
-/* Compiles an expression over an alphabet and reads a matrix by it: writes the form as compile does, and path and word as decode does, but
-   the word as characters of the alphabet, and with the words of the expression for those that the form accepts. counts[0] is the price,
-   counts[1] the word's length, counts[2] the form's. The needed work words, (columns + 1) * (2 * L + 1) for an expression of L letters,
-   hold anything afterwards; the others are as they were. Refusals: 1 to 10, 12 to 16. After 12 to 16 the form memory holds the form,
-   though counts[2] is 0: after 15 its first word says how many work words are needed. */
+/* Compiles an expression over an alphabet and reads a matrix with it. Writes the form as compile does, and path and word as decode does,
+   except that the word is in characters of the alphabet, and that the words of the expression take the place of those that the form
+   accepts. Writes the price to counts[0], the word's length to counts[1] and the form's to counts[2]. The needed work words,
+   (columns + 1) * (2 * L + 1) for an expression of L letters, may hold anything afterwards; the others are as they were. Returns 0, or a
+   refusal: 1 to 10, 12 to 16. After 12 to 16 the form memory holds the form, though counts[2] is 0: after 15 its first word says how many
+   work words are needed. */
 uint32_t kavurehy_read(const uint8_t *alphabet, size_t alphabet_length, const uint8_t *text, size_t text_length, const uint32_t *costs,
                        size_t costs_length, size_t width, size_t columns, uint32_t *form, size_t form_memory, uint8_t *path,
                        size_t path_memory, uint8_t *word, size_t word_memory, uint32_t *work, size_t work_memory, uint32_t counts[3]);
 
-/* Writes one cost for each confidence: 72 for 0, else the largest whole n with 2^n * c^8 <= 2^64. Refusal: 14. */
+/* Writes to costs one cost for each confidence c: 72 for 0, else the largest whole n with 2^n * c^8 <= 2^64. Returns 0, or refusal 14. */
 uint32_t kavurehy_costs(const uint8_t *confidences, size_t confidences_length, uint32_t *costs, size_t costs_memory);
 
 #ifdef __cplusplus

@@ -1,8 +1,8 @@
-//! The proved calls of `libkavurehy.a` behind safe functions: slices in, a [`Result`] with a [`Refusal`] out.
+//! The proved calls of `libkavurehy.a` as safe functions: slices in, a [`Result`] with a [`Refusal`] out.
 //!
-//! Every call takes any input. What it cannot take it turns away, with a row of the table of refusals and all lent memory
-//! as it was, but for the needed work words after [`Refusal::NoReading`], and but for [`read`]'s form memory, which from
-//! [`Refusal::Matrix`] on is as [`compile`] leaves it. On success the memory behind what was written is as it was too.
+//! Every call takes any input. An invalid one is turned away with a [`Refusal`]. All lent memory is then as it was, except the
+//! needed work words after [`Refusal::NoReading`], and except [`read`]'s form memory, which from [`Refusal::Matrix`] on is as
+//! [`compile`] leaves it. On success the memory after what was written is as it was too.
 //!
 //! ```
 //! use kavurehy::{read, work_words, Matrix, FORM_WORDS};
@@ -62,12 +62,12 @@ impl TextReading {
 /// The length of the longest form: the head, 127 letters and an arc from each to each.
 pub const FORM_WORDS: usize = 1 + 127 + 127 * 127;
 
-/// How many work words [`decode`] and [`read`] need for so many columns and letters.
+/// How many work words [`decode`] and [`read`] need for this number of columns and of letters.
 pub const fn work_words(columns: usize, letters: usize) -> usize {
     (columns + 1) * (2 * letters + 1)
 }
 
-/// Writes the form of an expression over an alphabet; its length.
+/// Writes the form of an expression over an alphabet and returns its length.
 ///
 /// ```
 /// use kavurehy::{compile, judge, Refusal};
@@ -79,8 +79,8 @@ pub const fn work_words(columns: usize, letters: usize) -> usize {
 /// assert_eq!(compile(b"ab", b"a**", &mut form), Err(Refusal::MisplacedSign));
 /// ```
 ///
-/// Refusals: rows 1 to 10 of the table, the first that applies; of rows 4 to 8 ([`Refusal::MisplacedSign`] to
-/// [`Refusal::Foreign`]) the leftmost in the text.
+/// Refusals: 1 to 10, the first that applies; of 4 to 8 ([`Refusal::MisplacedSign`] to [`Refusal::Foreign`]) the leftmost in
+/// the text.
 pub fn compile(alphabet: &[u8], text: &[u8], form: &mut [u32]) -> Result<usize, Refusal> {
     let mut counts = [0];
     // SAFETY: each pointer comes with its list's length; `form` and `counts` are lent to nobody else.
@@ -104,7 +104,7 @@ pub fn compile(alphabet: &[u8], text: &[u8], form: &mut [u32]) -> Result<usize, 
 /// Refusals: [`Refusal::BadForm`], [`Refusal::Label`].
 pub fn judge(form: &[u32], word: &[u8]) -> Result<bool, Refusal> {
     let mut accepted = [0];
-    // SAFETY: each pointer comes with its list's length, and `accepted` is of this call alone.
+    // SAFETY: each pointer comes with its list's length, and `accepted` belongs to this call alone.
     let number = unsafe {
         raw::kavurehy_judge(
             form.as_ptr(),
@@ -118,9 +118,9 @@ pub fn judge(form: &[u32], word: &[u8]) -> Result<bool, Refusal> {
     Ok(accepted[0] == 1)
 }
 
-/// Writes the word that a path of labels 0 to `k` collapses to; its length.
+/// Writes the word that a path of labels 0 to `k` collapses to and returns its length.
 ///
-/// Refusals: [`Refusal::OutputMemory`] below the path's length, [`Refusal::Label`].
+/// Refusals: [`Refusal::OutputMemory`] if `word` is shorter than `path`, [`Refusal::Label`].
 pub fn collapse(k: usize, path: &[u8], word: &mut [u8]) -> Result<usize, Refusal> {
     let mut counts = [0];
     // SAFETY: each pointer comes with its list's length; `word` and `counts` are lent to nobody else.
@@ -138,9 +138,9 @@ pub fn collapse(k: usize, path: &[u8], word: &mut [u8]) -> Result<usize, Refusal
     Ok(counts[0] as usize)
 }
 
-/// Writes the shortest path that collapses to a word of labels 1 to `k`; its length.
+/// Writes the shortest path that collapses to a word of labels 1 to `k` and returns its length.
 ///
-/// Refusals: [`Refusal::OutputMemory`] below that length, [`Refusal::Label`].
+/// Refusals: [`Refusal::OutputMemory`] if `path` is shorter than that, [`Refusal::Label`].
 pub fn spread(k: usize, word: &[u8], path: &mut [u8]) -> Result<usize, Refusal> {
     let mut counts = [0];
     // SAFETY: as in `collapse`.
@@ -159,7 +159,7 @@ pub fn spread(k: usize, word: &[u8], path: &mut [u8]) -> Result<usize, Refusal> 
 }
 
 /// Writes the cheapest path of one label for each column whose collapse the form accepts, among equally cheap ones the first
-/// by labels, and its collapse, the word. The work words that are needed ([`work_words`]) hold anything afterwards.
+/// by labels, and its collapse, the word. The work words that are needed ([`work_words`]) may hold anything afterwards.
 ///
 /// ```
 /// use kavurehy::{decode, work_words, Matrix};
@@ -216,8 +216,8 @@ pub fn decode(
 /// Writes the form of an expression over an alphabet, the cheapest path of one label for each column whose collapse is a word
 /// of the expression, among equally cheap ones the first by labels, and that word as characters. The crate's example calls it.
 ///
-/// A form of L letters needs [`work_words`] for L; those hold anything afterwards. L is in bits 0 to 7 of the form's first
-/// word, which stands in the form memory after [`Refusal::Work`] too.
+/// A form of L letters needs [`work_words`] for L; those may hold anything afterwards. L is in bits 0 to 7 of the form's first
+/// word, which is in the form memory after [`Refusal::Work`] too.
 ///
 /// Refusals: those of [`compile`], then [`Refusal::Matrix`], [`Refusal::Cost`], [`Refusal::OutputMemory`],
 /// [`Refusal::Work`], [`Refusal::NoReading`], the first that applies.
@@ -258,7 +258,7 @@ pub fn read(
 
 /// Writes one cost for each confidence.
 ///
-/// Refusal: [`Refusal::OutputMemory`] below their number.
+/// Refusal: [`Refusal::OutputMemory`] if `costs` is shorter than `confidences`.
 pub fn costs(confidences: &[u8], costs: &mut [u32]) -> Result<(), Refusal> {
     // SAFETY: each pointer comes with its list's length; `costs` is lent to nobody else.
     let number = unsafe {

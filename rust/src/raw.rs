@@ -1,5 +1,5 @@
-//! The calls as `include/kavurehy.h` declares them, with the duties of a caller that it lists. A list is a pointer, never null,
-//! and a length; lent memory overlaps no other list of the call.
+//! The calls as `include/kavurehy.h` declares them; a caller has the duties that it lists. A list is a pointer, never null, and
+//! a length; lent memory must not overlap any other list of the call.
 
 extern "C" {
     pub fn kavurehy_compile(

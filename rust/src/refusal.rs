@@ -1,7 +1,7 @@
-//! The rows of the table of refusals.
+//! The refusals and their numbers.
 use std::{error::Error, fmt};
 
-/// Why an input is turned away: the rows of document 01's table, in its order. Rows may be added.
+/// Why an input is turned away: the refusals of document 01, in its order. More may be added.
 #[derive(Clone, Copy, Debug, PartialEq, Eq)]
 #[non_exhaustive]
 pub enum Refusal {
@@ -24,12 +24,12 @@ pub enum Refusal {
     Label,
     /// Given by the sheet program alone.
     Sheet,
-    /// A row of a newer library, by its number: none of [`Refusal::ROWS`] has it.
+    /// A refusal of a newer library, by its number, which none of [`Refusal::ROWS`] has.
     Other(u32),
 }
 
 impl Refusal {
-    /// All rows, in the table's order.
+    /// All refusals, in the order of their numbers.
     pub const ROWS: [Refusal; 18] = [
         Refusal::Alphabet,
         Refusal::TextLength,
@@ -51,7 +51,7 @@ impl Refusal {
         Refusal::Sheet,
     ];
 
-    /// The row's number in the table.
+    /// The refusal's number.
     pub const fn number(self) -> u32 {
         match self {
             Refusal::Alphabet => 1,
@@ -76,8 +76,7 @@ impl Refusal {
         }
     }
 
-    /// The row of this number, [`Refusal::Other`] where the table here has none; no row for 0, with which a call says that it
-    /// succeeds.
+    /// The refusal of this number, [`Refusal::Other`] if none here has it; none for 0, which a call returns when it succeeds.
     ///
     /// ```
     /// use kavurehy::Refusal;
@@ -94,7 +93,7 @@ impl Refusal {
         }
     }
 
-    /// What a call's number says: nothing for 0, else a row.
+    /// What a call's number means: success for 0, else a refusal.
     pub(crate) fn check(number: u32) -> Result<(), Refusal> {
         Refusal::from_number(number).map_or(Ok(()), Err)
     }

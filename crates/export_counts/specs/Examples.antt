@@ -1,4 +1,4 @@
--- What is handed back of a report and of a judgement, in which order, computed.
+-- What is handed back for a report and for a judgement, and in which order, computed.
 use Prim.Native.Nat.{ℕ}
 use mathlib.Core.Path.{_≡_, refl}
 use mathlib.Core.Bool.{true, false}
@@ -20,7 +20,7 @@ record Examples : Type 0 where
   accepted : (handed : List ℕ) (result : ℕ) → HandsJudgement (record { number = 0; accepted = true }) handed result → (handed ≡ 1 ∷ []) × (result ≡ 0)
   rejected : (handed : List ℕ) (result : ℕ) → HandsJudgement (record { number = 0; accepted = false }) handed result → (handed ≡ 0 ∷ []) × (result ≡ 0)
   refused : (handed : List ℕ) (result : ℕ) → HandsJudgement (record { number = 11; accepted = false }) handed result → (handed ≡ 0 ∷ []) × (result ≡ 11)
-  -- what is handed back of that reading
+  -- what is handed back for that reading
   handed-back : (handed : List ℕ) (result : ℕ) → Hands price-and-lengths reading handed result → (handed ≡ 7 ∷ 2 ∷ 5 ∷ []) × (result ≡ 0)
 
 examples : Examples

@@ -1,4 +1,4 @@
--- What is handed back, case by case.
+-- From what is known of an answer to what is handed back.
 use Prim.Native.Nat.{ℕ}
 use mathlib.Core.Path.{_≡_}
 use mathlib.Core.Bool.{cond}
@@ -6,8 +6,6 @@ use mathlib.Core.List.{List, [], _∷_}
 use Rattle.refusal.specs.Report.{Report}
 use Rattle.answers.specs.Judgement.{Judgement}
 use Rattle.export_counts.specs.Handed.{Hands, HandsJudgement}
-
--- From what is known of an answer to what is handed back.
 
 pub hands-as :
     (counts : Report → List ℕ) {answer told : Report} {handed : List ℕ} {result : ℕ} → answer ≡ told → (handed ≡ counts told) × (result ≡ told .number)

@@ -19,7 +19,7 @@ pub fn hand_number(answer: Counted) -> u32
     }
 }
 
-// The length of the list that a call fills.
+// Hands back the length of the list that a call fills.
 pub fn hand_length(answer: Counted, counts: &mut [u32; 1]) -> u32
     requires { ⌜ reported answer .filled < 2 ^ 32 ⌝ }
     ensures { λ r. ⌜ Hands length-alone (reported answer) (new counts) r ⌝ }
@@ -34,7 +34,7 @@ pub fn hand_length(answer: Counted, counts: &mut [u32; 1]) -> u32
     }
 }
 
-// 1 for a word that Judge accepts.
+// Hands back 1 for a word that Judge accepts, else 0.
 pub fn hand_judgement(answer: Judged, accepted: &mut [u32; 1]) -> u32
     ensures { λ r. ⌜ HandsJudgement (judgement answer) (new accepted) r ⌝ }
 {

@@ -8,7 +8,7 @@ ghost use Rattle.answers.specs.Decoded.{reported as decoded};
 ghost use Rattle.answers.specs.Reading.{reported as read};
 ghost use Rattle.export_counts.specs.Handed.{price-and-length, price-and-lengths, Hands};
 
-// Decode's price and the length of its word.
+// Hands back Decode's price and the length of its word.
 pub fn hand_decoded(answer: Decoded, counts: &mut [u32; 2]) -> u32
     requires { ⌜ decoded answer .filled < 2 ^ 32 ⌝ }
     ensures { λ r. ⌜ Hands price-and-length (decoded answer) (new counts) r ⌝ }
@@ -23,7 +23,7 @@ pub fn hand_decoded(answer: Decoded, counts: &mut [u32; 2]) -> u32
     }
 }
 
-// Read's price, the length of its word and that of the form.
+// Hands back Read's price, the length of its word and that of the form.
 pub fn hand_reading(answer: Reading, counts: &mut [u32; 3]) -> u32
     requires { ⌜ (read answer .filled < 2 ^ 32) × (read answer .form < 2 ^ 32) ⌝ }
     ensures { λ r. ⌜ Hands price-and-lengths (read answer) (new counts) r ⌝ }

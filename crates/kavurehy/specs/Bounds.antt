@@ -1,4 +1,4 @@
--- The lengths that the calls report fit 32 bits.
+-- The lengths that the calls report fit in 32 bits.
 use Prim.Native.Nat.{ℕ, _*_, _^_, _<_, _≤_}
 use mathlib.Core.Path.{_≡_, refl, ap}
 use mathlib.Core.Bool.{Bool, true, false, not, _||_}

@@ -1,4 +1,4 @@
--- What the exported calls hand back, and what is in lent memory then: a list filled, a refusal, and `ab*` through Judge, Decode and Read.
+-- What the exported calls hand back, and what lent memory holds then: a list filled, a refusal, and `ab*` with Judge, Decode and Read.
 use Prim.Native.Nat.{ℕ}
 use mathlib.Core.Path.{_≡_, refl, ap, _∙_}
 use mathlib.Core.Option.{some}
@@ -59,7 +59,7 @@ form = 0x10020002 ∷ 0x20000301 ∷ 0x20000202 ∷ 0x30000102 ∷ 0x30000202 �
 abbrev three : Matrix
 three = matrix (5 ∷ 1 ∷ 9 ∷ 5 ∷ 1 ∷ 9 ∷ 5 ∷ 9 ∷ 2 ∷ []) 3 3
 
--- memory for a label more than the path has, and for a word more than the 20 work words: all of it 7
+-- memory for one label more than the path has, and for one work word more than the 20 that are needed: all of it 7
 abbrev lent : Lent
 lent = record { path = replicate 4 7; word = replicate 4 7; work = replicate 21 7 }
 
@@ -135,7 +135,7 @@ reads form′ after handed result h =
       a .work,
     )
 
--- the alphabet first, and then the text: no alphabet is 1, a text of no byte 2
+-- the alphabet is first and the text second: an empty alphabet is 1, and an empty text would be 2
 alphabet-first :
     (M : Matrix) (form form′ : List ℕ) (before after : Lent) (handed : List ℕ) (result : ℕ)
     → ReadsCounted [] (bytes "a") M form form′ before after handed result

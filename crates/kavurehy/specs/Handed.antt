@@ -1,5 +1,5 @@
--- What the exported calls promise: what the call inside promises of its answer and of each lent list, the answer handed back as a number
--- and a list of counts.
+-- What the exported calls promise: what the inner call promises of its answer and of each lent list, with the answer handed back as a
+-- number and a list of counts.
 use Prim.Native.Nat.{ℕ}
 use mathlib.Core.Path.{_≡_}
 use mathlib.Core.List.{List}
@@ -28,7 +28,7 @@ pub record FillsPlain (verdict : Verdict (List ℕ)) (before after : List ℕ) (
 abbrev pub Judges : (form word handed : List ℕ) (result : ℕ) → Type 0
 Judges form word handed result = HandsJudgement (judgement (judged form word)) handed result
 
--- Decode: what it promises of some report, and that one handed back.
+-- Decode: what it promises for some report, and that report handed back.
 pub record DecodesCounted (form : List ℕ) (M : Matrix) (before after : Lent) (handed : List ℕ) (result : ℕ) : Type 0 where
   pub answer : Report
   pub decodes : Decodes form M before after answer

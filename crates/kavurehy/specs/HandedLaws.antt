@@ -1,4 +1,4 @@
--- What the exported calls hand back, case by case.
+-- From what an inner call promises to what the exported call promises.
 use Prim.Native.Nat.{ℕ}
 use mathlib.Core.Path.{_≡_, ap, _∙_}
 use mathlib.Core.List.{List}
@@ -6,8 +6,6 @@ use Rattle.refusal.specs.Verdict.{Verdict}
 use Rattle.refusal.specs.Report.{Report, Fills}
 use Rattle.export_counts.specs.Handed.{length-alone, Hands}
 use Rattle.kavurehy.specs.Handed.{FillsCounted, FillsPlain}
-
--- From the promise inside to the promise exported.
 
 module _ {verdict : Verdict (List ℕ)} {answer : Report} {before after : List ℕ} (fills : Fills verdict answer before after) where
   pub fills-counted : {handed : List ℕ} {result : ℕ} → Hands length-alone answer handed result → FillsCounted verdict before after handed result

@@ -1,5 +1,5 @@
-// The calls exported for C and Rust, and nothing else. A list is passed as a pointer and a length; each call answers 0 or the number
-// of the refusal, and hands its counts back through an array, zeros at a refusal.
+// The calls exported for C and Rust, and nothing else. A list is passed as a pointer and a length; each call returns 0 or the number of
+// the refusal, and hands its counts back through an array, zeros at a refusal.
 use export_counts::hand_judgement;
 use export_counts::hand_length;
 use export_counts::hand_number;
@@ -15,7 +15,7 @@ ghost use Rattle.compile.specs.Call.{compile-call};
 ghost use Rattle.decode_valid.specs.Answers.{lent};
 ghost use Rattle.kavurehy.specs.Handed.{FillsCounted, FillsPlain, Judges, DecodesCounted, ReadsCounted};
 
-// The form of an expression over an alphabet; its length in `counts`.
+// Writes the form of an expression over an alphabet, and its length to `counts`.
 #[no_mangle]
 pub extern "C" fn kavurehy_compile(
     alphabet: &[u8],
@@ -28,7 +28,7 @@ pub extern "C" fn kavurehy_compile(
     hand_length(compile::compile(alphabet, text, form), counts)
 }
 
-// Does the form accept the word? 1 or 0 in `accepted`.
+// Does the form accept the word? Writes 1 or 0 to `accepted`.
 #[no_mangle]
 pub extern "C" fn kavurehy_judge(form: &[u32], word: &[u8], accepted: &mut [u32; 1]) -> u32
     ensures { λ r. ⌜ Judges (old form) (old word) (new accepted) r ⌝ }
@@ -36,7 +36,7 @@ pub extern "C" fn kavurehy_judge(form: &[u32], word: &[u8], accepted: &mut [u32;
     hand_judgement(judge::judge(form, word), accepted)
 }
 
-// The word that a path of labels 0 to k collapses to; its length in `counts`.
+// Writes the word that a path of labels 0 to k collapses to, and its length to `counts`.
 #[no_mangle]
 pub extern "C" fn kavurehy_collapse(
     k: usize,
@@ -49,7 +49,7 @@ pub extern "C" fn kavurehy_collapse(
     hand_length(ctc_collapse::collapse(k, path, word), counts)
 }
 
-// The shortest path that collapses to a word of labels 1 to k; its length in `counts`.
+// Writes the shortest path that collapses to a word of labels 1 to k, and its length to `counts`.
 #[no_mangle]
 pub extern "C" fn kavurehy_spread(
     k: usize,
@@ -62,7 +62,7 @@ pub extern "C" fn kavurehy_spread(
     hand_length(ctc_spread::spread(k, word, path), counts)
 }
 
-// The cheapest path whose collapse the form accepts, and its word; price and word length in `counts`.
+// Writes the cheapest path whose collapse the form accepts, and its word; price and word length to `counts`.
 #[no_mangle]
 pub extern "C" fn kavurehy_decode(
     form: &[u32],
@@ -83,8 +83,8 @@ pub extern "C" fn kavurehy_decode(
     )
 }
 
-// The form of an expression, and the cheapest path whose collapse is a word of it, with the word as characters; price, word length and
-// form length in `counts`.
+// Writes the form of an expression, the cheapest path whose collapse is a word of it, and that word as characters; price, word length and
+// form length to `counts`.
 #[no_mangle]
 pub extern "C" fn kavurehy_read(
     alphabet: &[u8],
@@ -117,7 +117,7 @@ pub extern "C" fn kavurehy_read(
     )
 }
 
-// One cost for each confidence.
+// Writes one cost for each confidence.
 #[no_mangle]
 pub extern "C" fn kavurehy_costs(confidences: &[u8], costs: &mut [u32]) -> u32
     ensures { λ r. ⌜ FillsPlain (costs-call (old confidences) (length (old costs))) (old costs) (new costs) r ⌝ }

@@ -1,4 +1,4 @@
--- What a read answered that neither failed nor was at the end, for the loop of `read_input`.
+-- The answer of a read that neither failed nor was at the end: what the loop of `read_input` needs of it.
 use mathlib.Core.Path.{_≡_, refl, sym, subst}
 use mathlib.Core.Bool.{false}
 use mathlib.Core.List.{List}
@@ -14,7 +14,7 @@ use mir.Val.{SFits, toZ, ofZ}
 use mir.Facts.{toZ-ofZ}
 use Rattle.libc.specs.Io.{Moved}
 
--- bytes came, at least one, and with those that were there before they are within the buffer
+-- at least one byte came, and with the bytes before them those that came are within the buffer
 pub record Came (buffer : List ℕ) (done : ℕ) (got : ℤ) : Type 0 where
   pub sign : T (nonNeg got)
   pub some : 0 < natAbs got
@@ -32,7 +32,7 @@ module _ (buffer : List ℕ) (done : ℕ) (h : done ≤ length buffer) where
   came-number (pos (suc k)) m n e = record { sign = tt; some = omega arith; within = omega (arith, m, room-is) }
   came-number (negsuc k) m n e = let z : _≡_ {A = ℕ} 0 1 = cc in absurd (omega arith)
 
-  -- the number is read back from its bits
+  -- the signed number, recovered from its bits
   pub came :
       (got : ℤ) → SFits w64 got → Moved room got → ltZ (toZ w64 (ofZ w64 got)) (pos 0) ≡ false → (ofZ w64 got ≡ 0 → ⊥)
       → Came buffer done (toZ w64 (ofZ w64 got))

@@ -1,4 +1,4 @@
--- What is printed for an input that was read to its end, and for one that failed.
+-- What is printed for document 01's sheet after it was read to its end, and after a read that failed.
 use mathlib.Core.Path.{_≡_}
 use mathlib.Core.List.{List, []}
 use Prim.Native.Nat.{ℕ}

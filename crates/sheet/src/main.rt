@@ -1,7 +1,7 @@
 // The sheet program (document 01, "Confidences and the sheet program"): a sheet on standard input, its lines on standard output.
-// After a read that fails nothing is printed: what has come so far may be a shorter sheet, whose reading would be a wrong one. A write
-// that fails ends the program. Both leave exit code 0: the answer is what is printed. Where the reader of a pipe has gone, the system
-// ends the program as it ends any other.
+// After a read that fails nothing is printed: what has come so far may be a shorter sheet, whose reading would be wrong. A write that
+// fails ends the program. Both give exit code 0: the answer is what is printed. If nobody reads the output pipe any more, the system ends
+// the program as it ends any other.
 use libc::STDIN_FILENO;
 use libc::STDOUT_FILENO;
 ghost use Prim.Native.Nat.{_<_, _≤_};
@@ -18,7 +18,7 @@ enum Input {
     Failed,
 }
 
-// Reads to the end of the input. There is room for a byte more than a sheet may have, so that the byte too many is seen.
+// Reads to the end of the input. There is room for one byte more than a sheet may have, so that a byte too many is seen.
 fn read_input(fd: i32, buffer: &mut [u8]) -> Input
     requires { ⌜ most-bytes < length (now buffer) ⌝ }
     ensures { λ r. ⌜ Arrived r (new buffer) ⌝ }
@@ -37,7 +37,7 @@ fn read_input(fd: i32, buffer: &mut [u8]) -> Input
     Input::Whole(done)
 }
 
-// Prints what there is to print for the input: nothing after a read that failed; the number of bytes.
+// Prints the answer to the input, nothing after a read that failed, and returns the number of bytes.
 fn answer_input(input: Input, buffer: &[u8], out: &mut [u8]) -> usize
     requires { ⌜ Arrived input (now buffer) ⌝ }
     requires { ⌜ longest ≤ length (now out) ⌝ }

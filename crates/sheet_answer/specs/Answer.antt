@@ -1,5 +1,5 @@
 -- What the sheet program prints for the bytes of its input (document 01, "Confidences and the sheet program" and "What is turned away"):
--- "18 comes first; else the lowest number". No memory is in it.
+-- "18 comes first; else the lowest number". It does not mention memory.
 use Prim.Native.Nat.{ℕ}
 use mathlib.Core.Path.{_≡_}
 use mathlib.Core.Option.{Option, some, none}
@@ -10,7 +10,7 @@ use Rattle.sheet_format.specs.Sheet.{Sheet, sheetOf, matrixOf}
 use Rattle.sheet_lines.specs.Lines.{refusal-line}
 use Rattle.sheet_read.specs.Answer.{PrintsReading}
 
--- row 18
+-- refusal 18
 abbrev pub PrintsSheet : Option Sheet → (output : List ℕ) → Type 0
 PrintsSheet none output = output ≡ refusal-line (numberOf refusal.Sheet)
 PrintsSheet (some S) output = PrintsReading (S .alphabet) (S .text) (matrixOf S) output

@@ -1,4 +1,4 @@
--- One input has one output.
+-- For one input there is one output.
 use Prim.Native.Nat.{ℕ}
 use mathlib.Core.Path.{_≡_, sym, _∙_}
 use mathlib.Core.Option.{Option, some, none}
@@ -8,8 +8,6 @@ use Rattle.sheet_format.specs.Sheet.{Sheet, sheetOf, matrixOf}
 use Rattle.sheet_read.specs.Answer.{form-room}
 use Rattle.sheet_read.specs.AnswerLaws.{compiled-same}
 use Rattle.sheet_answer.specs.Answer.{PrintsSheet, Prints}
-
--- One input has one output.
 
 sheet-same : (o : Option Sheet) (a b : List ℕ) → PrintsSheet o a → PrintsSheet o b → a ≡ b
 sheet-same none a b h g = h ∙ sym g

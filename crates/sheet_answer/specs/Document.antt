@@ -1,5 +1,5 @@
--- Document 01's sheet and some of its lines to try, as inputs of the sheet program and what is printed for each.
--- Computed examples. Used in sheet.
+-- Document 01's sheet and some of its lines to try, as inputs of the sheet program, and what is printed for each, computed. The crate
+-- `sheet` uses the first.
 use Prim.Native.Nat.{ℕ}
 use mathlib.Core.Path.{_≡_, refl}
 use mathlib.Core.Option.{some, none}

@@ -1,4 +1,4 @@
--- From what the scan of an input promises to what is printed for it.
+-- From what `scan` promises for an input to what is printed for it.
 use Prim.Native.Nat.{ℕ, _+_, _-_, _*_, _≤_}
 use mathlib.Core.Path.{_≡_, refl, sym, ap, ap₂, _∙_}
 use mathlib.Core.Option.{Option, some, none}
@@ -18,7 +18,8 @@ use Rattle.sheet_lines.specs.Lines.{refusal-line}
 use Rattle.sheet_read.specs.Answer.{PrintsReading}
 use Rattle.sheet_answer.specs.Answer.{PrintsSheet, Prints}
 
--- A sheet by its places: the two lines lie in the input and the costs in the memory, and what is printed for them is printed for it.
+-- A sheet by its places: the two lines are within the input, the costs within the memory, and what is printed for these is what is printed
+-- for the sheet.
 pub record Laid (input costs : List ℕ) (a t w n : ℕ) : Type 0 where
   pub lines : a + 1 + t ≤ length input
   pub few : n * w ≤ 16384

@@ -9,7 +9,7 @@ ghost use Rattle.sheet_read.specs.Answer.{longest};
 ghost use Rattle.sheet_read.specs.Promise.{Answers};
 ghost use Rattle.sheet_answer.specs.Answer.{Prints};
 
-// Reads a sheet and prints its reading or refusal; the number of bytes. The memory for its costs is local.
+// Parses a sheet, prints its reading or refusal and returns the number of bytes. The memory for its costs is local.
 pub fn answer(input: &[u8], out: &mut [u8]) -> usize
     requires { ⌜ longest ≤ length (now out) ⌝ }
     ensures { λ r. ⌜ Answers (Prints (old input)) (old out) (new out) r ⌝ }

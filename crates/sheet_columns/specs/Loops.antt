@@ -1,4 +1,4 @@
--- Columns stored, a cost or a column at a time.
+-- The steps of the loops that store columns: one cost more, and one column more.
 use mathlib.Core.Path.{_≡_, refl, sym, ap, _∙_}
 use mathlib.Core.Option.{Option, some, none}
 use mathlib.Core.List.{List, [], _∷_, flatten}
@@ -35,7 +35,7 @@ drop-sets n (v ∷ c) m i l = drop-sets n c (set m i v) (suc i) (omega arith) �
 pub spoilt-none : (m : List ℕ) → Spoilt m m
 spoilt-none m = record { size = refl; behind = refl }
 
--- what was stored in front of place 16,384 is spoilt too
+-- what was stored before place 16,384 is spoilt too
 pub spoilt-stored :
     (c : List ℕ) (n f : ℕ) (before middle after : List ℕ) → Stored c n before middle f → f ≤ 16384 → Spoilt middle after → Spoilt before after
 spoilt-stored c n f before middle after s l h =
@@ -65,7 +65,7 @@ put-newline : (v b : ℕ) (o : Option (List (List ℕ))) → b ≡ 10 → put (s
 unfolding both
 put-newline v b o e = rw (eq-eqb b 10 e)
 
--- the column that a cost begins has that cost
+-- a column that begins with a cost is not empty
 put-some :
     (v b : ℕ) (o : Option (List (List ℕ))) (c : List ℕ) (cs : List (List ℕ)) → put (some v) b o ≡ some (c ∷ cs) → 0 < length c
 unfolding both beside
@@ -138,7 +138,7 @@ module _ (input : List ℕ) (at m : ℕ) (before : List ℕ) where
       spoilt-stored (v ∷ []) m (m + 1) before (set before m v) after (record { next = refl; memory = refl }) (omega arith) (s .1),
     )
 
--- the columns are those behind the first, and it
+-- the columns are the first and those after it
 pub both-back :
     (c : List ℕ) (o : Option (List (List ℕ))) (cs : List (List ℕ)) → both (some c) o ≡ some cs
     → (ds : List (List ℕ)) × (o ≡ some ds) × (cs ≡ c ∷ ds)

@@ -21,7 +21,7 @@ pub record AllColumns (if-none : ℕ) (input : List ℕ) (at : ℕ) (before afte
   pub is-count : count ≡ length columns
   pub memory : after ≡ written (flatten columns) before
 
--- all columns, one behind another in front of the memory; or there are none that fit
+-- all columns, one after another at the front of the memory; or there are none that fit
 abbrev pub StoredMatrix : ℕ → List ℕ → ℕ → List ℕ → List ℕ → Body → Type 0
 StoredMatrix if-none input at before after (body.Matrix width count) = AllColumns if-none input at before after width count
 StoredMatrix if-none input at before after body.Bad =

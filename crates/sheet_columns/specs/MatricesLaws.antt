@@ -1,4 +1,4 @@
--- All columns of a sheet, case by case.
+-- What storing the whole matrix answers, a lemma for each return of `store_matrix`.
 use mathlib.Core.Path.{_≡_, refl, sym, ap, _∙_}
 use mathlib.Core.Option.{some}
 use mathlib.Core.List.{List, [], _∷_, _++_, flatten}

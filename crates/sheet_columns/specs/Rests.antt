@@ -1,5 +1,5 @@
--- The columns from a place of the input on, by the cost that is read at the place: what it makes of the columns behind its separator, and
--- that without a cost no column begins there.
+-- The columns from a place of the input on, by the cost at the place and the columns after its separator. Without a cost no column begins
+-- there.
 use mathlib.Core.Path.{_≡_, sym, ap, _∙_}
 use mathlib.Core.Option.{some}
 use mathlib.Core.List.{List, [], _∷_, _++_}

@@ -1,5 +1,5 @@
--- What the functions that store costs answer, and what a column line more makes of it. Each speaks of the columns that the rest of the
--- input holds from a place on, and of the memory from a place on.
+-- What the functions that store one column line, or several, answer: for the columns in the rest of the input from a place on, and the
+-- memory from a place on.
 use mathlib.Core.Path.{_≡_}
 use mathlib.Core.Option.{some}
 use mathlib.Core.List.{List, _∷_, flatten}
@@ -16,14 +16,14 @@ use Rattle.sheet_columns.specs.declared.Column.the-variants as column
 use Rattle.sheet_columns.specs.declared.Columns.{Columns}
 use Rattle.sheet_columns.specs.declared.Columns.the-variants as columns
 
--- The first 16,384 places hold anything, and nothing else of the memory is changed.
+-- The first 16,384 places may hold anything, and the rest of the memory is unchanged.
 pub record Spoilt (before after : List ℕ) : Type 0 where
   pub size : length after ≡ length before
   pub behind : drop 16384 after ≡ drop 16384 before
 
 -- One column line.
 
--- the first column of the rest goes to the places from m up to f, and the rest behind its line begins at e
+-- the first column of the rest is stored at the places from m up to f, and the rest after its line begins at e
 pub record OneColumn (input : List ℕ) (at m : ℕ) (before after : List ℕ) (e f : ℕ) : Type 0 where
   pub costs : List ℕ
   pub is : columnsIn (drop at input) ≡ both (some costs) (columnsIn (drop e input))
@@ -38,7 +38,7 @@ StoredColumn input at m before after (column.Ends e f) = OneColumn input at m be
 StoredColumn input at m before after column.Bad =
     ((c : List ℕ) (cs : List (List ℕ)) → columnsIn (drop at input) ≡ some (c ∷ cs) → 16384 < m + length c) × Spoilt before after
 
--- All column lines from a place on, each with w costs; m costs and n columns stand in front.
+-- All column lines from a place on, each with w costs; m costs and n columns come before them.
 
 abbrev pub wide : ℕ → List (List ℕ) → Bool
 wide w cs = all (λ d. eqb (length d) w) cs

@@ -7,7 +7,7 @@ ghost use Rattle.lists.specs.Memory.{old, new};
 ghost use Rattle.sheet_columns.specs.Storing.{StoredColumn, StoredColumns};
 ghost use Rattle.sheet_columns.specs.Matrices.{StoredMatrix};
 
-// The place behind a column line, and how many costs are stored with its own.
+// The place after a column line, and how many costs are stored, its own included.
 enum Column {
     Ends(usize, usize),
     Bad,
@@ -25,7 +25,7 @@ pub enum Body {
     Bad,
 }
 
-// Stores the costs of the column line that begins here, from place m on.
+// Stores the costs of the column line that begins at `at`, from place m of the memory on.
 fn store_column(input: &[u8], at: usize, costs: &mut [u32], m: usize) -> Column
     requires { ⌜ (at ≤ length (now input)) × (m ≤ 16384) × (16384 ≤ length (now costs)) ⌝ }
     ensures { λ r. ⌜ StoredColumn (old input) at m (old costs) (new costs) r ⌝ }
@@ -48,7 +48,7 @@ fn store_column(input: &[u8], at: usize, costs: &mut [u32], m: usize) -> Column
     }
 }
 
-// Stores the column lines behind the first, which is stored already, with as many costs.
+// Stores the column lines after the first, which is stored already; each must have `width` costs too.
 fn store_columns(input: &[u8], at: usize, costs: &mut [u32], width: usize) -> Columns
     requires { ⌜ (at ≤ length (now input)) × (width ≤ 16384) × (16384 ≤ length (now costs)) ⌝ }
     ensures { λ r. ⌜ StoredColumns width (old input) at width 1 (old costs) (new costs) r ⌝ }
@@ -70,7 +70,7 @@ fn store_columns(input: &[u8], at: usize, costs: &mut [u32], width: usize) -> Co
     Columns::Count(n)
 }
 
-// Stores all column lines; where there is none the width is `width_if_none`. If they do not fit, the first 16,384 places of the memory
+// Stores all column lines; if there is none, the width is `width_if_none`. If they do not fit, the first 16,384 places of the memory may
 // hold anything.
 pub fn store_matrix(input: &[u8], at: usize, costs: &mut [u32], width_if_none: usize) -> Body
     requires { ⌜ (at ≤ length (now input)) × (16384 ≤ length (now costs)) ⌝ }

@@ -1,4 +1,4 @@
--- Laws of the decimal numeral: its last digit, its length, the number that it stands for, no extra zero.
+-- Laws of the decimal numeral: its last digit, its length, its value, no extra zero.
 use Prim.Native.Nat.{ℕ, zero, suc, _+_, _-_, _*_, _/_, _%_, _^_, _<_, _≤_}
 use mathlib.Core.Path.{_≡_, refl, sym, ap, _∙_}
 use mathlib.Core.Logic.{⊎-elim}
@@ -21,7 +21,7 @@ digits-more : (k n : ℕ) → 10 ≤ n → digits (suc k) n ≡ digits k (n / 10
 unfolding digits
 digits-more k n h = rw (le-ltb n 10 h, digits)
 
--- divisions enough give the same digits
+-- any number of divisions that is enough gives the same digits
 digits-enough : (k j n : ℕ) → n < k → n < j → digits k n ≡ digits j n
 digits-enough zero j n h g = absurd (omega arith)
 digits-enough (suc k) zero n h g = absurd (omega arith)
@@ -51,12 +51,12 @@ decimal-short (suc k) n h =
     ⊎-elim (λ l. let e = ap length (decimal-one n l) in omega arith)
     (λ l. let e = decimal-longer n l in let d = decimal-short k (n / 10) (omega arith) in omega arith) (lt-or-le n 10)
 
--- a digit behind others
+-- a digit after others
 value-append : (n d : ℕ) (ds : List ℕ) → value n (ds ++ (d ∷ [])) ≡ 10 * value n ds + (d - 48)
 value-append n d [] = refl
 value-append n d (e ∷ ds) = value-append (10 * n + (e - 48)) d ds
 
--- read as a number, a numeral gives what was written
+-- the value of a number's digits is the number
 digits-value : (k n : ℕ) → n < k → value 0 (digits k n) ≡ n
 digits-value zero n h = absurd (omega arith)
 digits-value (suc k) n h =
@@ -68,7 +68,7 @@ pub decimal-value : (n : ℕ) → value 0 (decimal n) ≡ n
 unfolding decimal
 decimal-value n = digits-value (n + 1) n (omega arith)
 
--- The numeral has a digit at least, digits only, and no extra zero in front.
+-- A numeral has at least one digit, digits only, and no extra zero at the front.
 
 digits-some : (k n : ℕ) → n < k → 1 ≤ length (digits k n)
 digits-some zero n h = absurd (omega arith)

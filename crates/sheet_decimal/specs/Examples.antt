@@ -1,9 +1,7 @@
--- Numbers in decimal.
+-- Numbers in decimal at the edges, computed.
 use mathlib.Core.Path.{_≡_, refl}
 use Rattle.text.specs.Bytes.{bytes}
 use Rattle.sheet_decimal.specs.Numerals.{digits, decimal}
-
--- Checked at the edges.
 
 nought : decimal 0 ≡ bytes "0"
 unfolding decimal digits
@@ -13,7 +11,7 @@ hundred : decimal 100 ≡ bytes "100"
 unfolding decimal digits
 hundred = refl
 
--- the dearest path there is
+-- the price of the dearest path
 dearest : decimal 255000000 ≡ bytes "255000000"
 unfolding decimal digits
 dearest = refl

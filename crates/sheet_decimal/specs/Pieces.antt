@@ -1,4 +1,4 @@
--- Two pieces written one behind the other.
+-- Two pieces written one after the other.
 use Prim.Native.Nat.{ℕ, _+_, _≤_}
 use mathlib.Core.Path.{_≡_, ap}
 use mathlib.Core.List.{List, _++_}
@@ -7,7 +7,7 @@ use lib.ListN.{length, length-append}
 use Rattle.lists.specs.WrittenLaws.{stored-then, stored-size}
 use Rattle.lists.specs.Memory.{Stored}
 
--- front and back make the whole: room for both, and what is stored then
+-- front and back are the whole: there is room for both, and what is stored then
 module _ (whole front back before : List ℕ) (n : ℕ) (is : whole ≡ front ++ back) (room : n + length whole ≤ length before) where
   pub front-room : n + length front ≤ length before
   front-room = omega (arith, ap length is, length-append front back)

@@ -14,7 +14,7 @@ fn digit_of(n: u32) -> u8
     (48 + n) as u8
 }
 
-// Writes one byte at place n; the next place.
+// Writes one byte at place n and returns the next place.
 pub fn put(b: u8, out: &mut [u8], n: usize) -> usize
     requires { ⌜ n < length (now out) ⌝ }
     ensures { λ r. ⌜ Stored (b ∷ []) n (old out) (new out) r ⌝ }
@@ -23,7 +23,7 @@ pub fn put(b: u8, out: &mut [u8], n: usize) -> usize
     n + 1
 }
 
-// Writes bytes as they are from place n on; the next place.
+// Writes bytes as they are from place n on and returns the next place.
 pub fn put_bytes(bytes: &[u8], out: &mut [u8], n: usize) -> usize
     requires { ⌜ n + length (now bytes) ≤ length (now out) ⌝ }
     ensures { λ r. ⌜ Stored (old bytes) n (old out) (new out) r ⌝ }
@@ -37,7 +37,7 @@ pub fn put_bytes(bytes: &[u8], out: &mut [u8], n: usize) -> usize
     m
 }
 
-// Writes a number in decimal from place n on; the next place.
+// Writes a number in decimal from place n on and returns the next place.
 pub fn put_decimal(x: u32, out: &mut [u8], n: usize) -> usize
     requires { ⌜ n + length (decimal x) ≤ length (now out) ⌝ }
     ensures { λ r. ⌜ Stored (decimal x) n (old out) (new out) r ⌝ }

@@ -1,4 +1,4 @@
--- The column lines of a sheet, from a place on.
+-- The columns that the lines of a sheet hold from a place on.
 use mathlib.Core.Path.{_≡_}
 use mathlib.Core.Option.{Option, some, none}
 use mathlib.Core.List.{List}
@@ -6,16 +6,15 @@ use Prim.Native.Nat.{ℕ}
 use Rattle.lists.specs.Lists.{Each}
 use Rattle.sheet_format.specs.Sheet.{every, linesOf, columnOf}
 
--- no byte is the separator c
+-- no byte of the text is the separator c
 abbrev pub Free : ℕ → List ℕ → Type 0
 Free c p = Each (λ b. b ≡ c → ⊥) p
 
--- Columns.
-
+-- the columns of a list of lines, if each is a column line
 unfoldable pub columnsOf : Option (List (List ℕ)) → Option (List (List ℕ))
 columnsOf none = none
 columnsOf (some ls) = every columnOf ls
 
--- the columns of a sheet's rest
+-- the columns in the rest of a sheet
 abbrev pub columnsIn : List ℕ → Option (List (List ℕ))
 columnsIn s = columnsOf (linesOf s)

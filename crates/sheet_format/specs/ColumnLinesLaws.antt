@@ -1,4 +1,4 @@
--- The columns that the rest of a sheet holds, from any place on: what the rest's first line or first number makes of them.
+-- Laws of the columns that the rest of a sheet holds: by its first line, and by its first cost.
 use mathlib.Core.Path.{_≡_, refl, sym, ap, _∙_}
 use mathlib.Core.Option.{Option, some, none}
 use mathlib.Core.List.{List, [], _∷_, _++_, append-assoc, append-nil}
@@ -36,7 +36,7 @@ some-piece c (b ∷ s) = by (eqb b c) refl
     by true e = record { first = []; others = pieces c s; is = rw e }
     by false e = let o = onto-some b (pieces c s) in record { first = o .0; others = o .1; is = rw e (o .2) }
 
--- a part without separators in front of pieces
+-- a text without separators put before the first piece
 unfoldable ahead : List ℕ → List (List ℕ) → List (List ℕ)
 ahead p [] = p ∷ []
 ahead p (q ∷ qs) = (p ++ q) ∷ qs
@@ -54,7 +54,7 @@ pieces-ahead c [] s f = by (some-piece c s)
     by o = rw (o .is)
 pieces-ahead c (b ∷ p) s f = rw (ne-eqb b c (f .0), pieces-ahead c p s (f .1)) (ahead-onto b p (pieces c s))
 
--- a piece that ends here
+-- the first piece ends at the first separator
 pieces-end : (c : ℕ) (p s : List ℕ) → Free c p → pieces c (p ++ (c ∷ s)) ≡ p ∷ pieces c s
 unfolding ahead pieces
 pieces-end c p s f = pieces-ahead c p (c ∷ s) f ∙ rw (eq-eqb c c refl, append-nil)
@@ -65,11 +65,11 @@ closed-more : (p : List ℕ) (c : ℕ) (s : List ℕ) → closed (p ∷ pieces c
 unfolding closed
 closed-more p c s = let o = some-piece c s in rw (o .is)
 
--- the first line ends here
+-- the first line ends at the first newline
 pub lines-end : (p s : List ℕ) → Free 10 p → linesOf (p ++ (10 ∷ s)) ≡ both (some p) (linesOf s)
 lines-end p s f = ap closed (pieces-end 10 p s f) ∙ closed-more p 10 s
 
--- a text that begins with a part of a line
+-- the beginning of a line put before the first line
 unfoldable longer : List ℕ → Option (List (List ℕ)) → Option (List (List ℕ))
 longer p none = none
 longer p (some []) = none
@@ -90,7 +90,7 @@ closed-ahead a p (q ∷ (r ∷ ps)) = longer-both (a ∷ p) q (closed (r ∷ ps)
 lines-longer : (a : ℕ) (p s : List ℕ) → Free 10 (a ∷ p) → linesOf ((a ∷ p) ++ s) ≡ longer (a ∷ p) (linesOf s)
 lines-longer a p s f = ap closed (pieces-ahead 10 (a ∷ p) s f) ∙ closed-ahead a p (pieces 10 s)
 
--- a last line without its newline
+-- a line without its newline is not a list of lines
 pub lines-open : (p : List ℕ) → 0 < length p → Free 10 p → linesOf p ≡ none
 unfolding longer closed pieces
 lines-open [] l f = absurd (omega arith)
@@ -135,7 +135,7 @@ lines-back (b ∷ s) l ls e =
           others = f .others ∙ ap some n;
         }
 
--- a cost in front of the first column
+-- a cost put before the first column
 unfoldable pub beside : Option ℕ → Option (List (List ℕ)) → Option (List (List ℕ))
 beside none o = none
 beside (some v) none = none
@@ -151,7 +151,7 @@ pub columnsIn-end : columnsIn [] ≡ some []
 unfolding columnsOf closed pieces every
 columnsIn-end = refl
 
--- the first column ends with this line
+-- the first line is the first column
 pub columnsIn-line : (p s : List ℕ) → Free 10 p → columnsIn (p ++ (10 ∷ s)) ≡ both (columnOf p) (columnsIn s)
 unfolding columnsOf both every
 columnsIn-line p s f = ap columnsOf (lines-end p s f) ∙ by (linesOf s)
@@ -160,12 +160,12 @@ columnsIn-line p s f = ap columnsOf (lines-end p s f) ∙ by (linesOf s)
     by none = sym (both-none (columnOf p))
     by (some ls) = refl
 
--- the line that a cost alone is
+-- a line of one cost
 pub column-one : (p : List ℕ) → Free 32 p → columnOf p ≡ both (costOf p) (some [])
 unfolding columnOf every ahead pieces
 column-one p f = ap (every costOf) (ap (pieces 32) (sym (append-nil p)) ∙ pieces-ahead 32 p [] f ∙ ap (λ q. q ∷ []) (append-nil p))
 
--- a line's first cost ends here
+-- a line's first cost ends at the first space
 column-more : (p l : List ℕ) → Free 32 p → columnOf (p ++ (32 ∷ l)) ≡ both (costOf p) (columnOf l)
 unfolding columnOf every
 column-more p l f = ap (every costOf) (pieces-end 32 p l f)
@@ -190,7 +190,7 @@ beside-nothing (some v) = refl
 free-snoc : (p : List ℕ) → Free 10 p → Free 10 (p ++ (32 ∷ []))
 free-snoc p f = each-append (λ b. b ≡ 10 → ⊥) p (32 ∷ []) f (λ e. omega arith, tt)
 
--- a space stands behind the first cost
+-- a space follows the first cost
 pub columnsIn-space : (p s : List ℕ) → Free 10 p → Free 32 p → columnsIn (p ++ (32 ∷ s)) ≡ beside (costOf p) (columnsIn s)
 unfolding columnsOf longer every
 columnsIn-space p s f g =
@@ -208,7 +208,7 @@ columnsIn-space p s f g =
         ∙ ap (λ q. both q (every columnOf ls)) (column-more p l g)
         ∙ beside-both (costOf p) (columnOf l) (every columnOf ls)
 
--- the first piece is the whole text, or a separator stands behind it
+-- the first piece is the whole text, or a separator follows it
 abbrev Leads : ℕ → List ℕ → List ℕ → Type 0
 Leads c p s = (s ≡ p) ⊎ ((r : List ℕ) × (s ≡ p ++ (c ∷ r)))
 
@@ -235,7 +235,7 @@ unfolding both
 both-front none o ys e = let z : _≡_ {A = ℕ} 0 1 = cc in absurd (omega arith)
 both-front (some a) o ys e = (a, refl)
 
--- a rest that has a column begins with a cost, and a separator stands behind it
+-- a rest that has a column begins with a cost and a separator
 pub record FirstCost (s : List ℕ) : Type 0 where
   pub text : List ℕ
   pub cost : ℕ
@@ -283,7 +283,7 @@ columnsIn-back s c cs e = by (linesOf s) refl e
         let x = both-front (columnOf l) (every columnOf ls) (c ∷ cs) h in
         first l ls (lines-back s l ls q) (some-piece 32 l) (x .0) (x .1)
 
--- what a cost makes of the columns behind its separator b
+-- the columns that begin with a cost, by its separator b and the columns after that
 abbrev pub put : Option ℕ → ℕ → Option (List (List ℕ)) → Option (List (List ℕ))
 put x b o = cond (eqb b 10) (both (both x (some [])) o) (beside x o)
 
@@ -292,7 +292,7 @@ pub columnsIn-put :
 columnsIn-put p b s f g (inl e) = rw e (columnsIn-space p s f g)
 columnsIn-put p b s f g (inr e) = rw e (columnsIn-line p s f ∙ ap (λ c. both c (columnsIn s)) (column-one p g))
 
--- a rest that is not empty has a column, or none are read
+-- a rest that is not empty does not give the empty list of columns
 both-some : {A : Type 0} (x : Option A) (o : Option (List A)) → both x o ≡ some [] → ⊥
 unfolding both
 both-some none o e = let z : _≡_ {A = ℕ} 0 1 = cc in omega arith

@@ -1,4 +1,4 @@
--- Sheets read by computation: document 01's sheet, the edges of the layout, and texts that are no sheet.
+-- Document 01's sheet, the edges of the layout, and texts that are no sheet, computed.
 use mathlib.Core.Path.{_≡_, refl}
 use mathlib.Core.Option.{Option, some, none}
 use mathlib.Core.List.{List, [], _∷_, map, flatten}
@@ -57,7 +57,7 @@ empty-lines : sheetOf (bytes "\n\n") ≡ some (record { alphabet = []; text = []
 unfolding sheetOf sheetFrom laid flatten columnOf costOf closed every both pieces onto provided all
 empty-lines = refl
 
--- the costs that texts are
+-- texts that are costs
 costs :
     map (λ s. costOf (bytes s)) ("0" ∷ ("7" ∷ ("10" ∷ ("1000000" ∷ ("9999999" ∷ [])))))
     ≡ some 0 ∷ (some 7 ∷ (some 10 ∷ (some 1000000 ∷ (some 9999999 ∷ []))))

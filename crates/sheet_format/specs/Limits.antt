@@ -1,5 +1,5 @@
--- The limits of a sheet, on texts of every size: at most 65,535 bytes, and at most 16,384 costs.
--- Examples, proved for every size and not computed: nothing uses them.
+-- The limits of a sheet, proved on examples of every size: at most 65,535 bytes, and at most 16,384 costs.
+-- For the reader: nothing uses it.
 use mathlib.Core.Path.{_≡_, refl, ap, _∙_}
 use mathlib.Core.Option.{Option, some, none}
 use mathlib.Core.List.{List, [], _∷_, _++_, flatten}
@@ -22,7 +22,7 @@ abbrev none-of : Option Sheet → Bool
 none-of none = true
 none-of (some S) = false
 
--- at most so many, or more
+-- none exactly if m is over k
 provided-most : (m k : ℕ) (S : Sheet) → none-of (provided (leb m k) (some S)) ≡ ltb k m
 unfolding provided
 provided-most m k S = ⊎-elim (λ h. rw (lt-leb m k h, lt-ltb k m h)) (λ h. rw (le-leb m k h, le-ltb k m h)) (lt-or-le k m)

@@ -15,7 +15,7 @@ use Rattle.lists.specs.Cases.{provided}
 use Rattle.sheet_format.specs.Sheet.{every, linesOf, columnOf, Sheet, equal-columns, fitting, laid, sheetFrom, most-bytes, sheetOf, widthOr, matrixOf}
 use Rattle.sheet_format.specs.ColumnLinesLaws.{FirstLine, lines-back}
 
--- what was provided was given, and the condition holds
+-- where there is a result, the condition holds and the result was given
 pub provided-back : {X : Type 0} (t : Bool) (x : Option X) (y : X) → provided t x ≡ some y → (t ≡ true) × (x ≡ some y)
 unfolding provided
 provided-back true x y e = (refl, e)
@@ -29,7 +29,7 @@ record Lines (input : List ℕ) (S : Sheet) : Type 0 where
   equal : equal-columns (S .columns) ≡ true
   few : length (flatten (S .columns)) ≤ 16384
 
--- equally long columns make a rectangle
+-- equally long columns: the number of costs is the number of columns times the width
 area : (w : ℕ) (cs : List (List ℕ)) → all (λ d. eqb (length d) w) cs ≡ true → length (flatten cs) ≡ length cs * w
 unfolding all flatten
 area w [] e = omega arith
@@ -80,7 +80,7 @@ module _ (input : List ℕ) (S : Sheet) (is : sheetOf input ≡ some S) where
   second : FirstLine (first .behind) (S .text) (lines .others)
   second = lines-back (first .behind) (S .text) (lines .others) (first .others)
 
-  -- the alphabet line, the expression line and their newlines lie within the input
+  -- the alphabet line, the expression line and their newlines are within the input
   pub sheet-within : length (S .alphabet) + 1 + length (S .text) + 1 ≤ length input
   sheet-within =
       let n = ap length (first .splits) ∙ length-append (S .alphabet) (10 ∷ first .behind) in

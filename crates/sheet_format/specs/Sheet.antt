@@ -1,5 +1,5 @@
 -- The layout of a sheet (document 01, "Confidences and the sheet program"): "alphabet line, expression line, then one line for each
--- column, numbers of 1 to 7 digits with no extra leading zero, one space between." What is no sheet is row 18.
+-- column, numbers of 1 to 7 digits with no extra leading zero, one space between." What is no sheet is refusal 18.
 use mathlib.Core.Option.{Option, some, none}
 use mathlib.Core.List.{List, [], _∷_, flatten}
 use mathlib.Core.Bool.{Bool, true, false, cond, not, _&&_}
@@ -12,7 +12,7 @@ use Rattle.lists.specs.Cases.{provided}
 use Rattle.text.specs.Digits.{digits, value}
 use Rattle.matrix.specs.Matrix.{Matrix, matrix}
 
--- a byte in front of the first piece
+-- a byte put before the first piece
 unfoldable pub onto : ℕ → List (List ℕ) → List (List ℕ)
 onto b [] = (b ∷ []) ∷ []
 onto b (p ∷ ps) = (b ∷ p) ∷ ps
@@ -22,7 +22,7 @@ unfoldable pub pieces : ℕ → List ℕ → List (List ℕ)
 pieces c [] = [] ∷ []
 pieces c (b ∷ s) = cond (eqb b c) ([] ∷ pieces c s) (onto b (pieces c s))
 
--- one in front of the others, if there is the one and there are the others
+-- one put before the others, if both are there
 unfoldable pub both : {A : Type 0} → Option A → Option (List A) → Option (List A)
 both none ys = none
 both (some y) none = none
@@ -33,7 +33,7 @@ unfoldable pub every : {A B : Type 0} → (A → Option B) → List A → Option
 every f [] = some []
 every f (x ∷ xs) = both (f x) (every f xs)
 
--- the pieces but for the last, which must be empty
+-- the pieces except the last, which must be empty
 unfoldable pub closed : List (List ℕ) → Option (List (List ℕ))
 closed [] = none
 closed ([] ∷ []) = some []
@@ -44,13 +44,13 @@ closed (p ∷ (q ∷ ps)) = both (some p) (closed (q ∷ ps))
 abbrev pub linesOf : List ℕ → Option (List (List ℕ))
 linesOf s = closed (pieces 10 s)
 
--- a 0 stands in front of another digit
+-- a 0 before another digit
 abbrev pub extra-zero : List ℕ → Bool
 extra-zero [] = false
 extra-zero (a ∷ []) = false
 extra-zero (a ∷ (b ∷ s)) = eqb a (code "0")
 
--- the cost that is written so
+-- the cost that a text is, if it is one
 unfoldable pub costOf : List ℕ → Option ℕ
 costOf s = provided (digits s && leb 1 (length s) && leb (length s) 7 && not (extra-zero s)) (some (value 0 s))
 
@@ -88,7 +88,7 @@ sheetFrom (some (a ∷ (t ∷ ls))) = laid a t (every columnOf ls)
 abbrev pub most-bytes : ℕ
 most-bytes = 65535
 
--- Row 18: "not this layout, no final newline, columns unequal, over 65,535 bytes or 16,384 costs".
+-- Refusal 18: "not this layout, no final newline, columns unequal, over 65,535 bytes or 16,384 costs".
 unfoldable pub sheetOf : List ℕ → Option Sheet
 sheetOf input = provided (leb (length input) most-bytes) (sheetFrom (linesOf input))
 
@@ -97,6 +97,6 @@ abbrev pub widthOr : ℕ → List (List ℕ) → ℕ
 widthOr other [] = other
 widthOr other (c ∷ cs) = length c
 
--- the columns one behind another
+-- the columns one after another
 abbrev pub matrixOf : Sheet → Matrix
 matrixOf S = matrix (flatten (S .columns)) (widthOr (length (S .alphabet) + 1) (S .columns)) (length (S .columns))

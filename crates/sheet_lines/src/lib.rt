@@ -39,7 +39,7 @@ fn put_path_line(path: &[u8], out: &mut [u8], n: usize) -> usize
     put(b'\n', out, m)
 }
 
-// Prints a reading: its price, word and path, a line each; the number of bytes.
+// Prints a reading, a line each for price, word and path, and returns the number of bytes.
 pub fn print_reading(price: u32, word: &[u8], path: &[u8], out: &mut [u8]) -> usize
     requires { ⌜ length (reading-lines price (now word) (now path)) ≤ length (now out) ⌝ }
     ensures { λ r. ⌜ Wrote (reading-lines price (old word) (old path)) (old out) (new out) r ⌝ }
@@ -49,7 +49,7 @@ pub fn print_reading(price: u32, word: &[u8], path: &[u8], out: &mut [u8]) -> us
     put_path_line(path, out, m)
 }
 
-// Prints a refusal's line; the number of bytes.
+// Prints a refusal's line and returns the number of bytes.
 pub fn print_refusal(r: Refusal, out: &mut [u8]) -> usize
     requires { ⌜ length (refusal-line (numberOf r)) ≤ length (now out) ⌝ }
     ensures { λ n. ⌜ Wrote (refusal-line (numberOf r)) (old out) (new out) n ⌝ }

@@ -1,4 +1,4 @@
--- The digits at a place of a sheet, and the cost that they make with what stands behind them.
+-- The digits at a place of a sheet, and the cost that they give if a separator follows.
 use mathlib.Core.Path.{_≡_}
 use mathlib.Core.Option.{some}
 use mathlib.Core.List.{List}
@@ -16,15 +16,15 @@ use Rattle.sheet_number.specs.declared.Cost.the-variants.{Is, Not}
 abbrev pub digit : ℕ → Bool
 digit b = leb (code "0") b && leb b (code "9")
 
--- what may stand behind a cost
+-- what may follow a cost
 abbrev pub separator : ℕ → Bool
 separator b = eqb b (code " ") || eqb b 10
 
--- so many digits, the first of them b, have an extra zero in front
+-- n digits, the first of them b, begin with an extra zero
 abbrev pub padded : ℕ → ℕ → Bool
 padded n b = leb 2 n && eqb b (code "0")
 
--- At a loop's i: the bytes from `at` up to i are digits and make v.
+-- At a loop's i: the bytes from `at` up to i are digits with the value v.
 pub record Begun (input : List ℕ) (at i v : ℕ) : Type 0 where
   pub from : at ≤ i
   pub within : i ≤ length input
@@ -33,18 +33,18 @@ pub record Begun (input : List ℕ) (at i v : ℕ) : Type 0 where
   pub makes : value 0 (part at i input) ≡ v
   pub small : v < 10 ^ (i - at)
 
--- all the digits that stand there, if they are not more than seven
+-- all digits from `at` on, or the first seven of them
 pub record Digits (input : List ℕ) (at e v : ℕ) : Type 0 where
   pub begun : Begun input at e v
   pub stops : e < length input → e < at + 7 → digit (getD input e 0) ≡ false
 
--- a cost is written from the place `at` up to e, where a separator stands
+-- a cost is written from `at` up to e, and the byte at e is a separator
 pub record CostAt (input : List ℕ) (at e v : ℕ) : Type 0 where
   pub is : costOf (part at e input) ≡ some v
   pub within : e < length input
   pub ends : separator (getD input e 0) ≡ true
 
--- the cost that is written at the place, and where its separator stands; or there is none
+-- the cost that is written at the place, and where its separator is; or there is none
 abbrev pub ReadCost : List ℕ → ℕ → Cost → Type 0
 ReadCost input at (Is v e) = CostAt input at e v
 ReadCost input at Not = (e v : ℕ) → CostAt input at e v → ⊥

@@ -1,4 +1,4 @@
--- The digits at a place, and the cost that they make.
+-- Laws of the digits at a place, and of the cost that they give.
 use mathlib.Core.Path.{_≡_, refl, sym, ap, ap₂, _∙_, subst}
 use mathlib.Core.Option.{some}
 use mathlib.Core.List.{List, [], _∷_, _++_}
@@ -50,7 +50,7 @@ cost-is : (p : List ℕ) → digits p ≡ true → 1 ≤ length p → length p �
 unfolding costOf provided
 cost-is p d l h e = rw (d, le-leb 1 (length p) l, le-leb (length p) 7 h, e)
 
--- what the text of a cost is
+-- what is known of the text of a cost
 pub record Numeral (p : List ℕ) : Type 0 where
   pub are : digits p ≡ true
   pub some-digit : 1 ≤ length p
@@ -138,13 +138,13 @@ cost-begins input at e v c = ⊎-elim (λ l. l) (λ l. absurd (empty l)) (lt-or-
         let n = cost-back (part at e input) v (c .is) .some-digit in
         omega arith
 
--- a byte of a part that is digits
+-- each byte of a part that is all digits is a digit
 digit-at : (input : List ℕ) (at e i : ℕ) → digits (part at e input) ≡ true → at ≤ i → i < e → e ≤ length input → digit (getD input i 0) ≡ true
 digit-at input at e i d f l w =
     let n = part-length input at e (omega arith) w in
     rw (part-at input at e i f l) at (digits-at (part at e input) (i - at) d (omega arith))
 
--- A cost begins with all digits that stand there, and they are the whole of it: a lemma for each return of `read_cost`.
+-- A cost at the place is all the digits there and nothing else: a lemma for each return of `read_cost`.
 module _ (input : List ℕ) (at e v : ℕ) (h : Digits input at e v) where
   abbrev p : List ℕ
   p = part at e input
@@ -173,11 +173,11 @@ module _ (input : List ℕ) (at e v : ℕ) (h : Digits input at e v) where
   same-cost : (f w : ℕ) → CostAt input at f w → CostAt input at e w
   same-cost f w c = subst (λ i. CostAt input at i w) (same-end f w c) c
 
-  -- the input ends behind the digits
+  -- the input ends after the digits
   pub cost-open : e ≡ length input → ReadCost input at Not
   cost-open l f w c = let k = same-cost f w c .within in omega arith
 
-  -- no separator stands behind the digits
+  -- no separator follows the digits
   pub cost-unread : separator (getD input e 0) ≡ false → ReadCost input at Not
   cost-unread q f w c = not-both (separator (getD input e 0)) (same-cost f w c .ends) q
 

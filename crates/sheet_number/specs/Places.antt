@@ -8,7 +8,7 @@ use Rattle.sheet_format.specs.ColumnLines.{Free}
 abbrev pub part : ℕ → ℕ → List ℕ → List ℕ
 part at i input = take (i - at) (drop at input)
 
--- the line that begins at a place goes up to e: there its newline stands, or the input ends
+-- the line that begins at a place ends at e: at its newline, or at the end of the input
 pub record LineEnd (input : List ℕ) (at e : ℕ) : Type 0 where
   pub from : at ≤ e
   pub within : e ≤ length input

@@ -1,4 +1,4 @@
--- Parts of the input, a byte at a time.
+-- Laws of the parts of an input, and the end of a line found as the first newline.
 use mathlib.Core.Path.{_≡_, sym, ap, _∙_}
 use mathlib.Core.List.{List, [], _∷_, _++_}
 use mathlib.Core.Logic.{⊎-elim}
@@ -19,7 +19,7 @@ module _ (input : List ℕ) (at i : ℕ) (from : at ≤ i) where
   pub part-length : i ≤ length input → length (part at i input) ≡ i - at
   part-length l = let n = length-drop at input in length-take-le (i - at) (drop at input) (omega arith)
 
-  -- the rest behind the part
+  -- the rest after the part
   pub part-rest : drop at input ≡ part at i input ++ drop i input
   part-rest =
       sym (take-append-drop (i - at) (drop at input))
@@ -43,7 +43,7 @@ part-at input at e i f l =
 pub part-none : (input : List ℕ) (at : ℕ) → part at at input ≡ []
 part-none input at = let k : at - at ≡ 0 = omega arith in ap (λ j. take j (drop at input)) k
 
--- the bytes in front of the first c
+-- the bytes before the first c
 record Found (c : ℕ) (s : List ℕ) (n : ℕ) : Type 0 where
   within : n ≤ length s
   free : Free c (take n s)

@@ -7,13 +7,13 @@ ghost use Rattle.lists.specs.Memory.{old};
 ghost use Rattle.sheet_number.specs.Places.{LineEnd};
 ghost use Rattle.sheet_number.specs.Digits.{digit, separator, padded, Digits as DigitsOf, ReadCost};
 
-// A number by its digits, and the place behind them.
+// The value of digits, and the place after them.
 struct Digits {
     value: u32,
     end: usize,
 }
 
-// A cost, and the place of the space or newline behind it.
+// A cost, and the place of the space or newline after it.
 pub enum Cost {
     Is(u32, usize),
     Not,
@@ -38,7 +38,7 @@ fn is_separator(b: u8) -> bool
     b == b'\n'
 }
 
-// Do so many digits, the first of them b, begin with an extra zero?
+// Do `count` digits, the first of them b, begin with an extra zero?
 fn is_padded(count: usize, b: u8) -> bool
     ensures { λ r. ⌜ r ≡ padded count b ⌝ }
 {
@@ -48,7 +48,7 @@ fn is_padded(count: usize, b: u8) -> bool
     b == b'0'
 }
 
-// Where the line that begins here ends: its newline, or the input's end.
+// Where the line that begins at `at` ends: at its newline, or at the input's end.
 pub fn line_end(input: &[u8], at: usize) -> usize
     requires { ⌜ at ≤ length (now input) ⌝ }
     ensures { λ r. ⌜ LineEnd (old input) at r ⌝ }
@@ -56,7 +56,7 @@ pub fn line_end(input: &[u8], at: usize) -> usize
     text::find(input, at, b'\n')
 }
 
-// The digits from here on, at most seven.
+// The digits from `at` on, at most seven.
 fn read_digits(input: &[u8], at: usize) -> Digits
     requires { ⌜ at ≤ length (now input) ⌝ }
     ensures { λ r. ⌜ DigitsOf (old input) at (r .end) (r .value) ⌝ }
@@ -77,7 +77,7 @@ fn read_digits(input: &[u8], at: usize) -> Digits
     Digits { value: v, end: i }
 }
 
-// The cost that is written here.
+// The cost that is written at `at`.
 pub fn read_cost(input: &[u8], at: usize) -> Cost
     requires { ⌜ at ≤ length (now input) ⌝ }
     ensures { λ r. ⌜ ReadCost (old input) at r ⌝ }

@@ -4,7 +4,7 @@ use Prim.Native.Char.{code}
 use mathlib.Core.List.{List, [], _∷_, _++_, flatMap}
 use Rattle.sheet_decimal.specs.Numerals.{decimal}
 
--- labels in decimal, each behind a space
+-- labels in decimal, each after a space
 unfoldable pub following : List ℕ → List ℕ
 following p = flatMap (λ x. code " " ∷ decimal x) p
 

@@ -11,7 +11,7 @@ use Rattle.sheet_decimal.specs.Numerals.{decimal}
 use Rattle.sheet_decimal.specs.Decimal.{decimal-short}
 use Rattle.sheet_path.specs.Labels.{following, spaced}
 
--- the labels behind the first
+-- the label at place i, and those after it
 pub following-here : (p : List ℕ) (i : ℕ) → i < length p → following (drop i p) ≡ (32 ∷ decimal (getD p i 0)) ++ following (drop (i + 1) p)
 unfolding following flatMap
 following-here p i h = ap following (drop-here 0 p i h)

@@ -8,7 +8,7 @@ ghost use Rattle.lists.specs.Memory.{old, new, Stored};
 ghost use Rattle.sheet_decimal.specs.Numerals.{decimal};
 ghost use Rattle.sheet_path.specs.Labels.{following, spaced};
 
-// Writes a label behind a space.
+// Writes a space and a label.
 fn put_next(x: u8, out: &mut [u8], n: usize) -> usize
     requires { ⌜ n + length (32 ∷ decimal x) ≤ length (now out) ⌝ }
     ensures { λ r. ⌜ Stored (32 ∷ decimal x) n (old out) (new out) r ⌝ }
@@ -17,7 +17,7 @@ fn put_next(x: u8, out: &mut [u8], n: usize) -> usize
     put_decimal(x as u32, out, m)
 }
 
-// Writes the labels behind the first, each behind a space.
+// Writes the labels after the first, each after a space.
 fn put_following(path: &[u8], out: &mut [u8], n: usize) -> usize
     requires { ⌜ n + length (following (drop 1 (now path))) ≤ length (now out) ⌝ }
     ensures { λ r. ⌜ Stored (following (drop 1 (old path))) n (old out) (new out) r ⌝ }

@@ -1,4 +1,4 @@
--- The lines of Read's answer, and what they ask of path and word memory.
+-- The lines that are printed for Read's answer, and the path and word memory that they need.
 use Prim.Native.Nat.{ℕ, _≤_}
 use mathlib.Core.List.{List}
 use lib.ListN.{length, take}
@@ -11,7 +11,7 @@ abbrev pub answer-lines : Reading → (count : ℕ) (path word : List ℕ) → L
 answer-lines (answer.Path p n k) t path word = reading-lines p (take n word) (take t path)
 answer-lines (answer.Refused n) t path word = refusal-line (numberOf n)
 
--- a word and a path that were read lie in the memory
+-- the word and the path of a reading are within the memory
 abbrev pub Shown : Reading → (count : ℕ) (path word : List ℕ) → Type 0
 Shown (answer.Path p n k) t path word = (n ≤ length word) × (t ≤ length path)
 Shown (answer.Refused n) t path word = Unit {0}

@@ -1,12 +1,12 @@
-// What is printed of Read's answer: the line of a refusal, or the lines of the word and the path that lie in lent memory (document 01,
-// "Output in full").
+// What is printed for Read's answer: the line of a refusal, or the lines of a reading, whose word and path are in lent memory
+// (document 01, "Output in full").
 use answers::Reading;
 ghost use Prim.Native.Nat.{_≤_};
 ghost use lib.ListN.{length};
 ghost use Rattle.lists.specs.Memory.{old, new, Wrote};
 ghost use Rattle.sheet_print.specs.Printed.{Shown, answer-lines};
 
-// Prints what Read answered of `count` columns, with path and word memory as it left them; the number of bytes.
+// Prints what Read answered for `count` columns, with path and word memory as it left them, and returns the number of bytes.
 pub fn print_answer(
     answer: Reading,
     count: usize,

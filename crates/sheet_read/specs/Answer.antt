@@ -1,5 +1,5 @@
 -- What the sheet program prints for an alphabet, a text and a matrix (document 01, "Confidences and the sheet program" and "What is turned
--- away"): "the lowest number", and past the checks the best reading, or 16 where there is none. No memory is in it.
+-- away"): "the lowest number", and past the checks the best reading, or 16 if there is none. Of memory only lengths occur.
 use Prim.Native.Nat.{ℕ}
 use mathlib.Core.Path.{_≡_}
 use mathlib.Core.Option.{Option, some, none}
@@ -36,18 +36,18 @@ abbrev pub outcome-lines : (A : List ℕ) (M : Matrix) → Option (List ℕ) →
 outcome-lines A M none = refusal-line (numberOf refusal.NoReading)
 outcome-lines A M (some p) = reading-lines (price M p) (characters A (collapse p)) p
 
--- past the checks: what there is to read, by the words of the text
+-- past the checks: the outcome for the words of the text
 pub record PrintsOutcome (A s : List ℕ) (M : Matrix) (output : List ℕ) : Type 0 where
   pub outcome : Option (List ℕ)
   pub is : Outcome (WordsOf A s) M outcome
   pub lines : output ≡ outcome-lines A M outcome
 
--- rows 12 to 15
+-- refusals 12 to 15
 abbrev pub PrintsChecked : Checked → (A s : List ℕ) (M : Matrix) (output : List ℕ) → Type 0
 PrintsChecked (Refused n) A s M output = output ≡ refusal-line (numberOf n)
 PrintsChecked Passed A s M output = PrintsOutcome A s M output
 
--- rows 1 to 10
+-- refusals 1 to 10
 abbrev pub PrintsCompiled : Verdict (List ℕ) → (A s : List ℕ) (M : Matrix) (output : List ℕ) → Type 0
 PrintsCompiled (refused n) A s M output = output ≡ refusal-line (numberOf n)
 PrintsCompiled (passed f) A s M output = PrintsChecked (first-refusal (matrix-checks (length A) (lettersOf f) M lent-rooms)) A s M output

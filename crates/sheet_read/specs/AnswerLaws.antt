@@ -1,4 +1,4 @@
--- One reading has one output.
+-- For one alphabet, text and matrix there is one output.
 use Prim.Native.Nat.{ℕ}
 use mathlib.Core.Path.{_≡_, sym, ap, _∙_}
 use mathlib.Core.List.{List}
@@ -12,8 +12,6 @@ use Rattle.outcome.specs.OutcomeLaws.{outcome-unique}
 use Rattle.regex.specs.Grammar.{WordsOf}
 use Rattle.decode_checks.specs.Checks.{matrix-checks}
 use Rattle.sheet_read.specs.Answer.{lent-rooms, outcome-lines, PrintsOutcome, PrintsChecked, PrintsCompiled}
-
--- One alphabet, text and matrix have one output.
 
 module _ (A s : List ℕ) (M : Matrix) (a b : List ℕ) where
   outcome-same : PrintsOutcome A s M a → PrintsOutcome A s M b → a ≡ b

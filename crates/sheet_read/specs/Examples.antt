@@ -14,7 +14,7 @@ use Rattle.matrix.specs.Matrix.{matrix}
 use Rattle.decode_checks.specs.Checks.{needed, matrix-checks}
 use Rattle.sheet_read.specs.Answer.{form-room, lent-rooms}
 
--- what the checks make of t columns of two costs and a form of l letters over one character
+-- what the checks say of t columns of two costs and a form of l letters over one character
 abbrev said : (t l : ℕ) → Checked
 said t l = first-refusal (matrix-checks 1 l (matrix (replicate (t * 2) 1) 2 t) lent-rooms)
 

@@ -1,11 +1,11 @@
--- What the call promises of the output memory.
+-- What a function that prints promises of the output memory and of the number that it answers.
 use Prim.Native.Nat.{ℕ, _≤_}
 use mathlib.Core.Path.{_≡_}
 use mathlib.Core.List.{List}
 use lib.ListN.{length, take}
 use Rattle.lists.specs.Memory.{Wrote}
 
--- Bytes of which `Printed` holds stand in front of the output memory, and nothing else of it is changed; the answer is their number.
+-- Bytes for which `Printed` holds are at the front of the output memory, and the rest is unchanged; the answer is their number.
 pub record Answers (Printed : List ℕ → Type 0) (out out′ : List ℕ) (answer : ℕ) : Type 0 where
   pub bytes : List ℕ
   pub is : Printed bytes

@@ -1,4 +1,4 @@
--- What is printed of an answer.
+-- The promise of a function that prints: how it is reached, and what follows from it.
 use Prim.Native.Nat.{ℕ}
 use mathlib.Core.Path.{_≡_, sym, ap, _∙_, subst}
 use mathlib.Core.List.{List}
@@ -21,7 +21,7 @@ module _ (Printed : List ℕ → Type 0) (bytes out out′ : List ℕ) (answer :
         counted = e ∙ ap length (sym (ap (take answer) (wrote .memory) ∙ take-written bytes out answer e));
       }
 
--- what is printed, said in other words
+-- what follows from the promised is promised too
 pub answers-as :
     (P Q : List ℕ → Type 0) (out out′ : List ℕ) (answer : ℕ) → ((bytes : List ℕ) → P bytes → Q bytes) → Answers P out out′ answer
     → Answers Q out out′ answer

@@ -50,7 +50,7 @@ pub record Sized (form : List ℕ) (lent : Lent) : Type 0 where
 sized-rooms : (form : List ℕ) (before : Lent) → Sized form before → rooms before ≡ lent-rooms
 sized-rooms form before h = cc (h .path, h .word, h .work)
 
--- What Read's report says of what is printed: a refusal, or a path whose lines they are.
+-- What is to be printed by Read's report: the line of a refusal, or the lines of a path.
 pub data Said (Printed : List ℕ → Type 0) (A : List ℕ) (M : Matrix) (before after : Lent) (answer : Report) : Type 0 where
   away : (n : Refusal) → answer ≡ turned-away n → Printed (refusal-line (numberOf n)) → Said Printed A M before after answer
   best :
@@ -92,7 +92,7 @@ module _ (Printed : List ℕ → Type 0) (A : List ℕ) (M : Matrix) (before aft
   said-away n (away m e h) = rw (same-line n m e) h
   said-away n (best b k c e u v h) = absurd (never-both n (price M b) (length (collapse b)) k (sym e))
 
-  -- the lines that lie in path and word memory
+  -- path and word are within their memory, and their lines are to be printed
   record Readable (p n : ℕ) : Type 0 where
     pub path-fits : M .count ≤ length (after .path)
     pub word-fits : n ≤ length (after .word)
@@ -112,7 +112,7 @@ module _ (Printed : List ℕ → Type 0) (A : List ℕ) (M : Matrix) (before aft
         prints = rw (same-price, same-word, same-path) h;
       }
 
-  -- Read's answer can be printed, and what is printed of it is what is to be printed
+  -- Read's answer can be printed, and its lines are those that are to be printed
   pub said-shown : (r : Reading) → Said Printed A M before after (reported r) → Shown r (M .count) (after .path) (after .word)
   said-shown (answer.Path p n k) s = let b = said-best p n k s in (b .word-fits, b .path-fits)
   said-shown (answer.Refused n) s = tt

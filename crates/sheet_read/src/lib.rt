@@ -8,8 +8,8 @@ ghost use Rattle.matrix.specs.Matrix.{matrix};
 ghost use Rattle.sheet_read.specs.Answer.{longest, PrintsReading};
 ghost use Rattle.sheet_read.specs.Promise.{Answers};
 
-// Reads an alphabet, a text and a matrix, and prints what Read answers; the number of bytes. The memory that document 01 has the program
-// lend Read is local.
+// Calls Read on an alphabet, a text and a matrix, prints its answer and returns the number of bytes. The memory that is lent to Read, of
+// the lengths in document 01, is local.
 pub fn answer_reading(
     alphabet: &[u8],
     text: &[u8],

@@ -1,4 +1,4 @@
--- What `scan` promises: it answers the sheet that the input is, or that it is none, and stores the sheet's costs.
+-- What `scan` promises: it answers with the sheet that the input is, or that it is none, and stores the sheet's costs.
 use mathlib.Core.Path.{_≡_}
 use mathlib.Core.Option.{Option, some, none}
 use mathlib.Core.List.{List}
@@ -14,8 +14,8 @@ abbrev pub answerOf : Option Sheet → Scanned
 answerOf none = scanned.Bad
 answerOf (some S) = scanned.Sheet (length (S .alphabet)) (length (S .text)) (matrixOf S .width) (matrixOf S .count)
 
--- The costs of the sheet in front of the lent memory, and behind them what was there. Where there is no sheet, the memory, which is just
--- what the largest sheet needs, holds anything: how far the costs were stored is the program's choice.
+-- The costs of the sheet are at the front of the lent memory, and after them what was there. If there is no sheet, the memory, which is
+-- exactly what the largest sheet needs, may hold anything: how many costs were stored is the program's choice.
 pub record Scans (input before after : List ℕ) (r : Scanned) : Type 0 where
   pub answer : r ≡ answerOf (sheetOf input)
   pub costs : (S : Sheet) → sheetOf input ≡ some S → after ≡ written (matrixOf S .costs) before

@@ -1,4 +1,4 @@
--- The answer of a scan, case by case.
+-- From the answer of `scan` to the sheet that the input is.
 use mathlib.Core.Path.{_≡_, refl}
 use mathlib.Core.Option.{Option, some, none}
 use Prim.Native.Nat.{ℕ}
@@ -8,7 +8,7 @@ use Rattle.sheet_format.specs.Sheet.{Sheet, matrixOf}
 use Rattle.sheet_scan.specs.declared.Scanned.the-variants as scanned
 use Rattle.sheet_scan.specs.Answers.{answerOf}
 
--- an answer that is a sheet tells that there is one, and these of its parts
+-- an answer with numbers shows that there is a sheet, and that the numbers are those of its parts
 pub record Answered (o : Option Sheet) (alphabet text width count : ℕ) : Type 0 where
   pub sheet : Sheet
   pub is : o ≡ some sheet

@@ -1,4 +1,4 @@
--- The sheet that an input is, by the ends of its first two lines and the columns behind them: a lemma for each return of `scan`.
+-- The sheet that an input is, by the ends of its first two lines and the columns after them: a lemma for each return of `scan`.
 use mathlib.Core.Path.{_≡_, refl, sym, ap, _∙_}
 use mathlib.Core.Option.{Option, some, none}
 use mathlib.Core.List.{List, [], _∷_, _++_, append-nil}

@@ -18,7 +18,7 @@ pub enum Scanned {
     Bad,
 }
 
-// Reads a sheet, and stores its costs in the lent memory; for what is no sheet (row 18) all of that memory holds anything afterwards.
+// Parses a sheet and stores its costs in the lent memory. For what is no sheet (refusal 18) that memory may hold anything afterwards.
 pub fn scan(input: &[u8], costs: &mut [u32]) -> Scanned
     requires { ⌜ length (now costs) ≡ 16384 ⌝ }
     ensures { λ r. ⌜ Scans (old input) (old costs) (new costs) r ⌝ }

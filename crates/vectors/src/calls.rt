@@ -3,7 +3,7 @@ use super::parts;
 use super::show;
 use numbers::wide_word;
 
-// With this memory; the form's length.
+// Compiles with this memory and returns the form's length.
 fn compiled(line: &[u8], form: &mut [u32]) -> usize {
     let mut counts = [0u32; 1];
     let refused = kavurehy::kavurehy_compile(
@@ -17,7 +17,7 @@ fn compiled(line: &[u8], form: &mut [u32]) -> usize {
     words
 }
 
-// With memory for ten words, then with all; the form's length.
+// Compiles with memory for ten words, then with all, and returns the form's length.
 pub fn compile(line: &[u8], form: &mut [u32; 16258]) -> usize {
     let mut small = [9u32; 10];
     show::field(line, 2);
@@ -37,14 +37,14 @@ pub fn judge(line: &[u8], word: &[u8], form: &[u32]) {
     show::judged(refused, accepted[0]);
 }
 
-// A call's name and the list given.
+// Prints a call's name and the list given.
 fn head(name: usize, given: &[u8]) {
     show::say(name);
     show::bytes(given, given.len());
     show::say(show::COLON);
 }
 
-// An array lent as such asks for no proof of its length.
+// An array that is passed as an array needs no proof of its length.
 fn filled_bytes(list: &[u8; 512], n: usize) {
     show::memory(list, n);
 }
@@ -65,12 +65,12 @@ pub fn labels(name: usize, line: &[u8], given: &[u8]) {
     filled_bytes(&memory, room);
 }
 
-// As above.
+// As `filled_bytes`.
 fn filled_words(list: &[u32; 256], n: usize) {
     show::words(list, 0, n);
 }
 
-// The costs of confidences, one for each; the call answers 0 or a refusal's number.
+// The costs of confidences, one for each; the call returns 0 or a refusal's number.
 pub fn costs(line: &[u8], given: &[u8]) {
     let mut memory = [9u32; 256];
     let room = parts::room(line, 2, 256);

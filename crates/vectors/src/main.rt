@@ -1,12 +1,12 @@
 // Runs the exported calls on the lines of standard input: document 01's examples, edges, damaged forms, each refusal. A line has a
-// letter for what is to be done and its fields, each behind a tab; lists are numbers with a space between. Path, word, work and cost
-// memory, and the ten words of E, are filled with 9 beforehand and printed afterwards.
+// letter that says what to do, and fields, each after a tab; lists are numbers with a space between. Path, word, work and cost memory,
+// and the ten words of E, are filled with 9 before a call and printed after it.
 //
 //   C K PATH ROOM           Collapse                       S K WORD ROOM   Spread
 //   P CONFIDENCES ROOM      the costs of confidences
-//   E ALPHABET TEXT         Compile, with memory for ten words and then for every form; that form is the one of the lines behind it
-//   F WORDS                 these words, in hexadecimal, are the form of the lines behind it
-//   N COUNT                 the form ends behind so many words
+//   E ALPHABET TEXT         Compile, with memory for ten words and then for every form; the lines after it use that form
+//   F WORDS                 the lines after it use these words, in hexadecimal, as the form
+//   N COUNT                 the form ends after COUNT words
 //   J NAME WORD             Judge
 //   D NAME COSTS WIDTH COLUMNS PATH-ROOM WORD-ROOM WORK-ROOM LAST            Decode; the LAST work words are printed
 //   R TEXT COSTS WIDTH COLUMNS PATH-ROOM WORD-ROOM WORK-ROOM LAST ALPHABET   Read
@@ -17,7 +17,7 @@ mod show;
 
 use libc::STDIN_FILENO;
 
-// A call on the list given, as bytes or as words.
+// Makes a call on the list given, as bytes or as words.
 fn call(kind: u8, line: &[u8], given: &[u8], costs: &[u32], form: &[u32]) {
     match kind {
         b'C' => calls::labels(show::COLLAPSE, line, given),
@@ -31,7 +31,7 @@ fn call(kind: u8, line: &[u8], given: &[u8], costs: &[u32], form: &[u32]) {
     show::say(show::END);
 }
 
-// The field of the list given.
+// The place of the field with the list given.
 fn place(kind: u8) -> usize {
     match kind {
         b'P' => 1,
@@ -39,7 +39,7 @@ fn place(kind: u8) -> usize {
     }
 }
 
-// The form has so many words.
+// Makes the call of a line; the form has `words` words.
 fn run(kind: u8, line: &[u8], form: &[u32], words: usize) {
     let mut given = [0u8; 256];
     let mut costs = [0u32; 768];
@@ -55,7 +55,7 @@ fn run(kind: u8, line: &[u8], form: &[u32], words: usize) {
     );
 }
 
-// Does what the line says; how many words the form has for the lines behind it.
+// Does what the line says and returns how many words the form has for the lines after it.
 fn one(line: &[u8], form: &mut [u32; 16258], words: usize) -> usize {
     match text::peek(line, 0) {
         b'E' => calls::compile(line, form),

@@ -2,7 +2,7 @@
 use super::parts;
 use super::show;
 
-// The lent path, word and work memory.
+// Prints the lent path, word and work memory.
 fn memory(line: &[u8], path: &[u8; 256], word: &[u8; 256], work: &[u32; 65281]) {
     show::memory(path, parts::size(line, 5));
     show::memory(word, parts::size(line, 6));

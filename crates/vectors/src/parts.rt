@@ -8,7 +8,7 @@ pub fn size(line: &[u8], k: usize) -> usize {
     vectors_fields::size(vectors_fields::field(line, k))
 }
 
-// The number in field k, or `most`: so many places of memory that is filled with 9.
+// The number in field k, at most `most`: the length of a part of memory that is filled with 9.
 pub fn room(line: &[u8], k: usize, most: usize) -> usize
     ensures { λ r. ⌜ (r ≤ most) × (r ≡ length (take r (replicate {A = ℕ} most 9))) ⌝ }
 {

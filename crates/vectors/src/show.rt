@@ -43,7 +43,7 @@ pub fn field(line: &[u8], k: usize) {
     io::write_all(STDOUT_FILENO, vectors_fields::field(line, k));
 }
 
-// A number behind a space.
+// A space and a number.
 pub fn number(n: usize) {
     say(SPACE);
     io::print_decimal(STDOUT_FILENO, n as u64);
@@ -62,13 +62,13 @@ pub fn bytes(list: &[u8], n: usize) {
     }
 }
 
-// Memory of n bytes, behind a bar.
+// A bar and memory of n bytes.
 pub fn memory(list: &[u8], n: usize) {
     say(BAR);
     bytes(list, n);
 }
 
-// The words from one place to another, or to the end, behind a bar.
+// A bar and the words from one place to another, or to the end.
 pub fn words(list: &[u32], from: usize, to: usize) {
     say(BAR);
     let mut i = from;
@@ -83,7 +83,7 @@ fn named(k: usize, n: u32) {
     number(wide_word(n));
 }
 
-// What a call answered that fills one list.
+// The answer of a call that fills one list.
 pub fn filled(refused: u32, n: usize) {
     if refused == 0 {
         say(FILLED);
@@ -93,7 +93,7 @@ pub fn filled(refused: u32, n: usize) {
     }
 }
 
-// What Judge answered.
+// The answer of Judge.
 pub fn judged(refused: u32, accepted: u32) {
     if refused != 0 {
         named(REFUSED, refused);
@@ -104,7 +104,7 @@ pub fn judged(refused: u32, accepted: u32) {
     }
 }
 
-// What Decode and Read answered.
+// The answer of Decode and Read.
 pub fn path(refused: u32, price: u32, length: u32) {
     if refused == 0 {
         named(PRICE, price);
@@ -114,7 +114,7 @@ pub fn path(refused: u32, price: u32, length: u32) {
     }
 }
 
-// What Read answered besides.
+// What Read answers besides: the form's length.
 pub fn form(refused: u32, length: u32) {
     if refused == 0 {
         named(FORM, length);

@@ -1,4 +1,4 @@
--- The pieces of a text by where its separators stand: the loop that goes from one separator to the next.
+-- The pieces of a text by the places of its separators, for the loop that goes from one separator to the next.
 use mathlib.Core.Path.{_≡_, refl, sym, ap, _∙_}
 use mathlib.Core.List.{List, [], _∷_}
 use mathlib.Core.Bool.{Bool, true, false, cond}
@@ -20,7 +20,7 @@ until-within c (b ∷ s) = by (eqb b c) (until-within c s)
     by true h = omega arith
     by false h = omega arith
 
--- the next separator from a place on stands within the text, or it is the text's end
+-- the next separator from a place on, or the text's end, is within the text
 pub next-within : (c : ℕ) (text : List ℕ) (at : ℕ) → at ≤ length text → at + until c (drop at text) ≤ length text
 next-within c text at h = let l = length-drop at text in let w = until-within c (drop at text) in omega arith
 
@@ -47,7 +47,7 @@ module _ (c : ℕ) where
       by true h = refl
       by false h = onto-first b (pieces c s) ∙ ap (λ p. b ∷ p) h
 
-  -- the others are those of the text behind it
+  -- the others are those of the text after it
   pub pieces-others :
       (s : List ℕ) (k : ℕ) → until c s < length s → getD (pieces c s) (suc k) [] ≡ getD (pieces c (drop (suc (until c s)) s)) k []
   unfolding pieces until
@@ -73,7 +73,7 @@ module _ (c : ℕ) where
       by true l h = absurd (omega arith)
       by false l h = onto-others b (pieces c s) k ∙ h (omega arith)
 
-  -- The loop: piece k - i is wanted of the text from `at` on, and the next separator stands at e.
+  -- The loop: piece k - i is wanted of the text from `at` on, and the next separator is at e.
   module _ (text : List ℕ) (at e k i : ℕ) (is : e ≡ at + until c (drop at text)) (more : i < k) where
     left : k - i ≡ suc (k - (i + 1))
     left = omega arith

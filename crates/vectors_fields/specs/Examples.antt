@@ -1,4 +1,4 @@
--- Lines and fields read by computation.
+-- Fields of lines, and numbers in fields, computed.
 use mathlib.Core.Path.{_≡_, refl}
 use mathlib.Core.List.{[], _∷_}
 use mathlib.Core.Bool.{true, false}

@@ -1,4 +1,4 @@
--- How many numbers a field has.
+-- `Counts` follows from the first of its two parts.
 use mathlib.Core.Path.{sym}
 use mathlib.Core.List.{List}
 use Prim.Native.Nat.{ℕ, _≤_}

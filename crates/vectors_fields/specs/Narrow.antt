@@ -11,7 +11,7 @@ use Rattle.lists.specs.FillingLoops.{Filling, filling-none, filling-more, filli
 use Rattle.lists.specs.Memory.{Wrote}
 use Rattle.vectors_fields.specs.Fields.{low}
 
--- what was written stands in front
+-- what was written is at the front
 pub wrote-front : {w before after : List ℕ} {n : ℕ} → Wrote w before after n → take n after ≡ w
 wrote-front {w} {before} {after} {n} f = ap (take n) (f .memory) ∙ take-written w before n (f .count)
 

@@ -1,4 +1,4 @@
--- The numbers of a field byte by byte, as the loop reads them, and the list of them cut to the room there is.
+-- The numbers of a field byte by byte, as the loop reads them, and their list cut to the room there is.
 use mathlib.Core.Path.{_≡_, refl, sym, ap, _∙_, subst}
 use mathlib.Core.List.{List, [], _∷_, _++_, map}
 use mathlib.Core.Bool.{Bool, true, false, cond}
@@ -19,7 +19,7 @@ unfoldable pub coming : Bool → ℕ → List ℕ → List ℕ
 coming h v [] = v ∷ []
 coming h v (b ∷ s) = ended b v ++ coming h (onward h v b) s
 
--- the values of pieces, of which the first has a beginning
+-- the values of pieces, where the first piece continues the number v
 unfoldable behind : Bool → ℕ → List (List ℕ) → List ℕ
 behind h v [] = []
 behind h v (p ∷ ps) = value h v p ∷ map (value h 0) ps

@@ -1,4 +1,4 @@
-// The fields of a line of text, which have tabs between them, and the numbers in a field, for the program that runs vectors.
+// The fields of a line of text, with tabs between them, and the numbers in a field, for the program `vectors`.
 use numbers::wide_word;
 ghost use mathlib.Core.Path.{_≡_};
 ghost use mathlib.Core.Bool.{false};
@@ -8,7 +8,7 @@ ghost use lib.ListN.{length, take, drop};
 ghost use Rattle.lists.specs.Memory.{old, new, Stored, Wrote};
 ghost use Rattle.vectors_fields.specs.Fields.{fieldOf, numbersOf, sizeOf, low, labelsOf, Counts, ended, onward};
 
-// Where field k begins: behind the k-th tab, or at the end.
+// Where field k begins: after the k-th tab, or at the end.
 fn start(line: &[u8], k: usize) -> usize
     ensures { λ r. ⌜ (r ≤ length (old line)) × (fieldOf (drop r (old line)) 0 ≡ fieldOf (old line) k) ⌝ }
 {
@@ -34,7 +34,7 @@ pub fn field(line: &[u8], k: usize) -> &[u8]
     &line[a..e]
 }
 
-// The number with one more digit; none behind a space.
+// The number with one more digit; 0 after a space.
 fn longer(v: u32, hexadecimal: bool, b: u8) -> u32
     ensures { λ r. ⌜ r ≡ onward hexadecimal v b ⌝ }
 {
@@ -52,7 +52,7 @@ fn longer(v: u32, hexadecimal: bool, b: u8) -> u32
     16 * w + d
 }
 
-// The list with one number more, if the number ends here and there is room.
+// Appends the number v to the list if the byte b ends it and there is room, and returns how many the list has.
 fn push(list: &mut [u32], n: usize, v: u32, b: u8) -> usize
     requires { ⌜ n ≤ length (now list) ⌝ }
     ensures { λ r. ⌜ Stored (take (length (old list) - n) (ended b v)) n (old list) (new list) r ⌝ }
@@ -68,7 +68,7 @@ fn push(list: &mut [u32], n: usize, v: u32, b: u8) -> usize
     n + 1
 }
 
-// The numbers of a field go into `list`, as many as it has room for; how many there are.
+// Writes the numbers of a field to `list`, as many as there is room for, and returns how many.
 pub fn numbers(field: &[u8], hexadecimal: bool, list: &mut [u32]) -> usize
     ensures { λ r. ⌜ Wrote (take (length (old list)) (numbersOf hexadecimal (old field))) (old list) (new list) r ⌝ }
     ensures { λ r. ⌜ Counts r (new list) ⌝ }
@@ -87,7 +87,7 @@ pub fn numbers(field: &[u8], hexadecimal: bool, list: &mut [u32]) -> usize
     push(list, n, v, b' ')
 }
 
-// One number; a field that begins with `-` is the largest there is.
+// The first number of a field; a field that begins with `-` means the largest size.
 pub fn size(field: &[u8]) -> usize
     ensures { λ r. ⌜ r ≡ sizeOf (old field) ⌝ }
 {
@@ -99,7 +99,7 @@ pub fn size(field: &[u8]) -> usize
     wide_word(list[0])
 }
 
-// So many places of memory, at most `most`.
+// The first number of a field, at most `most`: a length of memory.
 pub fn room(field: &[u8], most: usize) -> usize
     ensures { λ r. ⌜ (r ≡ min (sizeOf (old field)) most) × (r ≤ most) ⌝ }
 {
@@ -110,7 +110,7 @@ pub fn room(field: &[u8], most: usize) -> usize
     most
 }
 
-// The first n numbers as bytes; how many found room.
+// Writes the first n numbers as bytes, as many as there is room for, and returns how many.
 fn narrow(list: &[u32], n: usize, bytes: &mut [u8]) -> usize
     requires { ⌜ n ≤ length (now list) ⌝ }
     ensures { λ r. ⌜ Wrote (take (length (old bytes)) (map low (take n (old list)))) (old bytes) (new bytes) r ⌝ }
@@ -127,7 +127,7 @@ fn narrow(list: &[u32], n: usize, bytes: &mut [u8]) -> usize
     i
 }
 
-// The numbers of a field as bytes, at most 256; how many there are.
+// Writes the first 256 numbers of a field as bytes, as many as there is room for, and returns how many.
 pub fn labels(field: &[u8], bytes: &mut [u8]) -> usize
     ensures { λ r. ⌜ Wrote (take (length (old bytes)) (labelsOf (old field))) (old bytes) (new bytes) r ⌝ }
     ensures { λ r. ⌜ Counts r (new bytes) ⌝ }

@@ -18,8 +18,8 @@ pub struct Call {
     pub line: Line,
 }
 
-/// What it should answer and write: the best path or the number of the refusal, the form's words, and how many work words hold
-/// anything.
+/// What it should answer and write: the best path or the number of the refusal, the form's words, and how many work words may
+/// hold anything.
 pub struct Expected {
     pub answer: Result<Best, u32>,
     pub form: Vec<u32>,
@@ -46,7 +46,7 @@ impl Call {
         }
     }
 
-    /// The best path by going through all lists of labels.
+    /// The best path by a search over all lists of labels.
     pub fn search(&self, tree: &Tree, form: &Form) -> Option<Best> {
         let Line { costs, columns, .. } = &self.line;
         exhaustive(form.k, costs, *columns, |word| is_word(tree, word))

@@ -1,12 +1,12 @@
-//! The best path of an expression without letters or arcs: by what may remain of its tree behind the beginning of a word. For
-//! one beginning this is one state, so a path leads to one node only, and the first of the cheapest paths by labels is
-//! found by taking the lowest label at each column.
+//! The best path of an expression without letters or arcs: by what may remain of its tree after the beginning of a word. For one
+//! beginning this is one state, so a path leads to one node only, and the first of the cheapest paths by labels is found by
+//! taking the lowest label at each column.
 use super::expression::Tree;
 use super::search::Best;
 use std::collections::{BTreeMap, BTreeSet};
 use std::rc::Rc;
 
-/// Parts still to come, one behind another.
+/// Parts still to come, one after another.
 type Remainder = Vec<Rc<Tree>>;
 
 /// All that may remain.
@@ -133,7 +133,7 @@ fn empty_all(parts: &[Rc<Tree>]) -> bool {
     parts.iter().all(|part| empty(part))
 }
 
-/// What may remain of an expression behind the label x.
+/// What may remain of an expression after the label x.
 fn behind(tree: &Tree, x: u8) -> State {
     match tree {
         Tree::Set(labels) if labels.contains(&x) => State::from([Vec::new()]),
@@ -150,7 +150,7 @@ fn behind(tree: &Tree, x: u8) -> State {
     }
 }
 
-/// The same of parts joined: x is the first label of some part before which all may be empty.
+/// The same for parts joined: x is the first label of some part before which all may be empty.
 fn behind_all(parts: &[Rc<Tree>], x: u8) -> State {
     let mut all = State::new();
     for (n, part) in parts.iter().enumerate() {

@@ -1,5 +1,5 @@
-//! From the text of an expression to its tree, or to the row that turns it away: first the signs one by one, then every fault
-//! with its place, of which the leftmost counts, then the tree by a stack of open groups.
+//! From the text of an expression to its tree or its refusal: first the signs one by one, then every fault with its place, where
+//! the leftmost counts, then the tree by a stack of open groups.
 use super::bracket::{braces, bracket};
 use std::rc::Rc;
 
@@ -39,7 +39,7 @@ enum Sign {
 /// A sign's place, and the sign with its length or a fault of its own.
 type Token = (usize, Result<(Sign, usize), u32>);
 
-/// The tree of a text, or the first row of 1 to 8 that applies.
+/// The tree of a text, or the first of refusals 1 to 8 that applies.
 pub fn parse(alphabet: &[u8], text: &[u8]) -> Result<Rc<Tree>, u32> {
     let printable = |b: &u8| (32..=126).contains(b);
     let doubled = (1..alphabet.len()).any(|n| alphabet[..n].contains(&alphabet[n]));
@@ -97,7 +97,7 @@ fn sign(alphabet: &[u8], text: &[u8]) -> Result<(Sign, usize), u32> {
     }
 }
 
-/// What stands before a sign.
+/// What is before a sign.
 #[derive(Clone, Copy, PartialEq)]
 enum Before {
     Nothing,

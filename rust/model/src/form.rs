@@ -70,7 +70,7 @@ impl Form {
     }
 
     /// Some walk from a first letter along arcs to a last letter spells the word; bit 8 of the head for the empty word. From
-    /// the word's end: behind which letters the rest can be spelt.
+    /// the word's end: after which letters the rest can be spelt.
     pub fn accepts(&self, word: &[u8]) -> bool {
         let Some((&first, rest)) = word.split_first() else {
             return self.empty;

@@ -1,5 +1,5 @@
-//! What document 01 says, said again in plain Rust as directly as its sentences go. Nothing here is taken from the Rattle code;
-//! parser, matcher and search go other ways than it, and `ranked` breaks ties in another. `input` makes random input, `tally` counts answers.
+//! Document 01 in plain Rust, as close to its sentences as possible. Nothing here is taken from the Rattle code; parser, matcher and
+//! search use other methods, and `ranked` breaks ties in another way. `input` makes random input, `tally` counts answers.
 
 pub mod bracket;
 pub mod call;
@@ -45,7 +45,7 @@ pub fn cost(confidence: u8) -> u32 {
     most.count() as u32
 }
 
-/// Row 17 for a list of labels from `low` to K.
+/// Refusal 17 for a list of labels from `low` to K.
 pub fn bad_labels(k: usize, low: u8, list: &[u8]) -> bool {
     !(1..=95).contains(&k)
         || list.len() > 255

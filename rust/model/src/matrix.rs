@@ -1,4 +1,4 @@
-//! What Decode and Read are given besides a form or a text, and rows 12 to 15.
+//! What Decode and Read are given besides a form or a text, and refusals 12 to 15.
 
 /// A matrix, and how much memory is lent.
 #[derive(Clone, Debug)]
@@ -17,7 +17,7 @@ pub fn need(columns: usize, letters: usize) -> usize {
 }
 
 impl Line {
-    /// The work words needed for K and L, or the first row of 12 to 15 that applies.
+    /// The work words needed for K and L, or the first of refusals 12 to 15 that applies.
     pub fn check(&self, k: usize, letters: usize) -> Result<usize, u32> {
         let width = k + 1;
         if self.columns > 255 || self.width != width || self.costs.len() != self.columns * width {

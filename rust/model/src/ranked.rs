@@ -4,14 +4,14 @@
 use super::form::Form;
 use super::search::Best;
 
-/// Where a path stands: on a letter, or in the blanks behind one; letter 0 for none yet.
+/// Where a path is: on a letter, or in the blanks after one; letter 0 means none yet.
 #[derive(Clone, Copy, Debug, PartialEq)]
 struct Place {
     letter: u8,
     blank: bool,
 }
 
-/// The least price from a place to the end; the next label and place of the first such list by labels; and the place of that
+/// The least price from a place to the end; the next label and place of the first such list by labels; and the rank of that
 /// list among the lists of all places, in the order of labels.
 #[derive(Clone, Copy, Debug)]
 struct Rest {
@@ -52,7 +52,7 @@ fn places(form: &Form) -> Vec<Place> {
     [place(0, true)].into_iter().chain(of_letters).collect()
 }
 
-/// Behind the last column: nothing is left where a path may end.
+/// After the last column: nothing is left where a path may end.
 fn ends(form: &Form, places: &[Place]) -> Row {
     let end = Rest {
         price: 0,
@@ -87,7 +87,7 @@ fn row(steps: &[Vec<(u8, usize)>], column: &[u32], next: &Row) -> Row {
     found.into_iter().map(|f| f.map(rest)).collect()
 }
 
-/// The labels that a path may go on with from a place, and where they lead.
+/// The labels with which a path may continue from a place, and where they lead.
 fn steps_from(form: &Form, places: &[Place], from: Place) -> Vec<(u8, usize)> {
     let find = |letter, blank| {
         places

@@ -1,4 +1,4 @@
-//! The best path by going through all (K + 1)^T lists of labels.
+//! The best path by a search over all (K + 1)^T lists of labels.
 use super::collapse;
 
 /// A list of labels and its price.
@@ -14,7 +14,7 @@ fn price(costs: &[u32], width: usize, path: &[u8]) -> u32 {
     columns.map(|(column, &x)| column[usize::from(x)]).sum()
 }
 
-/// The next list of labels 0 to K of the same length, in the order of labels.
+/// Moves to the next list of labels 0 to K of the same length, in the order of labels; false if there is none.
 fn advance(path: &mut [u8], k: u8) -> bool {
     let Some(t) = path.iter().rposition(|&x| x < k) else {
         return false;
@@ -24,8 +24,8 @@ fn advance(path: &mut [u8], k: u8) -> bool {
     true
 }
 
-/// The best of all lists of labels 0 to K, gone through in the order of labels: the cheapest whose collapse is a word, and the
-/// first of those.
+/// The best of all lists of labels 0 to K, tried in the order of labels: the cheapest whose collapse is a word, and the first of
+/// those.
 pub fn exhaustive(
     k: u8,
     costs: &[u32],

@@ -79,8 +79,8 @@ fn numbers<T: ToString>(list: &[T]) -> Vec<u8> {
     decimals.join(" ").into_bytes()
 }
 
-/// The best path: by going through all lists of labels where they are few, else by two other methods, or by one of them if
-/// there are too many states for the other.
+/// The best path: by a search over all lists of labels if they are few, else by two other methods, or by one of them if there
+/// are too many states for the other.
 fn search(call: &Call, tree: &Rc<Tree>, form: &Form) -> Option<Best> {
     let lists = (u32::from(form.k) + 1).checked_pow(call.line.columns as u32);
     if lists.is_some_and(|n| n <= 10_000) {

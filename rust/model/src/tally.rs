@@ -10,7 +10,7 @@ impl Tally {
         self.0[number as usize] += 1;
     }
 
-    /// Each of these numbers was answered at least so many times, and no other number ever.
+    /// Each of these numbers must have been answered at least `least` times, and no other number ever.
     pub fn demand(&self, call: &str, least: usize, numbers: &[usize]) {
         for (number, &times) in self.0.iter().enumerate() {
             if numbers.contains(&number) {

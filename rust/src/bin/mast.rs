@@ -22,7 +22,7 @@ impl Random {
         self.0 % n
     }
 
-    /// From `low` up to and without `high`.
+    /// From `low` up to but not including `high`.
     fn within(&mut self, low: u64, high: u64) -> u8 {
         (low + self.below(high - low)) as u8
     }
@@ -48,7 +48,7 @@ fn column(random: &mut Random, (top, high): (usize, u8), second: Option<(usize, 
 }
 
 /// The columns of one character: a few on it, then a few in the blank. Now and then a digit and a sign that look alike are
-/// exchanged: the expression tells which of them may stand there.
+/// exchanged: the expression says which of them may be there.
 fn character(random: &mut Random, c: char) -> Vec<Vec<u8>> {
     let mut columns = Vec::new();
     let two_digits = c.is_ascii_digit() && like(c).is_some_and(|d| d.is_ascii_digit());

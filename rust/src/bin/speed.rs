@@ -17,7 +17,7 @@ const ROUNDS: usize = 9;
 const WIDTH: usize = CHARACTERS + 1;
 const STATES: usize = 2 * LETTERS + 1;
 
-/// No way to the end; costs of 255 columns on top of it do not overflow.
+/// No way to the end; costs of 255 columns added to it do not overflow.
 const NONE: u32 = 1_000_000_000;
 
 fn main() {
@@ -46,7 +46,7 @@ fn measure(arcs: usize) {
     );
 }
 
-/// Each line by the plain loop and by Decode, which must agree: the time of all lines by the one and by the other.
+/// Each line by the plain loop and by Decode, which must agree. Returns the time of all lines for each of the two.
 fn round(form: &[u32], lines: &[Vec<u32>], work: &mut [u32]) -> [Duration; 2] {
     let [mut by_plain, mut by_decode] = [Duration::ZERO; 2];
     for costs in lines {
@@ -85,7 +85,7 @@ fn plain(form: &[u32], costs: &[u32], work: &mut [u32], path: &mut [u8]) -> Opti
     Some(price)
 }
 
-/// The row behind the last column: a state at which a word may end costs nothing.
+/// The row after the last column: a state at which a word may end costs nothing.
 #[inline(always)]
 fn last_row(form: &[u32], row: &mut [u32]) {
     for (s, cost) in row.iter_mut().enumerate() {
@@ -97,7 +97,7 @@ fn last_row(form: &[u32], row: &mut [u32]) {
     }
 }
 
-/// The rows of the columns, each by the row behind it.
+/// The rows of the columns, each computed from the row after it.
 #[inline(always)]
 fn table(form: &[u32], starts: &[usize], costs: &[u32], work: &mut [u32]) {
     for t in (0..COLUMNS).rev() {
@@ -178,7 +178,7 @@ fn steps(form: &[u32], starts: &[usize], s: usize, mut take: impl FnMut(usize, u
     }
 }
 
-/// A form of sixty letters with random labels, a few of them first or last, and about so many arcs.
+/// A form of sixty letters with random labels, a few of them first or last, and about this many arcs.
 fn form(random: &mut Random, arcs: usize) -> Vec<u32> {
     let mut form = vec![1 << 28 | (CHARACTERS as u32) << 16 | LETTERS as u32];
     for i in 1..=LETTERS {

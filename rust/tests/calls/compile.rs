@@ -13,7 +13,7 @@ use model::words::is_word;
 
 const CASES: usize = 200_000;
 
-/// Compiles, and holds the answer and the form memory to the document; the number of the refusal, or 0.
+/// Compiles, and compares the answer and the form memory with the model; returns the number of the refusal, or 0.
 pub fn hold(alphabet: &[u8], text: &[u8], memory: usize) -> u32 {
     let expected = compile_within(alphabet, text, memory).map(|(_, form)| form.words());
     let row = *expected.as_ref().err().unwrap_or(&0);
@@ -62,7 +62,7 @@ fn random_texts() {
     tally.demand("compile", LEAST, &[0, 1, 2, 3, 4, 5, 6, 7, 8, 9, 10]);
 }
 
-/// The model reads the tree that an expression was written from, and the form accepts that tree's words and no others.
+/// The model parses the tree that an expression was written from, and the form accepts that tree's words and no others.
 #[test]
 fn words_of_texts() {
     let mut r = random("words_of_texts");
@@ -92,7 +92,7 @@ fn words_of_texts() {
     assert!(yes >= CASES / 10 && no >= CASES / 10, "{yes} {no}");
 }
 
-/// The text for which Compile was seen to use the most stack, on a thread with less than half as much again (FIGURES.md).
+/// The text for which Compile was seen to use the most stack, on a thread with less than 1.5 times that (FIGURES.md).
 #[test]
 fn deepest_text() {
     let compile = || {

@@ -28,7 +28,7 @@ struct Answer {
 }
 
 impl Call {
-    /// A call for this form with memory enough.
+    /// A call for this form with enough memory.
     fn proper(r: &mut Random, form: &Form, columns: usize) -> Call {
         Call {
             form: form.words(),
@@ -36,14 +36,14 @@ impl Call {
         }
     }
 
-    /// A valid form and a matrix of which all lists of labels can be gone through.
+    /// A valid form, and a matrix small enough to try all lists of labels.
     fn small(r: &mut Random) -> Call {
         let form = random_form(r, 4, 5);
         let columns = r.from(0, few_columns(form.k.into()));
         Call::proper(r, &form, columns)
     }
 
-    /// Spoils one thing: rows 11 to 15.
+    /// Spoils one thing: refusals 11 to 15.
     fn spoil(&mut self, r: &mut Random) {
         match r.below(9) {
             0 => {
@@ -100,15 +100,15 @@ impl Call {
         }
     }
 
-    /// The form and the work words needed, or the first row of 11 to 15 that applies.
+    /// The form and the work words needed, or the first of refusals 11 to 15 that applies.
     fn check(&self) -> Result<(Form, usize), u32> {
         let form = Form::read(&self.form).ok_or(11u32)?;
         let need = self.line.check(form.k.into(), form.letters.len())?;
         Ok((form, need))
     }
 
-    /// Decodes, and holds the answer and all lent memory to the document; `search` finds the best path of a form. The answer
-    /// is that path, or the number of the refusal.
+    /// Decodes, and compares the answer and all lent memory with the document; `search` finds the best path of a form. Returns
+    /// that path, or the number of the refusal.
     fn hold(&self, tally: &mut Tally, search: impl Fn(&Form) -> Option<Best>) -> Result<Best, u32> {
         let (expected, touched) = match self.check() {
             Err(row) => (Err(row), 0),
@@ -132,7 +132,7 @@ impl Call {
         expected
     }
 
-    /// Holds it by both methods.
+    /// The same with both methods of search.
     fn hold_small(&self, tally: &mut Tally) -> Result<Best, u32> {
         let line = &self.line;
         self.hold(tally, |form| {

@@ -2,7 +2,7 @@
 use model::form::{Form, Letter};
 use model::input::Random;
 
-/// A valid form of at most so many characters and letters. A quarter have one label only, so that blanks are needed
+/// A valid form of at most this many characters and letters. A quarter have one label only, so that blanks are needed
 /// everywhere; some have no first or no last letter, and so accept at most the empty word.
 pub fn random_form(r: &mut Random, most_characters: usize, most_letters: usize) -> Form {
     let k = r.edge(1, most_characters) as u8;
@@ -94,7 +94,7 @@ fn broken(r: &mut Random, form: &Form, kind: usize) -> Vec<u32> {
     words
 }
 
-/// A valid form in which a few bits are turned over: it may still be valid.
+/// A valid form in which a few bits are flipped: it may still be valid.
 pub fn flipped(r: &mut Random) -> Vec<u32> {
     let mut words = random_form(r, 10, 6).words();
     for _ in 0..r.from(1, 3) {

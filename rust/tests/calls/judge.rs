@@ -1,4 +1,4 @@
-//! Judge: random forms, words along their walks and beside them, damaged forms, forms with a bit turned.
+//! Judge: random forms, words along their walks and beside them, damaged forms, forms with a bit flipped.
 use crate::forms::{damaged, flipped, random_form, KINDS};
 use crate::LEAST;
 use kavurehy::{raw, Refusal};
@@ -38,7 +38,7 @@ fn word(r: &mut Random, form: &Form, length: usize) -> Vec<u8> {
     word
 }
 
-/// Judges, and holds the answer to the document.
+/// Judges, and compares the answer with the document.
 fn hold(form: &[u32], word: &[u8], tally: &mut Tally) -> Option<bool> {
     let expected = match Form::read(form) {
         None => Err(11),

@@ -7,7 +7,7 @@ use model::tally::Tally;
 
 const CASES: usize = 60_000;
 
-/// A list of labels, mostly a proper one of an alphabet of K; equal neighbours are frequent.
+/// A list of labels, mostly a valid one for an alphabet of K; equal neighbours are frequent.
 fn labels(r: &mut Random, k: usize, low: usize) -> Vec<u8> {
     let length = match r.below(10) {
         0 => 0,
@@ -33,7 +33,7 @@ fn alphabet(r: &mut Random) -> usize {
     }
 }
 
-/// Holds both functions of a call that fills one list, and the memory, to what is expected; the number.
+/// Compares both functions of a call that fills one list, and the memory, with what is expected; returns the number.
 fn hold(
     given: (usize, &[u8]),
     expected: &Result<Vec<u8>, u32>,

@@ -1,5 +1,5 @@
 //! The exported calls against document 01, on random input from a printed seed (`KAVUREHY_SEED` sets another). `model` says what
-//! the document says, by other means than the Rattle code; every list that is lent stands between guards.
+//! the document says, by other means than the Rattle code; every list that is lent is between guards.
 
 mod compile;
 mod decode;
@@ -13,5 +13,5 @@ mod read_call;
 mod support;
 mod texts;
 
-/// How often each call answers each of its numbers, at least, on the random input of its test.
+/// Each call must answer with each of its numbers at least this often on the random input of its test.
 const LEAST: usize = 500;

@@ -28,7 +28,7 @@ impl Memory {
         }
     }
 
-    /// The path and the word stand in it, and nothing else was written but these first work words.
+    /// It holds the path and the word, and nothing else was written except these first work words.
     pub fn wrote(&self, path: &[u8], word: &[u8], work: usize) {
         self.path.wrote(path);
         self.word.wrote(word);

@@ -1,4 +1,4 @@
-//! A call of Read by the library, held to what the document says of it.
+//! A call of Read by the library, compared with what the document says of it.
 use crate::matrix::{matrix, Memory};
 use crate::support::{number, Lent};
 use kavurehy::raw;
@@ -75,7 +75,7 @@ fn answer_safe(call: &Call) -> Answer {
     }
 }
 
-/// Holds an answer and all lent memory to what is expected.
+/// Compares an answer and all lent memory with what is expected.
 fn compare(call: &Call, expected: &Expected, answer: &Answer) {
     let (number, price, path, form) = match &expected.answer {
         Ok(best) => (0, best.price, &best.path[..], expected.form.len()),
@@ -88,7 +88,7 @@ fn compare(call: &Call, expected: &Expected, answer: &Answer) {
     answer.memory.wrote(path, &word, expected.touched);
 }
 
-/// Reads, and holds the answer to the document; the answer is the path, or the number of the refusal.
+/// Reads, and compares the answer with the document; returns the path, or the number of the refusal.
 pub fn hold(
     call: &Call,
     tally: &mut Tally,
@@ -102,12 +102,12 @@ pub fn hold(
     expected.answer
 }
 
-/// By going through all lists of labels.
+/// With a search over all lists of labels.
 pub fn hold_small(call: &Call, tally: &mut Tally) -> Result<Best, u32> {
     hold(call, tally, |tree, form| call.search(tree, form))
 }
 
-/// By two other methods; none if what remains of the tree has more than `most` states.
+/// With two other methods; none if what may remain of the tree has more than `most` states.
 pub fn hold_long(call: &Call, tally: &mut Tally, most: usize) -> Option<Result<Best, u32>> {
     let (tree, form) = compile(&call.alphabet, &call.text).ok()?;
     let machine = Machine::new(&tree, form.k, most)?;

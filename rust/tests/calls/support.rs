@@ -1,7 +1,7 @@
 //! Lent memory between guards, and the number of a safe function's answer.
 use kavurehy::Refusal;
 
-/// An element of lent memory: what stands at a place before a call.
+/// An element of lent memory: what a place holds before a call.
 pub trait Element: Copy + PartialEq + std::fmt::Debug {
     fn pattern(place: usize) -> Self;
 }
@@ -18,7 +18,7 @@ impl Element for u32 {
     }
 }
 
-/// Lent memory with a pattern in it, in front of it and behind it.
+/// Lent memory with a pattern in it, before it and after it.
 pub struct Lent<T> {
     all: Vec<T>,
     length: usize,
@@ -43,7 +43,7 @@ impl<T: Element> Lent<T> {
         self.kept_beyond(elements.len());
     }
 
-    /// Nothing was written behind the first n elements, or in front of the memory.
+    /// Nothing was written after the first n elements, or before the memory.
     pub fn kept_beyond(&self, n: usize) {
         for (place, x) in self.all.iter().enumerate() {
             if place < GUARD || place >= GUARD + n {
@@ -58,7 +58,7 @@ impl<T: Element> Lent<T> {
     }
 }
 
-/// The number that a safe function's answer stands for: that of the refusal, or 0.
+/// The number of a safe function's answer: that of the refusal, or 0.
 pub fn number<T>(answer: &Result<T, Refusal>) -> u32 {
     answer.as_ref().err().map_or(0, |row| row.number())
 }

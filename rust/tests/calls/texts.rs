@@ -1,10 +1,9 @@
-//! How rows 1 to 10 of the table are read, text by text, with the numbers written by hand: the model and Compile are both held
-//! to them.
+//! Refusals 1 to 10, text by text, with the numbers written by hand: the model and Compile must both answer with them.
 use crate::compile::hold;
 use kavurehy::FORM_WORDS;
 use model::opening::compile;
 
-/// This text over this alphabet is answered with this number.
+/// This text over this alphabet must be answered with this number.
 fn answers(alphabet: &[u8], row: u32, text: &str) {
     let text = text.as_bytes();
     let by_model = compile(alphabet, text).err().unwrap_or(0);
@@ -152,7 +151,7 @@ fn leftmost_first() {
     );
 }
 
-/// Characters of which each means something in brackets, and what brackets of them hold.
+/// Characters that mean something in brackets, and what brackets of them hold.
 const CHARACTERS: &[u8] = b".-+]^[\\ab:";
 const SETS: [(&str, &str); 27] = [
     ("[ab]", "ab"),

@@ -15,8 +15,8 @@ fn sheet_at(folder: &Path, level: u32, face: &str) -> Vec<u8> {
     fs::read(&path).unwrap_or_else(|error| panic!("{}: {error}", path.display()))
 }
 
-/// Each sheet reads as the model says, but for 14-FR, which has no reading; and the two faces of a level are 200 gon apart,
-/// within 40 ten-thousandths.
+/// The program reads each sheet as the model does, except 14-FR, which has no reading; and the two faces of a level are 200 gon
+/// apart, within 40 ten-thousandths.
 #[test]
 fn forty_lines() {
     assert_eq!(fs::read_dir(folder()).unwrap().count(), 40);

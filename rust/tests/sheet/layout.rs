@@ -1,4 +1,4 @@
-//! Row 18: each kind of damage to a sheet, also where another number would apply.
+//! Refusal 18: each kind of damage to a sheet, also where another number would apply.
 use crate::refusals::{columns, refused};
 use crate::{prints, refuses};
 
@@ -55,7 +55,7 @@ fn unequal_columns() {
     are_refused("0 0 0/0 0/|0 0/0 0 0/|0 0 0/0 0 0/0 0 0 0/|0/0 0 0/|0 0 0/0/0 0 0/");
 }
 
-/// Every byte but a digit in the place of a digit, of a space and of the final newline.
+/// Every byte except digits in the place of a digit, of a space and of the final newline.
 #[test]
 fn every_other_byte() {
     let sheet = b"ab\na*\n7 7 7\n7 7 7\n";
@@ -69,14 +69,14 @@ fn every_other_byte() {
     }
 }
 
-/// A sheet of so many equal columns for the first K characters.
+/// A sheet of this number of equal columns for the first K characters.
 fn wide(k: usize, number: usize) -> Vec<u8> {
     let alphabet: String = (' '..='~').take(k).collect();
     let column = vec!["0"; k + 1].join(" ");
     format!("{alphabet}\n!?\n{}", columns(number, &column)).into_bytes()
 }
 
-/// 16,384 costs are a sheet, whatever Read says of it; one more is none.
+/// 16,384 costs are a sheet, whatever Read says of it; with one more it is none.
 #[test]
 fn too_many_costs() {
     for (k, number) in [(63, 255), (95, 170)] {

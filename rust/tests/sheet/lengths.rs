@@ -3,7 +3,7 @@ use crate::process::{answer, answer_chunked};
 use model::sheet;
 use std::time::Duration;
 
-/// A sheet of exactly so many bytes, 3 to 5 for each cost: 170 columns for the 95 characters.
+/// A sheet of exactly this many bytes, 3 to 5 for each cost: 170 columns for the 95 characters.
 fn sheet_of(bytes: usize) -> Vec<u8> {
     let mut sheet: Vec<u8> = (32..=126).chain(*b"\n[a-e]*z?[ !]\n").collect();
     let mut costs = 170 * 96;
@@ -59,7 +59,7 @@ fn the_most() {
     holds(&[b'\n'; 65_535], 18);
 }
 
-/// Over the most: also where the first 65,535 or 65,536 bytes are a sheet.
+/// Over the limit, also where the first 65,535 or 65,536 bytes are a sheet.
 #[test]
 fn too_many() {
     for bytes in [65_536, 70_000] {
@@ -91,7 +91,7 @@ fn many_pieces() {
     }
 }
 
-/// Long lines, but a sheet: 1 and 2.
+/// Sheets with a long line: refusals 1 and 2.
 #[test]
 fn long_lines() {
     let alphabet = [vec![b'a'; 65_532], b"\na\n".to_vec()].concat();

@@ -1,5 +1,5 @@
 //! The sheet program as a process, against document 01: `target/bin/sheet`, which `rt check sheet` builds. What is written here by
-//! hand holds for the program and for the model.
+//! hand must hold for the program and for the model.
 
 mod document;
 mod examples;

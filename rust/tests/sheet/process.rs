@@ -6,10 +6,10 @@ use std::process::{Child, ChildStdin, Command, ExitStatus, Stdio};
 use std::thread::{scope, sleep};
 use std::time::{Duration, Instant};
 
-/// Past this time the program has not ended by itself.
+/// After this time the program is taken not to end by itself.
 const LIMIT: Duration = Duration::from_secs(20);
 
-/// A sheet takes at most this many bytes; the program reads one more to see that there are too many.
+/// A sheet has at most this many bytes; the program reads one more to see that there are too many.
 const MOST: usize = 65_535;
 
 pub fn program() -> PathBuf {
@@ -22,7 +22,7 @@ pub fn program() -> PathBuf {
     path
 }
 
-/// The program under a shell, which first does what is asked there: `$0` is the program.
+/// The program started by a shell script, in which `$0` is the program.
 pub fn under_shell(script: &str) -> Command {
     let mut command = Command::new("sh");
     command.arg("-c").arg(script).arg(program());
@@ -44,7 +44,7 @@ pub fn end(child: &mut Child) -> ExitStatus {
     }
 }
 
-/// What the program printed, once it has ended: little enough for a pipe. It ended with exit code 0 and without a word on
+/// What the program printed, once it has ended: little enough for a pipe. It must end with exit code 0 and print nothing on
 /// standard error.
 pub fn printed(child: &mut Child) -> String {
     let status = end(child);
@@ -94,7 +94,7 @@ pub fn answer(input: &[u8]) -> String {
     answer_to(|mut stdin| put(&mut stdin, input, MOST))
 }
 
-/// The same for an input written in chunks of this size with a pause behind each.
+/// The same for an input written in chunks of this size with a pause after each.
 pub fn answer_chunked(input: &[u8], size: usize, pause: Duration) -> String {
     answer_to(|mut stdin| {
         let mut left = MOST;
@@ -106,7 +106,7 @@ pub fn answer_chunked(input: &[u8], size: usize, pause: Duration) -> String {
     })
 }
 
-/// Writes bytes of which the program takes at least `least`, if there are so many; behind those it may be gone.
+/// Writes bytes of which the program reads at least `least`, if there are that many; after those it may have ended.
 fn put(stdin: &mut ChildStdin, bytes: &[u8], least: usize) {
     if let Err(error) = stdin.write_all(bytes) {
         let gone = error.kind() == ErrorKind::BrokenPipe && bytes.len() > least;

@@ -1,4 +1,4 @@
-//! Random sheets: sound, spoilt and with damaged bytes against the model, and as they are written against the call Read.
+//! Random sheets: valid, spoilt and with damaged bytes against the model, and as they are written against the call Read.
 use crate::process::answer;
 use kavurehy::Matrix;
 use model::input::sheets::edit;
@@ -35,7 +35,7 @@ fn random_sheets() {
     tally.demand("the sheet program", 20, &ROWS);
 }
 
-/// What the program should print of a sheet: the answer of the call Read on its parts.
+/// What the program should print for a sheet: the answer of the call Read on its parts.
 fn by_call(sheet: &Sheet) -> String {
     let call = sheet.call();
     let matrix = Matrix {
@@ -64,7 +64,7 @@ fn by_call(sheet: &Sheet) -> String {
     }
 }
 
-/// The program prints of a sheet that is written down what the call Read answers of its parts.
+/// For a sheet that is written down the program prints what the call Read answers for its parts.
 #[test]
 fn written_and_read() {
     let mut r = random("written_and_read");

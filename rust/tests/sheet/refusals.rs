@@ -1,7 +1,7 @@
-//! Sheets that are sheets, and turned away by Read: each number, and the lowest where several apply.
+//! Inputs that are sheets and are turned away by Read: each number, and the lowest where several apply.
 use crate::{prints, refuses};
 
-/// So many columns, each of them this line.
+/// This number of columns, each of them this line.
 pub fn columns(number: usize, line: &str) -> String {
     format!("{line}\n").repeat(number)
 }
@@ -52,7 +52,7 @@ fn alphabets() -> Vec<Vec<u8>> {
     all
 }
 
-/// The sheet with each byte outside 32 to 126, but for the newline, in the place of `?`.
+/// The sheet with each byte outside 32 to 126, except the newline, in the place of `?`.
 fn bytes_outside(sheet: &str) -> Vec<Vec<u8>> {
     let (before, behind) = sheet.split_once('?').unwrap();
     let outside = (0..=255).filter(|b| !(32..=126).contains(b) && *b != b'\n');
@@ -61,7 +61,7 @@ fn bytes_outside(sheet: &str) -> Vec<Vec<u8>> {
         .collect()
 }
 
-/// A bracket of so many bytes over the alphabet `a`.
+/// A repeated bracket, a text of this length, over the alphabet `a`.
 fn long(length: usize) -> Vec<u8> {
     format!("a\n[{}]*\n0 0\n", "a".repeat(length - 3)).into_bytes()
 }
@@ -82,7 +82,7 @@ fn costs() -> Vec<Vec<u8>> {
         .to_vec()
 }
 
-/// So many columns and letters: (T + 1) × (2L + 1) work words.
+/// This number of columns and of letters: (T + 1) × (2L + 1) work words.
 fn work(number: usize, letters: usize) -> Vec<u8> {
     format!("a\na{{0,{letters}}}\n{}", columns(number, "0 1")).into_bytes()
 }
@@ -94,7 +94,7 @@ fn each_number() {
     }
 }
 
-/// The last that pass: 95 characters, 255 bytes of text, 127 letters, 16 groups, 255 columns.
+/// The limits that pass: 95 characters, 255 bytes of text, 127 letters, 16 groups, 255 columns.
 #[test]
 fn limits_that_pass() {
     let all: String = (' '..='~').collect();

@@ -16,7 +16,7 @@ extern "C" {
     fn kill(process: i32, signal: i32) -> i32;
 }
 
-/// Linux's numbers: to ask for a descriptor's flags and to set them, the flag for reads that do not wait, the signals to stop and go on.
+/// Linux's numbers: to get a descriptor's flags and to set them, the flag for reads that do not wait, the signals to stop and continue.
 const F_GETFL: i32 = 3;
 const F_SETFL: i32 = 4;
 const O_NONBLOCK: i32 = 0o4000;
@@ -48,7 +48,7 @@ fn waits_for_the_end() {
     assert_eq!(printed(&mut child), "7\naa\n1 0 1\n");
 }
 
-/// Input that is cut off is the shorter input.
+/// Input that is cut off counts as the shorter input.
 #[test]
 fn cut_off() {
     for end in 0..EXAMPLE.len() {
@@ -83,7 +83,7 @@ fn unreadable_inputs() {
     assert_eq!(answer_on(File::open("/").unwrap()), "", "a folder");
 }
 
-/// A sheet that has a reading, and so have its first lines alone, from two lines on.
+/// A sheet that has a reading; its first lines alone have one too, from two lines on.
 const LINES: &[u8] = b"ab\na*b?\n5 1 9\n5 9 2\n1 9 9\n";
 
 /// What is printed for its first lines: without a column, with one, with two, with all three.
@@ -132,7 +132,7 @@ fn pause_of_a_nonblocking_socket() {
     }
 }
 
-/// A connection that the other side has broken off: it left without having read what was sent to it.
+/// A connection that the other side has broken off without having read what was sent to it.
 #[test]
 fn broken_connection() {
     for end in 0..=LINES.len() {
@@ -157,7 +157,7 @@ fn pause_of_a_blocking_pipe() {
     }
 }
 
-/// Stopped while it waits, and told to go on: no read fails for that.
+/// Stopped while it waits, and continued: no read fails because of that.
 #[test]
 fn stopped_and_continued() {
     let mut child = start(&mut Command::new(program()));
@@ -186,7 +186,7 @@ fn closed_by_the_writer() {
     }
 }
 
-/// The byte too many comes late: with it the answer is there, though the input goes on. If a read fails in its place there is none.
+/// The byte too many comes late: with it the answer comes, though the input goes on. If a read fails in its place there is none.
 #[test]
 fn byte_too_many() {
     let mut child = start(&mut Command::new(program()));

@@ -1,4 +1,4 @@
--- `sheet::answer_input` meets its contract: a whole input is answered by the bytes that were read, a failed one by none.
+-- `sheet::answer_input` meets its contract: for a whole input the bytes that were read are answered, for a failed one nothing is printed.
 use mathlib.Core.Path.{refl, sym, subst}
 use mathlib.Core.List.{[]}
 use denote.Ref.{now}

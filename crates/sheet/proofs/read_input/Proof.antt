@@ -1,4 +1,4 @@
--- `sheet::read_input` meets its contract: what is read so far is within the buffer, and each turn reads at least a byte.
+-- `sheet::read_input` meets its contract: what is read so far is within the buffer, and each iteration reads at least one byte.
 use Prim.Native.Nat.{_≤_, _-_}
 use mathlib.Core.Path.{_≡_, sym}
 use native.Mathlib.Omega.{arith}

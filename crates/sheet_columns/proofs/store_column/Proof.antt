@@ -1,4 +1,4 @@
--- `sheet_columns::store_column` meets its contract: what it answers from the place i on, with the costs stored so far, it answers from the start.
+-- `sheet_columns::store_column` meets its contract: its answer from place i on, with the costs so far, is its answer from the start.
 use Prim.Native.Nat.{ℕ, _+_, _-_, _≤_}
 use mathlib.Core.Path.{_≡_, refl, _∙_, subst}
 use mathlib.Core.List.{List}

@@ -1,4 +1,4 @@
--- `sheet_columns::store_columns` meets its contract: what it answers from the place i on, with the columns stored so far, it answers from the start.
+-- `sheet_columns::store_columns` meets its contract: its answer from place i on, with the columns so far, is its answer from the start.
 use Prim.Native.Nat.{ℕ, _+_, _-_, _≤_}
 use mathlib.Core.Path.{_≡_, refl, _∙_, subst}
 use mathlib.Core.List.{List}

@@ -1,4 +1,4 @@
--- `sheet_decimal::put_decimal` meets its contract: the digits in front, and the last one behind them. Each call divides the number by 10.
+-- `sheet_decimal::put_decimal` meets its contract: the digits before the last, and then the last. Each call divides the number by 10.
 use Prim.Native.Nat.{ℕ, _/_, _%_, _<_, _≤_}
 use mathlib.Core.Path.{_≡_, sym, ap, _∙_}
 use mathlib.Core.List.{[], _∷_, _++_}

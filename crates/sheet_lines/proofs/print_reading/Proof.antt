@@ -36,7 +36,7 @@ put-number-line-requires c κs =
     let s = c .before .before .before .before in
     front-room (whole s) (price-line s) (word-line s ++ path-line s) (now (s .args .out)) 0 refl (room (c .before .before))
 
--- behind the price
+-- the room after the price
 behind : (c : tie.After-put-number-line) → c .put-number-line .result + length (word-line (c .before .before .before .before .before) ++ path-line (c .before .before .before .before .before)) ≤ length (c .put-number-line .last .1 .0)
 behind c =
     let s = c .before .before .before .before .before in

@@ -1,4 +1,4 @@
--- `sheet_lines::put_number_line` meets its contract: the number, and the newline behind it.
+-- `sheet_lines::put_number_line` meets its contract: the number, and the newline after it.
 use mathlib.Core.Path.{refl}
 use mathlib.Core.List.{[], _∷_}
 use native.Mathlib.Omega.{arith}

@@ -1,4 +1,4 @@
--- `sheet_lines::put_path_line` meets its contract: the labels, and the newline behind it.
+-- `sheet_lines::put_path_line` meets its contract: the labels, and the newline after them.
 use mathlib.Core.Path.{refl}
 use mathlib.Core.List.{[], _∷_}
 use native.Mathlib.Omega.{arith}

@@ -1,4 +1,4 @@
--- `sheet_lines::put_word_line` meets its contract: the word, and the newline behind it.
+-- `sheet_lines::put_word_line` meets its contract: the word, and the newline after it.
 use mathlib.Core.Path.{refl}
 use mathlib.Core.List.{[], _∷_}
 use native.Mathlib.Omega.{arith}

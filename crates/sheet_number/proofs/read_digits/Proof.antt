@@ -1,4 +1,4 @@
--- `sheet_number::read_digits` meets its contract: the bytes in front of i are digits and make v.
+-- `sheet_number::read_digits` meets its contract: the bytes from `at` up to i are digits with the value v.
 use Prim.Native.Nat.{_+_, _-_, _<_, _≤_}
 use mathlib.Core.Path.{_≡_, sym, _∙_}
 use mathlib.Core.Bool.{true}
@@ -42,7 +42,7 @@ returns-2 c =
     let a = at-loop .before .before .args in
     digits-seven (now (a .input)) (a .at) (at-loop .loop .i) (at-loop .loop .v) (at-loop .loop .inv) (c .if2 .taken)
 
--- the byte that is read is a digit, and fewer than seven stand in front of it
+-- the byte at i is a digit, and fewer than seven come before it
 is-one :
     (c : tie.Else1 Inv-loop μ-loop)
     → digit (getD (now (c .before .before .before .before .before .before .args .input)) (c .before .before .before .before .loop .i) 0) ≡ true

@@ -1,4 +1,4 @@
--- `sheet_path::put_following` meets its contract: what stands in front, what is written and the labels still to come make the whole.
+-- `sheet_path::put_following` meets its contract: the memory before place n, what is written and the labels still to come are the whole.
 use Prim.Native.Nat.{_+_, _-_}
 use mathlib.Core.List.{_∷_, _++_}
 use native.Mathlib.Omega.{arith}

@@ -1,4 +1,4 @@
--- `sheet_path::put_labels` meets its contract: nothing, or the first label and the others behind it.
+-- `sheet_path::put_labels` meets its contract: nothing, or the first label and the others after it.
 use mathlib.Core.Path.{_≡_, refl}
 use mathlib.Core.List.{_++_}
 use native.Mathlib.Omega.{arith}

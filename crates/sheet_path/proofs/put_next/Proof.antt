@@ -1,4 +1,4 @@
--- `sheet_path::put_next` meets its contract: a space, and the label behind it.
+-- `sheet_path::put_next` meets its contract: a space, and the label after it.
 use mathlib.Core.Path.{refl}
 use mathlib.Core.List.{[], _∷_}
 use denote.Ref.{now}

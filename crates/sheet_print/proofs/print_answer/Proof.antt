@@ -1,4 +1,4 @@
--- `sheet_print::print_answer` meets its contract: the line of the refusal, or the lines of the path and the word in the lent memory.
+-- `sheet_print::print_answer` meets its contract: the line of the refusal, or the lines of the reading in the lent memory.
 use Prim.Native.Nat.{_≤_}
 use mathlib.Core.Path.{sym, subst}
 use lib.ListN.{length}
@@ -13,7 +13,7 @@ use Rattle.sheet_print.proofs.print_answer.Tie as tie
 abbrev start : tie.After-answer2 → tie.Start
 start c = c .before .before .before .before .before
 
--- the word and the path lie in the memory
+-- the word and the path are within the memory
 shown : (c : tie.After-answer2) → (c .answer2 .given .0 .1 .0 ≤ length (now (start c .args .word))) × (start c .args .count ≤ length (now (start c .args .path)))
 shown c =
     let s = start c in

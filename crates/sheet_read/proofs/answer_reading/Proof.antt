@@ -1,5 +1,4 @@
--- `sheet_read::answer_reading` meets its contract: what is printed of Read's answer, with the path and the word as it left them in the lent
--- memory.
+-- `sheet_read::answer_reading` meets its contract: Read's answer is printed, with the path and the word that Read left in lent memory.
 use Prim.Native.Nat.{ℕ}
 use mathlib.Core.Path.{_≡_}
 use mathlib.Core.List.{List}
@@ -27,7 +26,7 @@ costs s = matrix (now (s .args .costs)) (s .args .width) (s .args .count)
 abbrev zeros : ℕ → List ℕ
 zeros n = replicate n 0
 
--- what is lent Read
+-- what is lent to Read
 abbrev before : Lent
 before = record { path = zeros 255; word = zeros 255; work = zeros 16384 }
 

@@ -1,4 +1,4 @@
--- `vectors_fields::numbers` meets its contract: what is written and the numbers still to come make all for which there is room.
+-- `vectors_fields::numbers` meets its contract: what is written and the numbers still to come are all for which there is room.
 use mathlib.Core.Path.{_∙_}
 use Prim.Native.Nat.{_-_, _≤_}
 use native.Mathlib.Omega.{arith}

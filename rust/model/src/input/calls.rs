@@ -7,7 +7,7 @@ use crate::matrix::Line;
 use crate::opening::compile;
 
 impl Call {
-    /// A call with at most so many columns; with memory enough, mostly.
+    /// A call with at most this many columns, mostly with enough memory.
     fn random(r: &mut Random, alphabet: Vec<u8>, text: Vec<u8>, most: usize) -> Call {
         let k = alphabet.len();
         let (letters, form) = match compile(&alphabet, &text) {
@@ -23,7 +23,7 @@ impl Call {
         }
     }
 
-    /// A text of any kind and a matrix of which all lists of labels can be gone through.
+    /// A text of any kind, and a matrix small enough to try all lists of labels.
     pub fn small(r: &mut Random) -> Call {
         let most = *r.pick(&[1, 2, 2, 3, 3, 4, 4, 8, 95]);
         let alphabet = alphabet(r, most);

@@ -1,9 +1,9 @@
-//! Random matrices, with memory enough or spoilt.
+//! Random matrices, with enough memory or spoilt.
 use super::Random;
 use crate::matrix::{need, Line};
 
 impl Line {
-    /// A random matrix for K and L, with memory enough.
+    /// A random matrix for K and L, with enough memory.
     pub fn random(r: &mut Random, k: usize, letters: usize, columns: usize) -> Line {
         let spare = |r: &mut Random| if r.chance(50) { 0 } else { r.from(1, 9) };
         Line {
@@ -16,7 +16,7 @@ impl Line {
         }
     }
 
-    /// Spoils one thing: rows 12 to 15.
+    /// Spoils one thing: refusals 12 to 15.
     pub fn spoil(&mut self, r: &mut Random) {
         match r.below(7) {
             0 => self.width = *r.pick(&[0, self.width ^ 1, self.width ^ 2, 1 << 63, usize::MAX]),
@@ -47,7 +47,7 @@ fn costs(r: &mut Random, number: usize) -> Vec<u32> {
     (0..number).map(|_| cost()).collect()
 }
 
-/// The most columns of which all lists of labels 0 to K can be gone through: at most 9,261 lists.
+/// The most columns for which all lists of labels 0 to K can be tried: at most 9,261 lists.
 pub fn few_columns(k: usize) -> usize {
     match k {
         1 => 10,

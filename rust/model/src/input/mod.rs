@@ -10,7 +10,7 @@ pub mod writer;
 pub use generator::Random;
 use std::io::Write;
 
-/// The seed: `KAVUREHY_SEED`, or always the same. It is printed past the test harness, which keeps the output of tests that
+/// The seed: `KAVUREHY_SEED`, or always the same. It is printed past the test harness, which hides the output of tests that
 /// pass.
 pub fn random(test: &str) -> Random {
     let seed = match std::env::var("KAVUREHY_SEED") {
@@ -49,7 +49,7 @@ impl Random {
         }
     }
 
-    /// True in so many of a hundred cases.
+    /// True in this many of a hundred cases.
     pub fn chance(&mut self, percent: usize) -> bool {
         self.below(100) < percent
     }

@@ -20,7 +20,7 @@ pub fn alphabet(r: &mut Random, most: usize) -> Vec<u8> {
     bytes
 }
 
-/// An alphabet that is none: row 1.
+/// A list that is no alphabet: refusal 1.
 pub fn bad_alphabet(r: &mut Random) -> Vec<u8> {
     let mut bytes = alphabet(r, 95);
     let n = r.below(bytes.len());

@@ -113,8 +113,8 @@ impl<'a> Writer<'a> {
         }
     }
 
-    /// The items of a bracket and the ranges of bytes they mean. `]` only stands first, `-` only first, last, or at a range's
-    /// upper end, `^` not first unless the bracket is a complement.
+    /// The items of a bracket and the ranges of bytes they mean. `]` is only first, `-` only first, last, or at a range's upper
+    /// end, `^` not first unless the bracket is a complement.
     fn items(&mut self, complement: bool) -> (Vec<u8>, Vec<(u8, u8)>) {
         let (mut inside, mut members) = (Vec::new(), Vec::new());
         for _ in 0..self.r.from(1, 3) {
@@ -172,7 +172,7 @@ impl<'a> Writer<'a> {
         }
     }
 
-    /// A number in 1 to 3 digits, at times with zeros in front.
+    /// A number in 1 to 3 digits, at times with leading zeros.
     fn digits(&mut self, number: usize) -> String {
         let least = if self.r.chance(80) {
             1
