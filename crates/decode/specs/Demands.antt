@@ -1,5 +1,5 @@
--- Demands 1 and 3, as theorems on what Decode promises, by the definitions that Read's are stated by too; a word is here what the form
--- accepts. Past the checks with memory enough means: no refusal but 16 applies, so the form is valid and the checks of the matrix and the
+-- Demands 1 and 3, as theorems on what Decode promises, stated by the same definitions as Read's; here a word is what the form accepts.
+-- Past the checks with memory enough means: no refusal except 16 applies, so the form is valid and the checks of the matrix and the
 -- memory pass.
 -- For the reader: nothing uses it.
 use Prim.Native.Nat.{ℕ}
@@ -18,11 +18,12 @@ use Rattle.automaton.specs.Form.{validForm, view, lettersOf, alphabetOf}
 use Rattle.matrix.specs.Matrix.{Matrix}
 use Rattle.decode_checks.specs.Checks.{needed, matrix-checks, decode-checks}
 use Rattle.decode_valid.specs.Answers.{Lent, rooms, labels, DecodeAnswers}
-use Rattle.decode_valid.specs.Demand.{Plain-rival, No-rival, Best-or-none, Kept, answers-as-demanded, none-exactly, rival-reads}
+use Rattle.decode_valid.specs.Demand.{Plain-rival, No-rival, Best-or-none, Kept}
+use Rattle.decode_valid.specs.DemandLaws.{answers-as-demanded, none-exactly, rival-reads}
 use Rattle.decode.specs.Promise.{Decodes}
 
 module _ (f : List ℕ) (M : Matrix) (before after : Lent) (answer : Report) (decodes : Decodes f M before after answer) where
-  -- Demand 1: what is turned away gets its number, zeros, and all memory as it was.
+  -- Demand 1: what is turned away gets its refusal's number and zeros, and all memory is as it was.
   pub demand-1-refusal : (n : Refusal) → first-refusal (decode-checks f M (rooms before)) ≡ Refused n → (answer ≡ turned-away n) × (after ≡ before)
   demand-1-refusal n e = rw e at decodes
 

@@ -1,4 +1,4 @@
--- What Decode promises (demand 3, of every valid form): the first check that holds, or the answer past them.
+-- What Decode promises (demand 3, for every valid form): the first refusal that applies, or the answer past the checks.
 use mathlib.Core.List.{List}
 use Prim.Native.Nat.{ℕ}
 use Rattle.refusal.specs.Verdict.{first-refusal}

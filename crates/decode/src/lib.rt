@@ -17,7 +17,7 @@ ghost use Rattle.matrix.specs.View.{value};
 ghost use Rattle.decode_valid.specs.Answers.{lent};
 ghost use Rattle.decode.specs.Promise.{Decodes};
 
-// The work of Decode: the first check that holds, or what is read past them.
+// The work of Decode: the first refusal that applies, or the answer past the checks.
 fn decode_parts(
     form: &[u32],
     costs: &[u32],
@@ -50,7 +50,17 @@ fn decode_parts(
     }
 }
 
-// Document 01's Decode. What `Decodes` comes to for a caller is in specs/Demands.antt, as theorems.
+// Document 01's Decode, for a form of L letters over K characters and a matrix of T columns. Of all paths, lists of T labels 0 to K, whose
+// CTC collapse the form accepts, it finds the cheapest, and among equals the first by labels.
+// - On success it writes the path to the front of `path` and its collapse, as labels, to the front of `word`, and returns the price, which
+//   is the sum of the path's costs, and the length of the collapse.
+// - Refusal 16, no reading, means that there is no such path. It leaves `path` and `word` as they were.
+// - Refusals 11 to 15 leave all memory as it was: 11 the form is not valid; 12 T is over 255, the width is not K + 1, or the number of
+//   costs is not T × (K + 1); 13 a cost is over 1,000,000; 14 `path` or `word` is shorter than T; 15 `work` is shorter than
+//   (T + 1) × (2L + 1).
+// Success and refusal 16 may change these (T + 1) × (2L + 1) words. Memory after them, and after what is written, is as it was.
+//
+// `Decodes` is this promise; specs/Demands.antt has what it means for a caller, as theorems.
 pub fn decode_matrix(
     form: &[u32],
     matrix: Matrix,
@@ -72,7 +82,8 @@ pub fn decode_matrix(
     )
 }
 
-// Decode for a caller that has the matrix by its parts: no view is in the signature, so the caller's proof needs no walk by hand.
+// Decode, as `decode_matrix` says, for a caller that has the matrix by its parts: its costs, one column after another, its column width
+// and its column count. No view is in the signature, so a caller's proof need not go statement by statement.
 pub fn decode(
     form: &[u32],
     costs: &[u32],

@@ -1,10 +1,10 @@
--- Rows 11 to 15 at their limits, and their order, computed on the form of `ab*`, where L is 2 and K is 2.
+-- Refusals 11 to 15 at their limits, and their order, computed on the form of `ab*`, where L is 2 and K is 2.
 use Prim.Native.Nat.{ℕ, _*_}
 use mathlib.Core.Path.{_≡_, refl}
 use mathlib.Core.List.{List, [], _∷_, map}
 use lib.ListN.{replicate}
 use Rattle.lists.specs.Lists.{all}
-use Rattle.refusal.specs.declared.Refusal.the-variants.{BadForm, Matrix as MatrixRow, Cost, OutputMemory, Work}
+use Rattle.refusal.specs.declared.Refusal.the-variants.{BadForm, Matrix as MatrixRefusal, Cost, OutputMemory, Work}
 use Rattle.refusal.specs.declared.Checked.{Checked}
 use Rattle.refusal.specs.declared.Checked.the-variants.{Passed, Refused}
 use Rattle.refusal.specs.Verdict.{first-refusal}
@@ -18,11 +18,11 @@ form = 0x10020002 ∷ 0x20000301 ∷ 0x20000202 ∷ 0x30000102 ∷ 0x30000202 �
 abbrev one : List ℕ
 one = 0x10020001 ∷ 0x20000301 ∷ []
 
--- what the checks make of the form with these costs, this width and count, and so much path, word and work memory
+-- what the checks give for the form with these costs, this width and count, and path, word and work memory of these lengths
 abbrev said : (costs : List ℕ) (width count path word work : ℕ) → Checked
 said costs width count path word work = first-refusal (decode-checks form (matrix costs width count) (record { path = path; word = word; work = work }))
 
--- one column in which the a costs so much
+-- one column in which the a costs c
 abbrev column : ℕ → List ℕ
 column c = 5 ∷ c ∷ 9 ∷ []
 
@@ -34,7 +34,7 @@ record Examples : Type 0 where
   need : needed 3 2 ≡ 20
   least : needed 0 1 ≡ 3
   most : needed 255 127 ≡ 65280
-  -- just enough of each, and one less
+  -- memory just long enough, and one element less
   enough : said three 3 3 3 3 20 ≡ Passed
   short-work : said three 3 3 3 3 19 ≡ Refused Work
   short-word : said three 3 3 3 2 20 ≡ Refused OutputMemory
@@ -43,16 +43,16 @@ record Examples : Type 0 where
   -- "Cost 1,000,000 passes, 1,000,001 is 13."
   costs : map (λ c. said (column c) 3 1 1 1 10) (0 ∷ 1000000 ∷ 1000001 ∷ []) ≡ Passed ∷ Passed ∷ Refused Cost ∷ []
   -- 255 columns, and one more
-  columns : map (λ t. said (replicate (t * 3) 1) 3 t t t 2000) (255 ∷ 256 ∷ []) ≡ Passed ∷ Refused MatrixRow ∷ []
+  columns : map (λ t. said (replicate (t * 3) 1) 3 t t t 2000) (255 ∷ 256 ∷ []) ≡ Passed ∷ Refused MatrixRefusal ∷ []
   -- a width of K and of K + 2, also without a column; a list too short, and too long
-  widths : map (λ w. said [] w 0 0 0 5) (2 ∷ 3 ∷ 4 ∷ []) ≡ Refused MatrixRow ∷ Passed ∷ Refused MatrixRow ∷ []
-  lengths : map (λ n. said (replicate n 1) 3 1 1 1 10) (2 ∷ 3 ∷ 4 ∷ []) ≡ Refused MatrixRow ∷ Passed ∷ Refused MatrixRow ∷ []
+  widths : map (λ w. said [] w 0 0 0 5) (2 ∷ 3 ∷ 4 ∷ []) ≡ Refused MatrixRefusal ∷ Passed ∷ Refused MatrixRefusal ∷ []
+  lengths : map (λ n. said (replicate n 1) 3 1 1 1 10) (2 ∷ 3 ∷ 4 ∷ []) ≡ Refused MatrixRefusal ∷ Passed ∷ Refused MatrixRefusal ∷ []
   -- of `a` over `ab`, L is 1 and K is 2: a width of 3, and 3 work words without a column
   one-letter :
       map (λ w. first-refusal (decode-checks one (matrix [] w 0) (record { path = 0; word = 0; work = 3 }))) (2 ∷ 3 ∷ [])
-      ≡ Refused MatrixRow ∷ Passed ∷ []
+      ≡ Refused MatrixRefusal ∷ Passed ∷ []
   -- two faults: 12 before 13, 13 before 14, 14 before 15; 11 before 12
-  matrix-and-cost : said (column 1000001) 4 1 1 1 10 ≡ Refused MatrixRow
+  matrix-and-cost : said (column 1000001) 4 1 1 1 10 ≡ Refused MatrixRefusal
   cost-and-output : said (column 1000001) 3 1 0 1 10 ≡ Refused Cost
   output-and-work : said (column 1) 3 1 1 0 9 ≡ Refused OutputMemory
   form-and-matrix : first-refusal (decode-checks [] (matrix [] 0 256) (record { path = 0; word = 0; work = 0 })) ≡ Refused BadForm

@@ -1,11 +1,11 @@
--- The checks one by one: which refusal is given, and what is known of an input that passes them all.
+-- What is known of a matrix and of lent memory that pass the checks.
 use Prim.Native.Nat.{ℕ, _+_, _*_, _≤_}
 use mathlib.Core.Path.{_≡_}
 use lib.ListN.{length}
 use Rattle.matrix.specs.Matrix.{Matrix, CostsPass}
 use Rattle.decode_checks.specs.Checks.{Rooms, needed}
 
--- what is known past the checks
+-- the matrix and the memory fit a form of l letters over k characters
 pub record Fits (k l : ℕ) (M : Matrix) (rooms : Rooms) : Type 0 where
   pub few : M .count ≤ 255
   pub wide : M .width ≡ k + 1

@@ -1,4 +1,4 @@
--- What is known of a matrix and of memory past the checks.
+-- Laws of the checks: which refusal each of them gives, and that an input which passes them all fits.
 use Prim.Native.Nat.{ℕ, _+_, _*_, _<_, _≤_}
 use mathlib.Core.Path.{_≡_, ap, _∙_}
 use mathlib.Core.Bool.{true, false, not, _||_}
@@ -11,7 +11,7 @@ use borrow.Author.Tests.{lt-ltb, le-ltb, ltb-false, ne-eqb, eq-eqb, eqb-true, le
 use Rattle.lists.specs.OrderLaws.{or-neither}
 use Rattle.lists.specs.EachLaws.{all-each}
 use Rattle.lists.specs.Lists.{all}
-use Rattle.refusal.specs.declared.Refusal.the-variants.{Matrix as MatrixRow, Cost, OutputMemory, Work}
+use Rattle.refusal.specs.declared.Refusal.the-variants.{Matrix as MatrixRefusal, Cost, OutputMemory, Work}
 use Rattle.refusal.specs.declared.Checked.the-variants.{Passed, Refused}
 use Rattle.refusal.specs.Verdict.{Check, check, first-refusal}
 use Rattle.refusal.specs.VerdictLaws.{first-holds, first-fails, first-passed}
@@ -39,7 +39,7 @@ module _ (k : ℕ) (M : Matrix) where
         eqb-true (length (M .costs)) (M .count * M .width) (not-false long (b .1)),
       )
 
--- the work words for 255 columns and 127 letters
+-- the most work words are needed for 255 columns and 127 letters
 pub needed-most : (t l : ℕ) → t ≤ 255 → l ≤ 127 → needed t l ≤ 65280
 needed-most t l h g =
     let a : t + 1 ≤ 256 = omega arith in
@@ -51,14 +51,14 @@ module _ (k l : ℕ) (M : Matrix) (rooms : Rooms) where
   memory : List Check
   memory = check (ltb (rooms .path) (M .count) || ltb (rooms .word) (M .count)) OutputMemory ∷ (check (ltb (rooms .work) (needed (M .count) l)) Work ∷ [])
 
-  pub refused-matrix : matrix-fault k M ≡ true → first-refusal (matrix-checks k l M rooms) ≡ Refused MatrixRow
+  pub refused-matrix : matrix-fault k M ≡ true → first-refusal (matrix-checks k l M rooms) ≡ Refused MatrixRefusal
   unfolding memory
-  refused-matrix e = first-holds (matrix-fault k M) MatrixRow (check (not (all passes (M .costs))) Cost ∷ memory) e
+  refused-matrix e = first-holds (matrix-fault k M) MatrixRefusal (check (not (all passes (M .costs))) Cost ∷ memory) e
 
   module _ (sized : matrix-fault k M ≡ false) where
     past-matrix : first-refusal (matrix-checks k l M rooms) ≡ first-refusal (check (not (all passes (M .costs))) Cost ∷ memory)
     unfolding memory
-    past-matrix = first-fails (matrix-fault k M) MatrixRow (check (not (all passes (M .costs))) Cost ∷ memory) sized
+    past-matrix = first-fails (matrix-fault k M) MatrixRefusal (check (not (all passes (M .costs))) Cost ∷ memory) sized
 
     pub refused-cost : all passes (M .costs) ≡ false → first-refusal (matrix-checks k l M rooms) ≡ Refused Cost
     refused-cost e = past-matrix ∙ first-holds (not (all passes (M .costs))) Cost memory (ap not e)
@@ -93,11 +93,11 @@ module _ (k l : ℕ) (M : Matrix) (rooms : Rooms) where
         unfolding first-refusal
         all-passed h = past-memory ∙ first-fails (ltb (rooms .work) (needed (M .count) l)) Work [] (le-ltb (rooms .work) (needed (M .count) l) h)
 
-  -- past the checks
+  -- what passes the checks fits
   pub fits : first-refusal (matrix-checks k l M rooms) ≡ Passed → Fits k l M rooms
   unfolding memory
   fits e =
-      let a = first-passed (matrix-fault k M) MatrixRow (check (not (all passes (M .costs))) Cost ∷ memory) e in
+      let a = first-passed (matrix-fault k M) MatrixRefusal (check (not (all passes (M .costs))) Cost ∷ memory) e in
       let b = first-passed (not (all passes (M .costs))) Cost memory (a .1) in
       let c = first-passed (ltb (rooms .path) (M .count) || ltb (rooms .word) (M .count)) OutputMemory (check (ltb (rooms .work) (needed (M .count) l)) Work ∷ []) (b .1) in
       let d = first-passed (ltb (rooms .work) (needed (M .count) l)) Work [] (c .1) in

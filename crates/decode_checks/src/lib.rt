@@ -1,5 +1,5 @@
-// The checks that Decode and Read make of the matrix and of the memory lent, in their order (document 01, "What is turned away",
-// rows 12 to 15).
+// The checks of the matrix and of the lent memory that Decode and Read make, in their order (document 01, "What is turned away",
+// refusals 12 to 15).
 use refusal::Checked;
 use refusal::Refusal;
 ghost use mathlib.Core.Path.{_≡_};
@@ -24,7 +24,7 @@ fn all_pass(costs: &[u32]) -> bool
     true
 }
 
-// Is the matrix turned away by its size, for an alphabet of k characters? (Row 12; no product overflows.)
+// Is the matrix turned away for its size, with an alphabet of k characters? (Refusal 12; no product overflows.)
 fn has_fault(k: usize, costs: &[u32], width: usize, count: usize) -> bool
     requires { ⌜ k ≤ 95 ⌝ }
     ensures { λ r. ⌜ r ≡ matrix-fault k (matrix (old costs) width count) ⌝ }
@@ -38,7 +38,7 @@ fn has_fault(k: usize, costs: &[u32], width: usize, count: usize) -> bool
     costs.len() != count * width
 }
 
-// Rows 12 to 15, for a form of l letters over k characters.
+// The first of refusals 12 to 15 that applies, for a form of l letters over k characters.
 pub fn check_matrix(
     k: usize,
     l: usize,

@@ -1,4 +1,4 @@
--- What Decode and Read answer past their checks (demand 3), for any set of words, and what a refusal by the checks leaves.
+-- What Decode and Read answer past their checks (demand 3), for any set of words; and what a refusal by the checks gives and leaves.
 use Prim.Native.Nat.{ℕ}
 use mathlib.Core.Path.{_≡_}
 use mathlib.Core.Option.{Option, some, none}
@@ -29,7 +29,7 @@ lent path word work = record { path = path; word = word; work = work }
 abbrev pub rooms : Lent → Rooms
 rooms m = record { path = length (m .path); word = length (m .word); work = length (m .work) }
 
--- What is reported of an outcome, and what stands in path and word memory.
+-- What is reported of an outcome, and what is written to path and word memory.
 
 abbrev pub outcome-report : (form : ℕ) → Matrix → Option (List ℕ) → Report
 outcome-report k M none = turned-away NoReading
@@ -47,8 +47,8 @@ word-of spelt (some p) = spelt (collapse p)
 abbrev pub labels : List ℕ → List ℕ
 labels w = w
 
--- Past the checks: the outcome for this set of words, reported, and written with the word as `spelt` has it; the work words that are not
--- needed are as they were.
+-- Past the checks: the outcome for this set of words is reported, and its path and word are written, the word as `spelt` gives it. The work
+-- words that are not needed are as they were.
 pub record Answers (Word : List ℕ → Type 0) (spelt : List ℕ → List ℕ) (form : ℕ) (M : Matrix) (need : ℕ) (before after : Lent) (answer : Report) : Type 0 where
   pub outcome : Option (List ℕ)
   pub is : Outcome Word M outcome
@@ -58,7 +58,7 @@ pub record Answers (Word : List ℕ → Type 0) (spelt : List ℕ → List ℕ) 
   pub work : drop need (after .work) ≡ drop need (before .work)
   pub size : length (after .work) ≡ length (before .work)
 
--- A refusal by the checks: its number, zeros, and all memory as it was.
+-- A refusal by the checks gives its number and zeros, and leaves all memory as it was. What passes them gets the answer of `Passes`.
 abbrev pub Checks : Checked → (Passes : (before after : Lent) (answer : Report) → Type 0) (before after : Lent) (answer : Report) → Type 0
 Checks (Refused n) Passes before after answer = (answer ≡ turned-away n) × (after ≡ before)
 Checks Passed Passes before after answer = Passes before after answer

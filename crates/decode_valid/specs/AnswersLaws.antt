@@ -1,4 +1,4 @@
--- The two cases of what the checks decide.
+-- Laws: the two cases of `Checks`, an input that is refused and one that passes.
 use mathlib.Core.Path.{_≡_, refl}
 use Rattle.refusal.specs.declared.Refusal.{Refusal}
 use Rattle.refusal.specs.declared.Checked.{Checked}

@@ -1,4 +1,5 @@
 pub mod Answers
 pub mod AnswersLaws
 pub mod Demand
+pub mod DemandLaws
 pub mod Phases

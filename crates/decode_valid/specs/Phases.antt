@@ -1,4 +1,4 @@
--- From the two phases, the table of costs to go and the trace through it, to Decode's answer.
+-- Laws: Decode's answer from its two phases, the table of costs to go and the trace through it.
 use Prim.Native.Nat.{ℕ, _+_, _*_, _≤_, _<_}
 use mathlib.Core.Path.{_≡_, refl, sym, ap, ap₂, _∙_}
 use mathlib.Core.Option.{some, none}
@@ -30,7 +30,7 @@ module _ {f : List ℕ} (valid : Valid f) {M : Matrix} (before : Lent) (fits : F
   sized = record { valid = valid; width = fits .wide; size = fits .full; row = omega arith; room = fits .work }
 
   module _ {work : List ℕ} {v : ℕ} (filled : Filled f M (before .work) work v) where
-    -- nothing to read
+    -- there is nothing to read
     pub nothing :
         TOP ≤ v → length work ≡ length (before .work) → DecodeAnswers f M before (record { path = before .path; word = before .word; work = work }) (turned-away NoReading)
     nothing h l =
@@ -45,7 +45,7 @@ module _ {f : List ℕ} (valid : Valid f) {M : Matrix} (before : Lent) (fits : F
         }
 
     module _ (below : v < TOP) where
-      -- the row of the first column begins the table
+      -- the table begins with the row of the first column
       first : getD work 0 0 < TOP
       first =
           let togo : CostToGo (extended (view f)) M 0 (M .count) 0 (getD work (0 + 0 * states f + 0) 0) = filled .table 0 (M .count) (omega arith) 0 (omega arith) in
@@ -68,7 +68,7 @@ module _ {f : List ℕ} (valid : Valid f) {M : Matrix} (before : Lent) (fits : F
           })
 
       module _ {path : List ℕ} (traced : Traced (view f) M (before .path) path) where
-        -- the path, its word and its price
+        -- there is a path: it, its word and its price are the answer
         pub something :
             {word : List ℕ} {n : ℕ} → length work ≡ length (before .work) → Wrote (collapse (take (M .count) path)) (before .word) word n
             → DecodeAnswers f M before (record { path = path; word = word; work = work }) (read v n 0)

@@ -1,4 +1,4 @@
-// Decode past its checks (document 01, "Extended states and decoding").
+// Decode of an input that passes its checks (document 01, "Extended states and decoding").
 use answers::Decoded;
 use form_words::letters;
 use refusal::Refusal;
@@ -10,7 +10,7 @@ ghost use Rattle.matrix.specs.Matrix.{matrix};
 ghost use Rattle.decode_checks.specs.Passing.{Fits};
 ghost use Rattle.decode_valid.specs.Answers.{lent, rooms, DecodeAnswers};
 
-// Fills the table of costs to go and traces the best path through it; a price of TOP says that there is none.
+// Fills the table of costs to go and traces the best path through it; a price of TOP means that there is none.
 pub fn decode_valid(
     form: &[u32],
     costs: &[u32],

@@ -1,5 +1,5 @@
--- Document 01's lines to try that are marked P, as one checked list over the definitions: each case is data, one test is computed over all
--- of them, and one lemma turns the test into the statement.
+-- Document 01's lines to try that are marked P, as one checked list: each case is data, one test is computed over all of them from the
+-- definitions, and one law turns the test into the statement.
 use Prim.Native.Nat.{ℕ, _+_}
 use Prim.Native.String.{String}
 use mathlib.Core.Path.{_≡_, refl, ap, ap₂, subst}
@@ -47,18 +47,18 @@ use Rattle.decode_checks.specs.Checks.{Rooms, needed, matrix-checks}
 use Rattle.decode_valid.specs.Answers.{outcome-report, word-of}
 use Rattle.read_spelling.specs.Spelling.{characters}
 
--- What Read is given: alphabet, text, costs, columns and words of form memory. It reads a path, with its price and its word, or it refuses
--- with a number. Or alphabet and text, and the form that they compile to.
+-- A case of Read: alphabet, text, costs, number of columns and words of form memory, with the path, its price and its word, or with the
+-- number of the refusal. Or a case of Compile: alphabet and text, with the words of their form.
 pub data Case : Type 0 where
   reads : (alphabet text : String) (costs : List ℕ) (columns form : ℕ) (path : List ℕ) (price : ℕ) (word : String) → Case
   refuses : (alphabet text : String) (costs : List ℕ) (columns form : ℕ) (number : ℕ) → Case
   compiles : (alphabet text : String) (words : List ℕ) → Case
 
--- memory just as long as needed for a form of l letters
+-- memory exactly as long as needed for t columns and a form of l letters
 abbrev exact : (t l : ℕ) → Rooms
 exact t l = record { path = t; word = t; work = needed t l }
 
--- past Compile and the checks, in memory just as long as needed: the word as characters, and what is reported
+-- past Compile and the checks, in memory exactly as long as needed: the word as characters, and what is reported
 pub record Answered (A s : List ℕ) (M : Matrix) (room : ℕ) (o : Option (List ℕ)) (w : List ℕ) (r : Report) : Type 0 where
   pub form : List ℕ
   pub compiles : compile-call A s room ≡ passed form
@@ -206,7 +206,7 @@ cases =
     ∷ compiles "ab" "ab*" (0x10020002 ∷ 0x20000301 ∷ 0x20000202 ∷ 0x30000102 ∷ 0x30000202 ∷ [])
     ∷ []
 
--- every case is as it states
+-- every case holds
 pub cases-stated : Each Stated cases
 unfolding cases holds compiled tried answered passing figures first-refusal same same-list decided exhaustive over better preferred not-after usable collapse merge without-blanks spells followOf endsOf compile-call distinct if-passed unless all any keep numbers flatMap encode labelsOf letterCount then first-of split enclosed provided closed reserved items members inside bracket escaped a-set labelled-set number from-on from-to comma counts sign repetition grouped step go parse whole expressionOf anyOf copies nested repeated opened labels numbered positionAutomaton
 cases-stated = all-each holds Stated holds-stated cases refl

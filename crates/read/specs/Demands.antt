@@ -1,5 +1,5 @@
--- The three demands, as theorems on what Read promises; demands 1 and 3 by the definitions that Decode's are stated by too. Past the checks
--- with memory enough means: no refusal but 16 applies, so Compile gives a form and the checks of the matrix and the memory pass.
+-- The three demands, as theorems on what Read promises; demands 1 and 3 are stated by the same definitions as Decode's. Past the checks
+-- with memory enough means: no refusal except 16 applies, so Compile gives a form and the checks of the matrix and the memory pass.
 -- For the reader: nothing uses it.
 use Prim.Native.Nat.{ℕ, _<_}
 use mathlib.Core.Path.{_≡_, ap, _∙_}
@@ -22,12 +22,13 @@ use Rattle.compile.specs.Call.{compile-call}
 use Rattle.compile.specs.Meaning.{Means, compiled-means}
 use Rattle.decode_checks.specs.Checks.{needed, matrix-checks}
 use Rattle.decode_valid.specs.Answers.{Lent, rooms, Answers}
-use Rattle.decode_valid.specs.Demand.{Plain-rival, No-rival, Best-or-none, Kept, answers-as-demanded, none-exactly, rival-reads}
+use Rattle.decode_valid.specs.Demand.{Plain-rival, No-rival, Best-or-none, Kept}
+use Rattle.decode_valid.specs.DemandLaws.{answers-as-demanded, none-exactly, rival-reads}
 use Rattle.read_spelling.specs.Spelling.{characters}
 use Rattle.read_text.specs.Promise.{Reads}
 
 module _ (A s : List ℕ) (M : Matrix) (form form′ : List ℕ) (before after : Lent) (answer : Report) (reads : Reads A s M form form′ before after answer) where
-  -- Demand 1: what is turned away gets its number, zeros, and memory as the table says.
+  -- Demand 1: what is turned away gets its refusal's number and zeros, and memory is as document 01 says for that refusal.
 
   pub demand-1-text : (n : Refusal) → compile-call A s (length form) ≡ refused n → (answer ≡ turned-away n) × (after ≡ before) × (form′ ≡ form)
   demand-1-text n e =
@@ -73,6 +74,6 @@ module _ (A s : List ℕ) (M : Matrix) (form form′ : List ℕ) (before after :
       pub demand-3-reads : (q : List ℕ) → Plain-rival (WordsOf A s) (length A) M q → answer .number ≡ 0
       demand-3-reads = rival-reads demand-3
 
--- Demand 2, of spread: a shortest path that collapses to the word.
+-- Demand 2, for spread: it is a shortest path that collapses to the word.
 pub demand-2-spread : (w : List ℕ) → Each (λ x. 0 < x) w → Shortest w (spread w)
 demand-2-spread = spread-is-shortest

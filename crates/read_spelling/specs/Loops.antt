@@ -1,4 +1,4 @@
--- Labels put as characters, one at a time.
+-- Labels replaced by characters, one iteration of the loop at a time.
 use Prim.Native.Nat.{ℕ, _+_, _-_, _≤_, _<_}
 use mathlib.Core.Path.{_≡_, ap, _∙_}
 use mathlib.Core.List.{List, _∷_}
@@ -10,7 +10,7 @@ use Rattle.lists.specs.WrittenLaws.{written-behind}
 use Rattle.lists.specs.FillingLoops.{Filling, filling-none, filling-more, filling-all, filling-length}
 use Rattle.read_spelling.specs.Spelling.{characters, Labels, Spelt}
 
--- before place i: the characters of the labels in front of it are there
+-- the loop at place i: the labels before it are replaced by their characters
 abbrev pub Spelling : (A : List ℕ) (n : ℕ) (before after : List ℕ) (i : ℕ) → Type 0
 Spelling A n before after i = Filling (characters A (take n before)) before after (characters A (drop i (take n before))) i
 

@@ -1,4 +1,4 @@
--- The characters of a word's labels, and the labels replaced by them, in place.
+-- The characters of a word's labels, and the promise that they replace the labels, in place.
 use Prim.Native.Nat.{ℕ, _-_, _≤_}
 use mathlib.Core.Path.{_≡_}
 use mathlib.Core.List.{List, map}
@@ -10,7 +10,7 @@ use Rattle.lists.specs.Memory.{written}
 abbrev pub characters : (A w : List ℕ) → List ℕ
 characters A w = map (λ x. getD A (x - 1) 0) w
 
--- the first n elements are labels of the alphabet
+-- the first n elements are labels of the alphabet A
 pub record Labels (A word : List ℕ) (n : ℕ) : Type 0 where
   pub room : n ≤ length word
   pub each : Each (λ x. (1 ≤ x) × (x ≤ length A)) (take n word)

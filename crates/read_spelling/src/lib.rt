@@ -3,7 +3,7 @@ use numbers::wide;
 ghost use Rattle.lists.specs.Memory.{old, new};
 ghost use Rattle.read_spelling.specs.Spelling.{Labels, Spelt};
 
-// Puts the character of each of the first n labels in its place.
+// Replaces each of the first n labels by its character.
 pub fn write_characters(alphabet: &[u8], word: &mut [u8], n: usize)
     requires { ⌜ Labels (now alphabet) (now word) n ⌝ }
     ensures { λ _. ⌜ Spelt (old alphabet) n (old word) (new word) ⌝ }

@@ -1,4 +1,4 @@
--- The checks of a matrix with a compiled form.
+-- What Read answers by a compiled form: a refusal of the checks, or the outcome.
 use Prim.Native.Nat.{ℕ}
 use mathlib.Core.List.{List}
 use lib.ListN.{length}
@@ -10,7 +10,7 @@ use Rattle.decode_checks.specs.Checks.{matrix-checks}
 use Rattle.decode_valid.specs.Answers.{Lent, rooms, Checks}
 use Rattle.read_valid.specs.Accepted.{ReadsAccepted}
 
--- Past Compile, with the form f: rows 12 to 15, or the outcome for the words that the form accepts.
+-- Past Compile, with the form f: refusals 12 to 15, or the outcome for the words that the form accepts.
 abbrev pub ChecksForm : (A f : List ℕ) (M : Matrix) (before after : Lent) (answer : Report) → Type 0
 ChecksForm A f M before after answer =
     Checks (first-refusal (matrix-checks (length A) (lettersOf f) M (rooms before))) (ReadsAccepted A f M) before after answer

@@ -1,4 +1,4 @@
--- What Read promises: demand 3, by the expression's words.
+-- What Read promises (demand 3), stated by the words of the expression.
 use Prim.Native.Nat.{ℕ}
 use mathlib.Core.Path.{_≡_}
 use mathlib.Core.List.{List}
@@ -14,14 +14,14 @@ use Rattle.decode_valid.specs.Answers.{Lent, rooms, Answers, Checks}
 use Rattle.compile.specs.Call.{compile-call}
 use Rattle.read_spelling.specs.Spelling.{characters}
 
--- Past Compile, with the form f: rows 12 to 15, or the outcome for the words of the text, the word written as characters. What 'past the
--- checks with memory enough' means: no refusal but 16 applies.
+-- Past Compile, with the form f: refusals 12 to 15, or the outcome for the words of the text, with the word written as characters. 'Past
+-- the checks with memory enough' means that no refusal except 16 applies.
 abbrev pub ReadsForm : (A s f : List ℕ) (M : Matrix) (before after : Lent) (answer : Report) → Type 0
 ReadsForm A s f M before after answer =
     Checks (first-refusal (matrix-checks (length A) (lettersOf f) M (rooms before)))
     (Answers (WordsOf A s) (characters A) (length f) M (needed (M .count) (lettersOf f))) before after answer
 
--- By what Compile makes of the alphabet and the text: its refusal with all memory as it was, or the reading.
+-- By what Compile gives for the alphabet and the text: its refusal, with all memory as it was, or the answer by its form.
 abbrev pub ReadsBy : Verdict (List ℕ) → (A s : List ℕ) (M : Matrix) (before after : Lent) (answer : Report) → Type 0
 ReadsBy (refused n) A s M before after answer = (answer ≡ turned-away n) × (after ≡ before)
 ReadsBy (passed f) A s M before after answer = ReadsForm A s f M before after answer

@@ -1,4 +1,4 @@
--- What a form reads past the checks, and from it to what Read promises: the form's words are those of the text.
+-- Laws: from the answer by the words of a compiled form to what Read promises by the words of the text.
 use Prim.Native.Nat.{ℕ, _≤_}
 use mathlib.Core.Path.{_≡_, refl, sym, ap, _∙_}
 use mathlib.Core.List.{List}
@@ -41,14 +41,14 @@ read-words A s f M before after answer m a =
       size = a .size;
     }
 
--- Read by the form that Compile wrote.
+-- the same, where the checks may refuse
 checked-words :
     (A s f : List ℕ) (M : Matrix) (c : Checked) (before after : Lent) (answer : Report) → Means A s f → Checks c (ReadsAccepted A f M) before after answer
     → Checks c (Answers (WordsOf A s) (characters A) (length f) M (needed (M .count) (lettersOf f))) before after answer
 checked-words A s f M (Refused n) before after answer m h = h
 checked-words A s f M Passed before after answer m h = read-words A s f M before after answer m h
 
--- the form that was compiled, by what Compile reports
+-- the form that Compile wrote, from what it reports
 pub record Compiled (A s form after : List ℕ) (n : ℕ) : Type 0 where
   pub words : List ℕ
   pub call : compile-call A s (length form) ≡ passed words

@@ -1,5 +1,4 @@
-// From an alphabet, the text of an expression and a matrix by its parts to what is read: Compile, the checks, and what its form reads
-// (demand 3).
+// The work of Read, for a matrix by its parts: Compile, the checks, and the best path by the compiled form (demand 3).
 use answers::Reading;
 use decode_checks::check_matrix;
 use form_words::letters;
@@ -17,7 +16,7 @@ ghost use Rattle.read_text.specs.Promise.{Reads};
 ghost use Rattle.decode_valid.specs.Answers.{lent};
 ghost use Rattle.read_text.specs.ChecksForm.{ChecksForm};
 
-// Rows 12 to 15, and then what a compiled form reads.
+// Read by a compiled form: the first of refusals 12 to 15 that applies, or the answer past them.
 fn read_form(
     alphabet: &[u8],
     form: &[u32],
@@ -49,7 +48,7 @@ fn read_form(
     }
 }
 
-// The work of Read: Compile's refusal, or what the form that it wrote reads.
+// The work of Read: Compile's refusal, or the answer by the form that it wrote.
 pub fn read_parts(
     alphabet: &[u8],
     text: &[u8],

@@ -1,4 +1,4 @@
--- What a form reads, as characters.
+-- What Read answers past its checks, stated by the words that the form accepts.
 use Prim.Native.Nat.{ℕ}
 use mathlib.Core.List.{List}
 use lib.ListN.{length}
@@ -10,6 +10,6 @@ use Rattle.decode_checks.specs.Checks.{needed}
 use Rattle.decode_valid.specs.Answers.{Lent, Answers}
 use Rattle.read_spelling.specs.Spelling.{characters}
 
--- what Read answers past its checks, by the words that the form accepts, the word written as characters
+-- the outcome for the words that the form accepts, with the word written as characters
 abbrev pub ReadsAccepted : (A f : List ℕ) (M : Matrix) (before after : Lent) (answer : Report) → Type 0
 ReadsAccepted A f M = Answers (Accepts (view f)) (characters A) (length f) M (needed (M .count) (lettersOf f))

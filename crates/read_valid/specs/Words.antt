@@ -1,4 +1,4 @@
--- From Decode's answer to Read's: the word as characters.
+-- Laws: from Decode's answer to Read's, which has the word as characters.
 use Prim.Native.Nat.{ℕ, _+_, _-_, _≤_, _<_}
 use mathlib.Core.Path.{_≡_, ap, ap₂, _∙_}
 use mathlib.Core.Option.{Option, some, none}
@@ -30,7 +30,7 @@ each-both : (P Q R : ℕ → Type 0) → ((x : ℕ) → P x → Q x → R x) →
 each-both P Q R f [] h g = tt
 each-both P Q R f (x ∷ w) h g = (f x (h .0) (g .0), each-both P Q R f w (h .1) (g .1))
 
--- the best path that was read, by what is reported of it
+-- the best path, from what Decode reports of it
 pub record ReadPath (f : List ℕ) (M : Matrix) (before after : Lent) (p n : ℕ) : Type 0 where
   pub best : List ℕ
   pub is : Best (Accepts (view f)) M best
@@ -70,7 +70,7 @@ module _ (f : List ℕ) (M : Matrix) (before after : Lent) where
         by (some b) h e u v = absurd (let q = ap (λ (r : Report). r .number) e in let m = number-between n .0 in omega arith)
 
     module _ (p n : ℕ) (a : DecodeAnswers f M before after (read p n 0)) where
-      -- its word's labels are those of the alphabet
+      -- the labels of its word are labels of the alphabet
       pub read-labels : M .width ≡ length A + 1 → M .count ≤ length (before .word) → Labels A (after .word) n
       read-labels wide room =
           let r = read-path p n a in
@@ -86,7 +86,7 @@ module _ (f : List ℕ) (M : Matrix) (before after : Lent) where
                 (collapse-letters (r .best)) (collapse-each (λ x. x < M .width) (r .best) (path-each M 0 (r .best) (r .is .qualifies .path .labels))));
           }
 
-      -- and then the characters
+      -- with the word written as characters, this is Read's answer
       pub read-characters :
           (word : List ℕ) → Spelt A n (after .word) word
           → ReadsAccepted A f M before (record { path = after .path; word = word; work = after .work }) (read p n (length f))

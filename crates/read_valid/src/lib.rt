@@ -1,4 +1,4 @@
-// Read past its checks (demand 3).
+// Read of an input that passes its checks (demand 3).
 use answers::Decoded;
 use answers::Reading;
 use decode_valid::decode_valid;
@@ -14,7 +14,7 @@ ghost use Rattle.decode_checks.specs.Passing.{Fits};
 ghost use Rattle.decode_valid.specs.Answers.{lent, rooms};
 ghost use Rattle.read_valid.specs.Accepted.{ReadsAccepted};
 
-// What the form reads, as Decode does, with the word as characters.
+// Decodes the matrix by the form, and writes the word as characters.
 pub fn read_valid(
     alphabet: &[u8],
     form: &[u32],

@@ -16,7 +16,7 @@ use Rattle.trellis.specs.Extended.{OnLetter, InBlanks, Step, stay, pass,
 use Rattle.trellis.specs.ExtendedLaws.{AtLetter, may-end}
 
 module _ (A : Automaton) where
-  -- what a word says of the letters that spell it, from the left
+  -- the letters that spell a word, from the left
   spells-none : (i : ℕ) → Spells A i [] → A .ends i ≡ true
   spells-none i h = by (h .0) (h .1) (h .2)
     where
@@ -34,8 +34,8 @@ module _ (A : Automaton) where
   spells-more : (i j x : ℕ) (w : List ℕ) → A .follow i j ≡ true → x ≡ A .label j → Spells A j w → Spells A i (x ∷ w)
   spells-more i j x w a e h = let m = h .2 in (j ∷ h .0, (a, h .1), (cc))
 
--- the path is a way from a state exactly if what it adds to the word is spelt behind the state's letter; on the letter it adds what comes
--- behind that label, in blanks what comes behind a blank
+-- The path is a way from a state exactly if what it adds to the word is spelt after the state's letter: what it adds after that letter's
+-- label if the state is on the letter, and after a blank if it is in blanks.
 record Agrees (A : Automaton) (p : List ℕ) : Type 0 where
   pub on-letter : (i s : ℕ) → OnLetter i s → Way (extended A) s p ↔ Spells A i (after (A .label i) p)
   pub in-blanks : (i s : ℕ) → InBlanks i s → Way (extended A) s p ↔ Spells A i (after 0 p)
@@ -92,7 +92,7 @@ module _ {k : ℕ} {A : Automaton} (proper : Proper k A) where
             let l = lettered i′ j f in
             to-letter i j 0 s′ (rw q at f) (λ r. omega arith) e o′ w
 
-    -- and the other way: the step that label x takes
+    -- the converse, from what is spelt to a step by label x
     by-arc :
         (i s : ℕ) → ((j s′ : ℕ) → A .follow i j ≡ true → x ≡ A .label j → OnLetter j s′ → Step A s x s′) → Spells A i (x ∷ after x p)
         → Way (extended A) s (x ∷ p)

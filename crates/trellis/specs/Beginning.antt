@@ -1,5 +1,5 @@
--- The cheapest beginning to a state: the least price of all that leads to it from the start over the first columns, TOP where none is
--- below. The first row, each row from the one before, and the cost to go that the last row gives.
+-- The cheapest beginning to a state: the least price of the labels that lead to it from the start over the first columns, or TOP where
+-- none cost less. The first row, each row from the row before, and the cost to go that the last row gives.
 -- For the reader: nothing uses it.
 use Prim.Native.Nat.{ℕ, suc, _+_}
 use mathlib.Core.Path.{_≡_, refl, sym, ap, _∙_, subst}
@@ -38,11 +38,11 @@ module _ {S : Type 0} (G : Graph S) (M : Matrix) (start : S) where
       none [] e l = f l
       none (x ∷ p) e l = omega arith
 
-  -- what the steps to state u offer in column t, by the cheapest beginnings before it
+  -- the prices that the steps to state u offer in column t, by the cheapest beginnings before it
   abbrev pub Inward : ℕ → (S → ℕ) → S → ℕ → Type 0
   Inward t row u n = (s : S) × (x : ℕ) × G .Step s x u × (n ≡ plus (cost M t x) (row s))
 
-  -- the least of it is the cheapest beginning
+  -- the least of these is the cheapest beginning
   pub beginning-step :
       (t : ℕ) (row : S → ℕ) (u : S) {v : ℕ} → ((s : S) (x : ℕ) → G .Step s x u → CheapestBeginning t s (row s)) → Least TOP (Inward t row u) v
       → CheapestBeginning (t + 1) u v
@@ -76,7 +76,7 @@ module _ {S : Type 0} (G : Graph S) (M : Matrix) (start : S) where
             paid = let h = o .3 in omega arith;
           }
 
-      -- the last label apart
+      -- the last label split off
       snoc : (p : List ℕ) → length p ≡ t + 1 → (q : List ℕ) × (x : ℕ) × (length q ≡ t) × (p ≡ q ++ (x ∷ []))
       snoc p e = (
         take t p,
@@ -97,7 +97,7 @@ module _ {S : Type 0} (G : Graph S) (M : Matrix) (start : S) where
               let r : price M (b .path) ≡ price M (q ++ (x ∷ [])) = ap (price M) (g .3) in
               ((l .0, x, subst (λ s. G .Step (l .0) x s) (l .2 .2) (l .2 .1)), price M q, record { path = q; long = g .2; leads = l .1; paid = refl }, omega arith)
 
-  -- the least of the last row, where a way may end
+  -- the least of the last row, over the states where a way may end, is the cost to go from the start
   pub beginning-ends :
       (t : ℕ) (row : S → ℕ) {v : ℕ} → ((s : S) → G .Ends s → CheapestBeginning t s (row s)) → Least TOP (λ n. (s : S) × G .Ends s × (n ≡ row s)) v
       → CostToGo G M 0 t start v

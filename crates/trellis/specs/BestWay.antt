@@ -1,4 +1,4 @@
--- The best way from a set of states.
+-- The best way from a set of states: the cheapest, and the first by labels among equals.
 use Prim.Native.Nat.{ℕ}
 use mathlib.Core.Path.{_≡_}
 use mathlib.Core.List.{List}
@@ -16,6 +16,6 @@ pub record WayFrom {S : Type 0} (G : Graph S) (n : ℕ) (In : S → Type 0) (p :
   pub way : Way G from p
 
 module _ {S : Type 0} (G : Graph S) (M : Matrix) where
-  -- the best of these, the first label in column t
+  -- the best of these ways, its first label in column t
   abbrev pub BestFrom : (t n : ℕ) → (S → Type 0) → List ℕ → Type 0
   BestFrom t n In = BestOf (WayFrom G n In) (priceFrom M t) NotAfter

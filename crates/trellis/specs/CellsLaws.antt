@@ -1,4 +1,4 @@
--- A cell of the table, from the cells of the next row.
+-- Laws: each cell of the table of costs to go, from the cells of the next row.
 use Prim.Native.Nat.{ℕ, _+_, _*_, _-_, _≤_, min}
 use mathlib.Core.Path.{_≡_, refl, sym, ap, ap₂, _∙_}
 use mathlib.Core.Bool.{Bool, true, false}
@@ -17,7 +17,7 @@ use Rattle.trellis.specs.Extended.{OnLetter, Step, stay, pass, arc, rest
 use Rattle.trellis.specs.ExtendedLaws.{AtLetter, may-end, step-within}
 use Rattle.trellis.specs.Cells.{ending, ByArc}
 
--- the last row
+-- a cell of the last row
 pub last-cell : (A : Automaton) (M : Matrix) (t i s : ℕ) → AtLetter i s → CostToGo (extended A) M t 0 s (ending (A .ends i))
 last-cell A M t i s o = by (A .ends i) refl
   where
@@ -31,7 +31,7 @@ module _ {k : ℕ} {A : Automaton} (proper : Proper k A) (M : Matrix) (t n : ℕ
   same : (v x s y u : ℕ) → v ≡ plus (cost M t x) (row s) → x ≡ y → s ≡ u → v ≡ plus (cost M t y) (row u)
   same v x s y u h e d = h ∙ ap₂ (λ y u. plus (cost M t y) (row u)) e d
 
-  -- to letter j
+  -- the price of a step to letter j is its candidate
   by-candidate : (i j x s v : ℕ) → A .follow i j ≡ true → x ≡ A .label j → OnLetter j s → v ≡ plus (cost M t x) (row s) → v ≡ candidate j
   by-candidate i j x s v f e o h =
       let b = proper .target i j f in
@@ -43,7 +43,7 @@ module _ {k : ℕ} {A : Automaton} (proper : Proper k A) (M : Matrix) (t n : ℕ
   from-row : (s : ℕ) {v : ℕ} → s ≤ 2 * A .letters → Least TOP (Onward (extended A) M t row s) v → CostToGo (extended A) M t (n + 1) s v
   from-row s h l = togo-step (extended A) M t n row s (λ x s′ st. next s′ (step-within proper s x s′ st h)) l
 
-  -- in the blanks behind letter i, or in state 0
+  -- the cell in the blanks after letter i, or of state 0
   pub blanks-cell :
       (i m : ℕ) → i ≤ A .letters → Least TOP (ByArc A candidate i 0) m
       → CostToGo (extended A) M t (n + 1) (2 * i) (min (plus (cost M t 0) (row (2 * i))) m)
@@ -65,7 +65,7 @@ module _ {k : ℕ} {A : Automaton} (proper : Proper k A) (M : Matrix) (t n : ℕ
           let b = on-target i′ j f .2 in
           inr (j, rw q at f, λ z. omega arith, by-candidate i′ j x s v f e o′ h)
 
-  -- on letter i
+  -- the cell on letter i
   pub letter-cell :
       (i m : ℕ) → 1 ≤ i → i ≤ A .letters → Least TOP (ByArc A candidate i (A .label i)) m
       → CostToGo (extended A) M t (n + 1) (2 * i - 1) (min (min (plus (cost M t (A .label i)) (row (2 * i - 1))) (plus (cost M t 0) (row (2 * i)))) m)

@@ -1,5 +1,4 @@
--- The cost to go from a state: the least price of all ways from it over the columns that are left, TOP where none is below. The last
--- row, and each row from the next.
+-- The cost to go from a state: the least price of all ways from it over the columns that are left, or TOP where none costs less.
 use Prim.Native.Nat.{ℕ}
 use mathlib.Core.Path.{_≡_}
 use mathlib.Core.List.{List}
@@ -10,7 +9,7 @@ use Rattle.trellis.specs.Graph.{Graph, Way}
 use Rattle.trellis.specs.Impossible.{TOP}
 
 module _ {S : Type 0} (G : Graph S) (M : Matrix) where
-  -- v is the price of a way of n labels from state s, the first in column t
+  -- v is the price of a way of n labels from state s, its first label in column t
   pub record WayOf (t n : ℕ) (s : S) (v : ℕ) : Type 0 where
     pub path : List ℕ
     pub long : length path ≡ n

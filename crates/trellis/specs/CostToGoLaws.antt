@@ -1,4 +1,4 @@
--- The last row of costs to go, and each row from the next.
+-- Laws: the last row of costs to go, and each row from the row of the next column.
 use Prim.Native.Nat.{ℕ, _+_}
 use mathlib.Core.Path.{_≡_, refl, sym}
 use mathlib.Core.List.{List, [], _∷_}
@@ -29,11 +29,11 @@ module _ {S : Type 0} (G : Graph S) (M : Matrix) where
       none [] e w = f (way-none G s w)
       none (x ∷ p) e w = omega arith
 
-  -- what the steps from state s offer in column t, by the next row of costs to go
+  -- the prices that the steps from state s offer in column t, by the next row of costs to go
   abbrev pub Onward : ℕ → (S → ℕ) → S → ℕ → Type 0
   Onward t row s n = (x : ℕ) × (s′ : S) × G .Step s x s′ × (n ≡ plus (cost M t x) (row s′))
 
-  -- the least of it is the cost to go
+  -- the least of these is the cost to go
   pub togo-step :
       (t n : ℕ) (row : S → ℕ) (s : S) {v : ℕ} → ((x : ℕ) (s′ : S) → G .Step s x s′ → CostToGo G M (t + 1) n s′ (row s′)) → Least TOP (Onward t row s) v
       → CostToGo G M t (n + 1) s v

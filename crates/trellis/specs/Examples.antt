@@ -1,4 +1,4 @@
--- Extended states, and costs that stop at TOP, on small cases.
+-- Extended states, and sums of costs that stop at TOP, on small cases.
 use Prim.Native.Nat.{_+_}
 use mathlib.Core.Path.{refl, _≡_}
 use mathlib.Core.Bool.{_&&_}

@@ -1,4 +1,4 @@
--- Steps of the extended states: their labels, and that they stay inside.
+-- Laws of the extended states: where a path may end, and that steps lead to states of the automaton by its labels.
 use Prim.Native.Nat.{ℕ, _+_, _*_, _/_, _≤_, _<_}
 use mathlib.Core.Path.{_≡_}
 use mathlib.Core.Bool.{true}
@@ -12,7 +12,7 @@ use Rattle.automaton.specs.Proper.{Proper}
 use Rattle.trellis.specs.Graph.{Leads, Way}
 use Rattle.trellis.specs.Extended.{OnLetter, InBlanks, Step, stay, pass, arc, rest, leave, MayEnd, on-last, after-last, extended}
 
--- letter i is the one that the state is on or behind; 0 if there is none yet
+-- the state is on letter i or in the blanks after it; i is 0 if there is no letter yet
 abbrev pub AtLetter : (i s : ℕ) → Type 0
 AtLetter i s = OnLetter i s ⊎ InBlanks i s
 
@@ -37,7 +37,7 @@ may-end A i s o = (ends o, may o)
     may (inr o) h = after-last i o h
 
 module _ {k : ℕ} {A : Automaton} (proper : Proper k A) where
-  -- States stay among 0 to 2L, and labels among 0 to k.
+  -- Steps from states 0 to 2L lead to states 0 to 2L, by labels 0 to k.
 
   pub step-within : (s x s′ : ℕ) → Step A s x s′ → s ≤ 2 * A .letters → s′ ≤ 2 * A .letters
   step-within s x s′ (stay i o e o′) h = omega arith

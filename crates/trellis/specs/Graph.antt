@@ -1,4 +1,4 @@
--- A graph: steps from state to state by a label, and the states where a way may end. What a list of labels leads to.
+-- A graph has steps from state to state by a label, and states where a way may end. A way is a list of labels that leads to such a state.
 use Prim.Native.Nat.{ℕ}
 use mathlib.Core.Path.{_≡_}
 use mathlib.Core.List.{List, [], _∷_}
@@ -8,7 +8,7 @@ pub record Graph (S : Type 0) : Type 1 where
   pub Ends : S → Type 0
 
 module _ {S : Type 0} (G : Graph S) where
-  -- the labels, one step each, lead from one state to the other
+  -- the labels lead from one state to the other, by one step each
   abbrev pub Leads : S → List ℕ → S → Type 0
   Leads s [] u = s ≡ u
   Leads s (x ∷ p) u = (s′ : S) × G .Step s x s′ × Leads s′ p u

@@ -1,4 +1,4 @@
--- Ways joined, split, and of no label.
+-- Laws of graphs: ways joined and split, and ways of no label.
 use Prim.Native.Nat.{ℕ}
 use mathlib.Core.Path.{refl, sym, subst}
 use mathlib.Core.List.{List, [], _∷_, _++_}
@@ -20,7 +20,7 @@ module _ {S : Type 0} (G : Graph S) where
   pub way-split : (s : S) (x : ℕ) (p : List ℕ) → Way G s (x ∷ p) → (s′ : S) × G .Step s x s′ × Way G s′ p
   way-split s x p w = let l = w .leads in (l .0, l .1, record { end = w .end; leads = l .2; may = w .may })
 
-  -- a way of no label
+  -- a way of no label ends where it begins
   pub way-here : (s : S) → G .Ends s → Way G s []
   way-here s e = record { end = s; leads = refl; may = e }
 

@@ -1,4 +1,4 @@
--- A path of usable costs stays below TOP.
+-- Laws: a path of at most 255 labels has usable costs exactly if its price is below TOP.
 use Prim.Native.Nat.{ℕ, _+_, _*_, _≤_, _<_}
 use mathlib.Core.List.{List, [], _∷_}
 use native.Mathlib.Omega.{arith}
@@ -9,7 +9,7 @@ use Rattle.matrix.specs.Matrix.{Matrix, cost, priceFrom, Usable, PathFrom, Cost
 use Rattle.trellis.specs.Impossible.{TOP}
 
 module _ (M : Matrix) (pass : CostsPass M) where
-  -- Of a cost of the matrix: it is usable if it is below TOP, and then it is small.
+  -- A cost of the matrix below TOP is usable, and a usable cost is at most 1,000,000.
 
   cost-usable : (t x : ℕ) → cost M t x < TOP → Usable (cost M t x)
   cost-usable t x h = each-anywhere Usable 0 (M .costs) (t * M .width + x) (omega arith) pass
@@ -17,7 +17,7 @@ module _ (M : Matrix) (pass : CostsPass M) where
   cost-small : (t x : ℕ) → Usable (cost M t x) → cost M t x ≤ 1000000
   cost-small t x h = h
 
-  -- A path is one of usable costs exactly if its price is below TOP.
+  -- The price of a path of usable costs is below TOP, and labels whose price is below TOP have usable costs.
 
   path-price : (t : ℕ) (p : List ℕ) → PathFrom M t p → priceFrom M t p ≤ length p * 1000000
   path-price t [] h = omega arith

@@ -1,4 +1,4 @@
--- What there is to read by an automaton, from the cost to go of its state 0: nothing where that is TOP, and else the best way.
+-- The outcome for the words of an automaton, from the cost to go of state 0: nothing to read where that is TOP, else the best way.
 use Prim.Native.Nat.{ℕ, _+_, _≤_, _<_}
 use mathlib.Core.Path.{_≡_, refl, sym, subst}
 use mathlib.Core.Option.{some, none}
@@ -47,14 +47,14 @@ module _ {k : ℕ} {A : Automaton} (proper : Proper k A) (M : Matrix) (wide : M 
         let e = w .paid in
         (w .path, way-rival (w .path) (w .long) (w .way) (omega arith), w .paid)
 
-    -- nothing to read
+    -- there is nothing to read exactly if the cost to go is TOP
     pub outcome-none : (v ≡ TOP) ↔ Outcome (Accepts A) M none
     outcome-none = (
       λ e p r. let l = cheaper p r in let b = rival-below p r in omega arith,
       λ f. ⊎-elim (λ b. let m = met b in absurd (f (m .0) (m .1))) (λ h. let w = togo .within in omega arith) (lt-or-le v TOP),
     )
 
-    -- the best has the price v
+    -- the best path has the price v
     pub outcome-price : (p : List ℕ) → Best (Accepts A) M p → price M p ≡ v
     outcome-price p b =
         let low = cheaper p (b .qualifies) in

@@ -1,12 +1,11 @@
--- One column of the trace through extended states: the states that a step from the set leads to, those of them that keep to the price,
--- and the lowest label among these.
+-- The states that a step from a set of extended states leads to, and the label by which a state is entered.
 use Prim.Native.Nat.{ℕ, _+_, _/_, _%_}
 use mathlib.Core.Bool.{cond}
 use lib.Dec.{eqb}
 use Rattle.automaton.specs.Automaton.{Automaton}
 use Rattle.trellis.specs.Extended.{Step}
 
--- the label of each step into a state: the blank, or that of its letter
+-- the label of every step into a state: the blank, or that of its letter
 unfoldable pub entering : Automaton → ℕ → ℕ
 entering A s = cond (eqb (s % 2) 0) 0 (A .label ((s + 1) / 2))
 

@@ -1,4 +1,5 @@
--- Which states a step enters, and which of them lie on a cheapest path.
+-- One column of the trace through extended states: the reached states that lie on a cheapest path, the lowest label among them, and that
+-- these are what the trace chooses.
 use Prim.Native.Nat.{ℕ, _+_, _*_, _%_, _≤_}
 use mathlib.Core.Path.{_≡_, sym, ap, _∙_, subst}
 use native.Mathlib.Omega.{arith}
@@ -28,11 +29,11 @@ step-entering A s x u (arc i j o f n e o′) = e ∙ sym (entering-letter A j u 
 step-entering A s x u (rest i o e o′) = e ∙ sym (entering-blanks A i u o′)
 step-entering A s x u (leave i j o f e o′) = e ∙ sym (entering-letter A j u o′)
 
--- reached, it keeps to the price v by the next row of costs to go
+-- the state is reached, and it lies on a cheapest path: the cost of entering it and its cost to go, by the next row, add up to v
 abbrev pub Kept : Automaton → Matrix → (t : ℕ) → (row : ℕ → ℕ) → (ℕ → Type 0) → (v u : ℕ) → Type 0
 Kept A M t row In v u = Reached A In u × (plus (cost M t (entering A u)) (row u) ≡ v)
 
--- x is the lowest label of a state that is kept, and the second set has the kept states of that label
+-- x is the lowest label of the kept states, and the second set has the kept states of that label
 pub record Picked (A : Automaton) (M : Matrix) (t : ℕ) (row : ℕ → ℕ) (In : ℕ → Type 0) (v x : ℕ) (In′ : ℕ → Type 0) : Type 0 where
   pub lowest : (u : ℕ) → u ≤ 2 * A .letters → Kept A M t row In v u → x ≤ entering A u
   pub one : ℕ

@@ -1,4 +1,4 @@
--- A table of costs to go in a list of numbers: one row for each column and one for the end, a row having the states 0 to 2L.
+-- A table of costs to go in a list of numbers: one row for each column and one for the end, each with the states 0 to 2L.
 use Prim.Native.Nat.{ℕ, _+_, _*_, _≤_}
 use mathlib.Core.Path.{_≡_}
 use mathlib.Core.List.{List}

@@ -1,5 +1,5 @@
--- The trace: through all states that share the cost to go, column by column, the lowest label that keeps to the price. What it writes is
--- the best way: the cheapest, and the first by labels among equals.
+-- The trace goes through all states that share the cost to go, column by column, by the lowest label that lies on a cheapest way. What it
+-- writes is the best way: the cheapest, and the first by labels among equals.
 use Prim.Native.Nat.{ℕ, _+_, _-_, _≤_, _<_}
 use mathlib.Core.Path.{_≡_, refl, sym, ap, subst}
 use mathlib.Core.List.{List, [], _∷_, _++_, append-assoc, append-nil}
@@ -17,14 +17,14 @@ use Rattle.trellis.specs.CostToGo.{WayOf, CostToGo}
 use Rattle.trellis.specs.BestWay.{WayFrom, BestFrom}
 
 module _ {S : Type 0} (G : Graph S) (M : Matrix) where
-  -- the states of the set, at least one, share a cost to go below TOP
+  -- the set has at least one state, and its states share a cost to go, v, below TOP
   pub record Shared (t n : ℕ) (In : S → Type 0) (v : ℕ) : Type 0 where
     pub one : S
     pub member : In one
     pub all : (s : S) → In s → CostToGo G M t n s v
     pub below : v < TOP
 
-  -- a step from the set to state s by label x in column t, that keeps to the price v by the next row
+  -- a step from the set to state s by label x in column t is tight if its cost and the cost to go from s, by the next row, add up to v
   pub record Tight (t : ℕ) (row : S → ℕ) (In : S → Type 0) (v x : ℕ) (s : S) : Type 0 where
     pub from : S
     pub member : In from
@@ -39,14 +39,14 @@ module _ {S : Type 0} (G : Graph S) (M : Matrix) where
     pub hit : (s : S) → In′ s → Tight t row In v x s
     pub all : (s : S) → Tight t row In v x s → In′ s
 
-  -- a way of the price that they share, and none from the set costs less
+  -- some way from the set has the price that its states share, and none costs less
   shared-way : {t n v : ℕ} {In : S → Type 0} (sh : Shared t n In v) → WayOf G M t n (sh .one) v
   shared-way sh = sh .all (sh .one) (sh .member) .met (sh .below)
 
   shared-least : {t n v : ℕ} {In : S → Type 0} → Shared t n In v → (p : List ℕ) → WayFrom G n In p → v ≤ priceFrom M t p
   shared-least {t} sh p w = sh .all (w .from) (w .member) .least (priceFrom M t p) (record { path = p; long = w .long; way = w .way; paid = refl })
 
-  -- so the best costs what they share
+  -- so the best way has the price that they share
   shared-price : {t n v : ℕ} {In : S → Type 0} (p : List ℕ) → Shared t n In v → BestFrom G M t n In p → priceFrom M t p ≡ v
   shared-price p sh b =
       let w = shared-way sh in
@@ -65,8 +65,8 @@ module _ {S : Type 0} (G : Graph S) (M : Matrix) where
       by [] e w = record { long = refl; from = sh .one; member = sh .member; way = w }
       by (x ∷ p) e w = absurd (omega arith)
 
-  -- In a trace of n labels from the start: `done` is written for the columns before t, and the best of the l labels that are left, behind
-  -- it, is the best of all.
+  -- In a trace of n labels from the start, `done` has the labels of the columns before t. Followed by the best way of the l labels that are
+  -- left, it is the best way of all.
   pub record Tracing (start : S) (n t l : ℕ) (In : S → Type 0) (v : ℕ) (done : List ℕ) : Type 0 where
     pub shared : Shared t l In v
     pub best : (p : List ℕ) → BestFrom G M t l In p → BestFrom G M 0 n (λ s. s ≡ start) (done ++ p)
@@ -84,7 +84,7 @@ module _ {S : Type 0} (G : Graph S) (M : Matrix) where
   pub tracing-all : {start : S} {n t v : ℕ} {In : S → Type 0} {done : List ℕ} → Tracing start n t 0 In v done → BestFrom G M 0 n (λ s. s ≡ start) done
   tracing-all {done = done} h = rw (append-nil done) at (h .best [] (shared-end (h .shared)))
 
-  -- One column: the set, what it shares, and the next row of costs to go.
+  -- One column: the set, the cost to go that its states share, and the next row of costs to go.
   module _ {t v : ℕ} {In : S → Type 0} (n : ℕ) (row : S → ℕ) (sh : Shared t (n + 1) In v)
       (next : (s : S) → In s → (x : ℕ) (s′ : S) → G .Step s x s′ → CostToGo G M (t + 1) n s′ (row s′)) where
     -- the first step of a cheapest way is tight
@@ -101,7 +101,7 @@ module _ {S : Type 0} (G : Graph S) (M : Matrix) where
         let high = shared-least sh (y ∷ r .path) (record { long = omega arith; from = s; member = i; way = way-step G st (r .way) }) in
         record { from = s; member = i; step = st; keeps = omega arith }
 
-    -- so some step is
+    -- so some step is tight
     pub some-tight : (x : ℕ) × (s : S) × Tight t row In v x s
     some-tight = let w = shared-way sh in by (w .path) (w .long) (w .way) (w .paid)
       where
@@ -112,7 +112,7 @@ module _ {S : Type 0} (G : Graph S) (M : Matrix) where
             (y, g .0, way-tight y q (omega arith) (sh .one) (sh .member) (g .0) (g .1) (g .2) e)
 
     module _ {x : ℕ} {In′ : S → Type 0} (ch : Chosen t row In v x In′) where
-      -- what is left to pay
+      -- the cost of a tight step and what is left to pay after it
       tight-left : (s : S) → Tight t row In v x s → cost M t x + row s ≡ v
       tight-left s h = let b = sh .below in let e = h .keeps in omega arith
 
@@ -132,7 +132,7 @@ module _ {S : Type 0} (G : Graph S) (M : Matrix) where
             below = let b = sh .below in omega arith;
           }
 
-      -- the best of the rest, behind x, is the best
+      -- x followed by the best way for the rest is the best way
       pub best-next : (p : List ℕ) → BestFrom G M (t + 1) n In′ p → BestFrom G M t (n + 1) In (x ∷ p)
       best-next p b =
           record {

@@ -1,1 +1,1 @@
-// Ways through a graph of states, costs to go and cheapest beginnings, and the extended states of an automaton: see specs/.
+// Ways through a graph of states, their costs to go, and the extended states of an automaton. There is no code: see specs/.

@@ -1,4 +1,4 @@
--- One column of the trace, a state at a time.
+-- One column of the trace, one iteration of a loop over states at a time.
 use Prim.Native.Nat.{ℕ, _-_, _≤_, _<_}
 use mathlib.Core.Path.{_≡_, refl, sym, ap, _∙_, subst}
 use mathlib.Core.Bool.{Bool, true, false}
@@ -42,7 +42,7 @@ module _ (A : Automaton) (column row : List ℕ) (v : ℕ) (near : List Bool) (u
     offers-label h i l d =
         least-same (Offers A column row v near u) (λ n z. (i, (let e = at in omega arith), z ∙ is)) (λ n o. o .2 ∙ sym is) (least-one x h)
 
-  -- the states up to the last
+  -- the state, marked or not
   module _ (set : List Bool) (x r : ℕ) (label : x < NONE) (least : Least NONE (Offers A column row v near u) r) where
     pub pick-marked : u < length set → r ≡ x → Marks (Picks A column row v near x u) set (put set u true)
     pick-marked l e =
@@ -61,7 +61,7 @@ module _ (A : Automaton) (column row : List ℕ) (v : ℕ) (near : List Bool) (u
         let m : r ≡ entering A u = least .met (omega arith) .2 in
         d (m ∙ sym (o .2)))
 
--- What all states offer, up to the last.
+-- What all states offer, at the end of the loop.
 
 module _ (A : Automaton) (column row : List ℕ) (v : ℕ) (near : List Bool) (n : ℕ) (within : (u : ℕ) → Has near u → u < n) where
   pub offered-all : {x : ℕ} → Least NONE (Among 0 n (Offers A column row v near)) x → Least NONE (Offered A column row v near) x
@@ -77,7 +77,7 @@ module _ (A : Automaton) (column row : List ℕ) (v : ℕ) (near : List Bool) (n
       back : (k : ℕ) → OfLabel A column row v near x k → Iterations (Picks A column row v near x) 0 n k
       back k o = (k, omega arith, within k (o .0), (refl, o))
 
--- The column as a whole: the states that are reached from the set, of which some are kept.
+-- The column as a whole: the states that are reached from the set; some of them are kept.
 
 pub record Nearby (f column row : List ℕ) (v : ℕ) (from near : List Bool) : Type 0 where
   pub sized : Sized f column row v
@@ -117,7 +117,7 @@ module _ {f column row : List ℕ} {v : ℕ} {from near : List Bool} (nearby : N
     pub lowest-label : x ≤ alphabetOf f
     lowest-label = let o = found in let high = near-label (o .0) (o .1 .0) in let e = o .1 .2 in omega arith
 
-    -- and its cost is within the price
+    -- and its cost is at most the price
     pub lowest-paid : getD column x 0 ≤ v
     lowest-paid =
         let o = found in

@@ -1,5 +1,5 @@
-// One column of the trace: of the states that are reached those that keep to the price, the lowest label among them, and the states
-// of that label.
+// One column of the trace: of the states that are reached those that lie on a cheapest path, the lowest label among them, and the states
+// of that label. A state lies on a cheapest path if its label's cost and its cost to go add up to v, what is left to pay.
 use form_words::letters;
 use trellis_steps::entering;
 use trellis_steps::reached;
@@ -15,14 +15,14 @@ ghost use Rattle.form_starts.specs.Starts.{ArcStarts};
 ghost use Rattle.trellis_steps.specs.Steps.{Within};
 ghost use Rattle.trellis_column.specs.Column.{NONE as none, Sized, Offers, Offered, OfLabel, Picks, SomeKept, Taken};
 
-// Where the trace stands: the label of the last column, what is left to pay, and the states that share it.
+// Where the trace is: the label of the last column, what is left to pay, and the states that share this cost to go.
 pub struct Front {
     pub label: u8,
     pub left: u32,
     pub set: [bool; 255],
 }
 
-// No label: all labels are below it.
+// The value that means 'no label': all labels are below it.
 const NONE: usize = 256;
 
 fn lower(a: usize, b: usize) -> usize
@@ -31,7 +31,7 @@ fn lower(a: usize, b: usize) -> usize
     if a < b { a } else { b }
 }
 
-// The label of state u if it is in the set and keeps to the price v; else NONE.
+// The label of state u if it is in the set and lies on a cheapest path; else NONE.
 fn offered(form: &[u32], column: &[u32], row: &[u32], v: u32, near: &[bool; 255], u: usize) -> usize
     requires { ⌜ Sized (now form) (now column) (now row) v × (u ≤ 2 * lettersOf (now form)) ⌝ }
     ensures { λ r. ⌜ Least none (Offers (view (old form)) (old column) (old row) v (old near) u) r ⌝ }
@@ -50,7 +50,7 @@ fn offered(form: &[u32], column: &[u32], row: &[u32], v: u32, near: &[bool; 255]
     NONE
 }
 
-// The lowest label of a state of the set that keeps to the price v.
+// The lowest label of the states of the set that lie on a cheapest path.
 fn lowest(form: &[u32], column: &[u32], row: &[u32], v: u32, near: &[bool; 255]) -> usize
     requires { ⌜ Sized (now form) (now column) (now row) v × Within (now form) (now near) ⌝ }
     ensures { λ r. ⌜ Least none (Offered (view (old form)) (old column) (old row) v (old near)) r ⌝ }
@@ -65,7 +65,7 @@ fn lowest(form: &[u32], column: &[u32], row: &[u32], v: u32, near: &[bool; 255])
     x
 }
 
-// Marks state u, if its label is x and it is in the set and keeps to the price v.
+// Marks state u if it is in the set, has label x, and lies on a cheapest path.
 fn pick(
     form: &[u32],
     column: &[u32],
@@ -84,7 +84,7 @@ fn pick(
     }
 }
 
-// The states of label x of the set that keep to the price v.
+// The states of the set that have label x and lie on a cheapest path.
 fn picked(
     form: &[u32],
     column: &[u32],
@@ -106,7 +106,7 @@ fn picked(
     set
 }
 
-// The front behind one column more: the lowest label of the reached states that keep to the price, and the states of that label.
+// The front after one more column: the lowest label of the reached states that lie on a cheapest path, and the states of that label.
 pub fn advance(form: &[u32], starts: &[usize], column: &[u32], row: &[u32], front: Front) -> Front
     requires { ⌜ Sized (now form) (now column) (now row) (front .left) × ArcStarts (now form) (now starts) × Within (now form) (front .set)
         × SomeKept (view (now form)) (now column) (now row) (front .left) (front .set) ⌝ }

@@ -1,5 +1,5 @@
-// Costs that stop at TOP, the mark for the impossible: the lesser of two, the sum, and a cost that stands only where a letter's label is
-// another, where a letter may be first, or where a path may end.
+// Costs that stop at TOP, the value that means 'impossible': a sum, and costs that are TOP where a letter has the label that the path is
+// on, where a letter may not be first, or where a path may not end.
 use form_words::label;
 use form_words::may_be_first;
 use form_words::may_end;
@@ -14,10 +14,10 @@ ghost use Rattle.trellis.specs.Impossible.{TOP as top, plus as plusOf};
 ghost use Rattle.trellis.specs.Cells.{ending};
 ghost use Rattle.trellis_costs.specs.Allowed.{unless-equal, if-first};
 
-// The mark for the impossible: no path of usable costs reaches this price.
+// The value that means 'impossible': no path of usable costs reaches this price.
 pub const TOP: u32 = 1000000000;
 
-// A cost, and a price behind it; a sum that stops at TOP.
+// The sum of a cost and the price of what comes after it; it stops at TOP.
 pub fn plus(c: u32, v: u32) -> u32
     requires { ⌜ v ≤ top ⌝ }
     ensures { λ r. ⌜ r ≡ plusOf c v ⌝ }
@@ -47,7 +47,7 @@ pub fn if_first(form: &[u32], j: usize, v: u32) -> u32
     TOP
 }
 
-// What there is to pay in state s where no column is left.
+// What there is to pay in state s where no column is left: 0 if a path may end there, else TOP.
 pub fn last_cost(form: &[u32], s: usize) -> u32
     requires { ⌜ Valid (now form) × (s ≤ 2 * lettersOf (now form)) ⌝ }
     ensures { λ r. ⌜ r ≡ ending (endsOf (old form) ((s + 1) / 2)) ⌝ }

@@ -1,4 +1,4 @@
--- The candidates of a column, a letter at a time.
+-- The candidates of a column, one iteration of the loop over letters at a time.
 use Prim.Native.Nat.{ℕ, zero, suc, _+_, _<_, _≤_}
 use mathlib.Core.Path.{_≡_, refl, sym, subst, _∙_}
 use mathlib.Core.Logic.{_⊎_, inl, inr}
@@ -11,7 +11,7 @@ use Rattle.trellis.specs.Impossible.{TOP}
 use Rattle.trellis_offers.specs.Offers.{candidate}
 use Rattle.trellis_offers.specs.Column.{onward, CandidatesBelow}
 
--- a list of one number, read past its end too
+-- a list that repeats one number has it at every place, also past the end
 zeros : (n d j : ℕ) → getD (replicate n d) j d ≡ d
 zeros zero d j = refl
 zeros (suc n) d zero = refl

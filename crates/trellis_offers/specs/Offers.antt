@@ -1,5 +1,4 @@
--- What the candidates of a column offer along a letter's arcs, and to the letters that may be first: index by index of the loops that
--- look for the least.
+-- The candidates of a column, and the least prices that they offer along a letter's arcs.
 use Prim.Native.Nat.{ℕ, _+_, _≤_}
 use mathlib.Core.Path.{_≡_}
 use mathlib.Core.List.{List}
@@ -20,7 +19,7 @@ pub record Candidates (cs : List ℕ) : Type 0 where
 abbrev pub candidate : List ℕ → ℕ → ℕ
 candidate cs j = getD cs j 0
 
--- the candidates, and the arcs of letter i, which stand from b up to e
+-- the candidates, and the arcs of letter i, whose words are from b up to e
 pub record Arcs (f cs : List ℕ) (i b e : ℕ) : Type 0 where
   pub valid : Valid f
   pub candidates : Candidates cs
@@ -29,7 +28,7 @@ pub record Arcs (f cs : List ℕ) (i b e : ℕ) : Type 0 where
   pub first : StartsAt f i b
   pub next : StartsAt f (i + 1) e
 
--- the least prices that a letter's arcs offer: along all arcs, and along those to another label
+-- the least prices that a letter's arcs offer: along all arcs, and along the arcs to another label
 pub record Offers (f cs : List ℕ) (i all other : ℕ) : Type 0 where
   pub along-all : Least TOP (ByArc (view f) (candidate cs) i 0) all
   pub along-other : Least TOP (ByArc (view f) (candidate cs) i (labelOf f i)) other

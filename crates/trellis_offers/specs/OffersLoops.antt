@@ -1,4 +1,4 @@
--- What letters offer to a state, an arc or a first letter at a time.
+-- The least price that letters offer to a state, one iteration at a time of the loops over arcs and over the letters that may be first.
 use Prim.Native.Nat.{ℕ, _+_, _<_, _≤_, min}
 use mathlib.Core.Path.{_≡_, refl, sym, ap, _∙_}
 use mathlib.Core.Bool.{Bool, true, false, cond}
@@ -20,7 +20,7 @@ use Rattle.form_starts.specs.Loops.{range-source, source-range}
 use Rattle.trellis_costs.specs.Allowed.{unless-equal, if-first}
 use Rattle.trellis_offers.specs.Offers.{Candidates, candidate, Arcs, Offers}
 
--- a candidate is offered, unless its label is `own`
+-- a letter's candidate is offered, unless its label is `own`
 pub least-unless : (label own c : ℕ) → c ≤ TOP → Least TOP (λ n. (label ≡ own → ⊥) × (n ≡ c)) (unless-equal label own c)
 least-unless label own c h = by (eqb label own) refl
   where
@@ -35,7 +35,7 @@ least-unless label own c h = by (eqb label own) refl
 abbrev pub Along : (f cs : List ℕ) (own k n : ℕ) → Type 0
 Along f cs own k n = (labelOf f (target (getD f k 0)) ≡ own → ⊥) × (n ≡ candidate cs (target (getD f k 0)))
 
--- the least of the arc words from b up to k
+-- the least that the arc words from b up to k offer
 abbrev pub LeastAlong : (f cs : List ℕ) (b own k v : ℕ) → Type 0
 LeastAlong f cs b own k v = Least TOP (Among b k (Along f cs own)) v
 
@@ -47,7 +47,7 @@ pub record Sofar (f cs : List ℕ) (own b e all other k : ℕ) : Type 0 where
   pub along-other : LeastAlong f cs b own k other
 
 module _ {f cs : List ℕ} {i b e : ℕ} (arcs : Arcs f cs i b e) where
-  -- a letter's arcs begin before the next letter's
+  -- a letter's arcs begin where the next letter's begin, or before
   ascend : b ≤ e
   ascend = by (lt-or-le e b)
     where
@@ -76,7 +76,7 @@ module _ {f cs : List ℕ} {i b e : ℕ} (arcs : Arcs f cs i b e) where
           let a = arcs .valid .arc k (omega arith) arc-inside in
           (a .target-low, a .target-high)
 
-      -- one arc more; no letter has the label 0
+      -- one more arc; no letter has the label 0
       pub sofar-more :
           (j : ℕ) → j ≡ target (getD f k 0)
           → Sofar f cs own b e (min all (candidate cs j)) (min other (unless-equal (labelOf f j) own (candidate cs j))) (k + 1)

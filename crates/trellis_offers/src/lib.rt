@@ -1,4 +1,4 @@
-// What the letters offer to a state: their candidates in a column, and the least of them along a letter's arcs and to state 0.
+// The prices that letters offer to a state: the candidates of a column, and the least of them along a letter's arcs and to state 0.
 use form_words::label;
 use form_words::letters;
 use form_words::target;
@@ -18,13 +18,13 @@ ghost use Rattle.trellis.specs.Cells.{ByArc};
 ghost use Rattle.trellis_offers.specs.Offers.{Candidates, Arcs, Offers as OffersOf, candidate as candidateOf};
 ghost use Rattle.trellis_offers.specs.Column.{Ahead, onward, CandidatesOf};
 
-// The least prices that a letter's arcs offer: along all arcs, and along those to another label.
+// The least prices that a letter's arcs offer: along all arcs, and along the arcs to another label.
 pub struct Offers {
     pub all: u32,
     pub other: u32,
 }
 
-// What the arcs of letter i offer, which stand from b up to e.
+// What the arcs of letter i offer, whose words are from b up to e.
 pub fn along_arcs(form: &[u32], candidates: &[u32], i: usize, b: usize, e: usize) -> Offers
     requires { ⌜ Arcs (now form) (now candidates) i b e ⌝ }
     ensures { λ r. ⌜ OffersOf (old form) (old candidates) i (r .all) (r .other) ⌝ }
@@ -43,7 +43,7 @@ pub fn along_arcs(form: &[u32], candidates: &[u32], i: usize, b: usize, e: usize
     Offers { all, other }
 }
 
-// The candidate of letter j: the cost of its label in the column at `at`, and what there is to pay behind it by the row at `next`.
+// The candidate of letter j: the cost of its label in the column at `at`, plus what there is to pay after it by the row at `next`.
 fn candidate(form: &[u32], costs: &[u32], at: usize, work: &[u32], next: usize, j: usize) -> u32
     requires { ⌜ Ahead (now form) (now costs) at (now work) next × (1 ≤ j) × (j ≤ lettersOf (now form)) ⌝ }
     ensures { λ r. ⌜ r ≡ onward (old form) (old costs) at (old work) next j ⌝ }
@@ -66,7 +66,7 @@ pub fn candidates(form: &[u32], costs: &[u32], at: usize, work: &[u32], next: us
     c
 }
 
-// What the letters that may be first offer to state 0.
+// The least price that the letters that may be first offer to state 0.
 pub fn to_first(form: &[u32], candidates: &[u32]) -> u32
     requires { ⌜ Valid (now form) × Candidates (now candidates) ⌝ }
     ensures { λ r. ⌜ Least top (ByArc (view (old form)) (candidateOf (old candidates)) 0 0) r ⌝ }

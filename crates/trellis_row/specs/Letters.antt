@@ -1,4 +1,4 @@
--- The two states of a letter in a row, by the candidates and the row of the next column; and those of all letters, one behind another.
+-- The costs to go of a letter's two states in a row, by the candidates and the row of the next column; and those of all letters.
 use Prim.Native.Nat.{ℕ, _+_, _*_, _-_, _<_, _≤_, min}
 use mathlib.Core.Path.{_≡_}
 use mathlib.Core.List.{List}
@@ -11,12 +11,12 @@ use Rattle.trellis.specs.Impossible.{plus}
 use Rattle.trellis_offers.specs.Offers.{Candidates, Offers, candidate}
 use Rattle.trellis_offers.specs.Column.{Bounded}
 
--- how many states there are: 0 to 2L
+-- the number of states, 0 to 2L
 abbrev pub states : List ℕ → ℕ
 states f = 2 * lettersOf f + 1
 
--- what the letters' states are found from: where the arcs begin, the candidates, and the row of the next column, at `next`, which lies
--- behind the row to be written, at `here`
+-- what the letters' states are computed from: where the arcs begin, the candidates, and the row of the next column, at `next`, which is
+-- after the row to be written, at `here`
 pub record Ready (f starts cs work : List ℕ) (here next : ℕ) : Type 0 where
   pub valid : Valid f
   pub begun : ArcStarts f starts
@@ -24,7 +24,7 @@ pub record Ready (f starts cs work : List ℕ) (here next : ℕ) : Type 0 where
   pub apart : here + 2 * lettersOf f < next
   pub row : Bounded f work next
 
--- the costs of letter i's states, on it and in the blanks after it; `rest` is the cost of going on in the blanks
+-- the costs to go of letter i's states, on it and in the blanks after it; `rest` is the price of a step into the blanks
 pub record LetterCells (f cs : List ℕ) (rest i on blanks : ℕ) : Type 0 where
   pub all : ℕ
   pub other : ℕ
@@ -42,7 +42,7 @@ pub record LetterFilled (f cs : List ℕ) (blank : ℕ) (before after : List ℕ
   pub cells : CellsAt f cs blank before after here next i
   pub outside : Outside (here + (2 * i - 1)) (here + 2 * i + 1) before after
 
--- the states of the letters below n were written, and nothing else but states of letters
+-- the states of the letters below n were written, and nothing except states of letters
 pub record LettersFilled (f cs : List ℕ) (blank : ℕ) (before after : List ℕ) (here next n : ℕ) : Type 0 where
   pub cells : (i : ℕ) → 1 ≤ i → i < n → CellsAt f cs blank before after here next i
   pub outside : Outside (here + 1) (here + states f) before after

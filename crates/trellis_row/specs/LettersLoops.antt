@@ -1,4 +1,4 @@
--- The cells of a row, a letter at a time.
+-- The cells of a row, one iteration of the loop over letters at a time.
 use Prim.Native.Nat.{ℕ, _+_, _*_, _-_, _<_, _≤_, min}
 use mathlib.Core.Path.{_≡_, ap, _∙_}
 use mathlib.Core.Logic.{_⊎_, inl, inr}
@@ -41,7 +41,7 @@ module _ (f cs : List ℕ) (blank : ℕ) (before : List ℕ) (here next : ℕ) (
   pub letters-none : LettersFilled f cs blank before before here next 1
   letters-none = record { cells = λ i l h. absurd (omega arith); outside = outside-none (here + 1) (here + states f) before }
 
-  -- the row of the next column stays
+  -- the row of the next column stays as it was
   module _ (work : List ℕ) (outside : Outside (here + 1) (here + states f) before work) where
     pub next-at : (s : ℕ) → getD work (next + s) 0 ≡ getD before (next + s) 0
     next-at s = behind-at 0 (next + s) outside (omega arith)

@@ -1,4 +1,4 @@
--- A row from the next row.
+-- Laws: the row that is written has the costs to go of its column, if the row at `next` has those of the next column.
 use Prim.Native.Nat.{ℕ, _+_, _*_, _-_, _/_, _<_, _≤_, min}
 use mathlib.Core.Bool.{true}
 use mathlib.Core.Path.{_≡_, sym, ap, ap₂, subst, _∙_}
@@ -27,21 +27,21 @@ use Rattle.trellis_offers.specs.Column.{onward, CandidatesOf}
 use Rattle.trellis_row.specs.Letters.{states, LettersFilled}
 use Rattle.trellis_row.specs.Rows.{RowReady, BlanksCell, LetterCell, RowFilled}
 
--- the costs of column t stand at `at`
+-- the costs of column t are at `at`
 abbrev pub ColumnAt : Matrix → ℕ → List ℕ → ℕ → Type 0
 ColumnAt M t costs at = (x : ℕ) → cost M t x ≡ getD costs (at + x) 0
 
--- state 0 is within the memory, after the letters' states too
+-- state 0 is within the memory, also once the letters' states are written
 pub start-inside : {f starts costs work : List ℕ} {at here next : ℕ} (after : List ℕ) → RowReady f starts costs at work here next → length after ≡ length work → here < length after
 start-inside after r size = let a = r .apart in let b = r .ahead .row .room in omega arith
 
--- if the row of the next column stands at `next`, the row at `here` is that of the column at `at`
+-- if the row of the next column is at `next`, the row at `here` is that of the column at `at`
 module _ {f : List ℕ} (valid : Valid f) {costs : List ℕ} {at : ℕ} {before after : List ℕ} {here next : ℕ} (filled : RowFilled f costs at before after here next)
     (M : Matrix) (t n : ℕ) (column : ColumnAt M t costs at) (behind : Row (view f) M before next (t + 1) n) where
   paid : (j : ℕ) → 1 ≤ j → j ≤ lettersOf f → onward f costs at before next j ≡ plus (cost M t (labelOf f j)) (getD before (next + (2 * j - 1)) 0)
   paid j l h = ap (λ c. plus c (getD before (next + (2 * j - 1)) 0)) (sym (column (labelOf f j)))
 
-  -- the cost of going on in the blanks after letter i
+  -- the price of a step into the blanks after letter i
   rests : (i : ℕ) → plus (cost M t 0) (getD before (next + 2 * i) 0) ≡ plus (getD costs at 0) (getD before (next + 2 * i) 0)
   rests i = let e : at + 0 ≡ at = omega arith in ap (λ c. plus c (getD before (next + 2 * i) 0)) (column 0 ∙ ap (λ k. getD costs k 0) e)
 

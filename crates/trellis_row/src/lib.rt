@@ -1,4 +1,4 @@
-// One row of the table of costs to go, by the row of the next column: the two states of each letter, and state 0.
+// One row of the table of costs to go, computed from the row of the next column: the two states of each letter, and state 0.
 use form_words::letters;
 use numbers::least;
 use trellis_costs::plus;
@@ -11,7 +11,7 @@ ghost use Rattle.automaton.specs.Form.{lettersOf};
 ghost use Rattle.trellis_row.specs.Letters.{Ready, LetterFilled, LettersFilled};
 ghost use Rattle.trellis_row.specs.Rows.{RowReady, RowFilled};
 
-// Writes the two states of letter i into the row at `here`, by the row at `next`.
+// Writes the costs to go of the two states of letter i into the row at `here`, by the row at `next`.
 fn fill_letter(
     form: &[u32],
     starts: &[usize],
@@ -31,7 +31,7 @@ fn fill_letter(
     work[here + 2 * i] = least(rest, offers.all);
 }
 
-// Writes the states of all letters into the row at `here`, by the row at `next`.
+// Writes the costs to go of the states of all letters into the row at `here`, by the row at `next`.
 fn fill_letters(
     form: &[u32],
     starts: &[usize],
@@ -52,7 +52,7 @@ fn fill_letters(
     }
 }
 
-// Writes the row at `here` for the column of costs at `at`, by the row of the next column at `next`.
+// Writes the row at `here` for the column of costs at `at`, by the row of the next column, at `next`.
 pub fn fill_row(
     form: &[u32],
     starts: &[usize],

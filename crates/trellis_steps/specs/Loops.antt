@@ -1,4 +1,4 @@
--- The states that steps lead to, an arc or a state at a time.
+-- The states that steps lead to, one iteration at a time of the loops over letters, arcs and states.
 use Prim.Native.Nat.{ℕ, _+_, _*_, _-_, _/_, _≤_, _<_}
 use mathlib.Core.Path.{_≡_, refl, sym, _∙_, subst}
 use mathlib.Core.Bool.{Bool, true, false}
@@ -22,7 +22,7 @@ use Rattle.trellis.specs.Reached.{entering, Reached}
 use Rattle.trellis.specs.ReachedLaws.{entering-blanks, entering-letter}
 use Rattle.trellis_steps.specs.Steps.{Onto, OtherLetter, Led, Behind, TargetOf, From}
 
--- the label of a state is one of the alphabet
+-- a state is entered by the blank or by a label of the alphabet
 pub entering-high : (f : List ℕ) → Valid f → (u : ℕ) → u ≤ 2 * lettersOf f → entering (view f) u ≤ alphabetOf f
 entering-high f valid u h = by (at-letter u)
   where
@@ -34,7 +34,7 @@ entering-high f valid u h = by (at-letter u)
     by (inr o) = let e = entering-blanks (view f) ((u + 1) / 2) u o in omega arith
 
 module _ {k : ℕ} {A : Automaton} (proper : Proper k A) (i s u : ℕ) where
-  -- a step from a state on or behind letter i; in blanks `own` is the blank, which no letter has
+  -- a step from a state on letter i or in the blanks after it; in blanks `own` is the blank, which no letter has
   onto : AtLetter i s → ((u ≡ s) ⊎ (u ≡ 2 * i)) ⊎ Behind A (entering A s) i u → Onto A s u
   onto (inl o) (inl (inl e)) = stay i o (entering-letter A i u (omega arith)) (omega arith)
   onto (inl o) (inl (inr e)) = pass i o (entering-blanks A i u e) e
@@ -79,7 +79,7 @@ module _ (A : Automaton) (own j : ℕ) (set : List Bool) where
     pub led-not : A .follow i j ≡ false → Marks (Led A own i j) set set
     led-not f = marks-none (Led A own i j) set (λ u q. not-both (A .follow i j) (q .0) f)
 
--- All letters behind letter i: the first letters, or the targets of its arcs.
+-- All letters that may follow letter i: the first letters where i is 0, else the targets of its arcs.
 
 module _ (f : List ℕ) (valid : Valid f) (own : ℕ) (set after : List Bool) where
   pub firsts-marked : Marks (Iterations (Led (view f) own 0) 1 (lettersOf f + 1)) set after → Marks (Behind (view f) own 0) set after
@@ -109,7 +109,7 @@ module _ (f : List ℕ) (valid : Valid f) (own : ℕ) (set after : List Bool) wh
             let r = source-range f i b e first next (a .index) (a .past) (a .inside) (a .from) in
             (a .index, r .0, r .1, subst (λ m. OtherLetter (view f) own m u) (sym (a .to)) q)
 
--- All that a step from state s leads to, and all that a step from the set leads to.
+-- All states that a step from state s leads to, and all that a step from the set leads to.
 
 pub steps-marked :
     (f : List ℕ) → Valid f → (i s : ℕ) (set after : List Bool) → AtLetter i s → s < length set → 2 * i < length set

@@ -1,5 +1,5 @@
 -- The states that a step from a state leads to, as the code marks them: the state itself, the blanks after its letter, and the letters
--- that may stand behind it and whose label is another.
+-- that may follow it and have another label.
 use Prim.Native.Nat.{ℕ, _*_, _≤_}
 use mathlib.Core.Path.{_≡_}
 use mathlib.Core.Bool.{Bool, true}
@@ -15,11 +15,11 @@ use Rattle.trellis.specs.Reached.{entering}
 abbrev pub Onto : Automaton → (s u : ℕ) → Type 0
 Onto A s u = Step A s (entering A u) u
 
--- u is the state on letter j, whose label is not `own`, the one that the path is on
+-- u is the state on letter j, whose label is not `own`, the label that the path is on
 abbrev pub OtherLetter : Automaton → (own j u : ℕ) → Type 0
 OtherLetter A own j u = OnLetter j u × (A .label j ≡ own → ⊥)
 
--- the same, of a letter that may stand behind letter i
+-- the same, of a letter that may follow letter i
 abbrev pub Led : Automaton → (own i j u : ℕ) → Type 0
 Led A own i j u = (A .follow i j ≡ true) × OtherLetter A own j u
 

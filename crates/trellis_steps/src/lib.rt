@@ -1,5 +1,5 @@
-// The states that a step from a set of states leads to. A set of states is an array of truth values, state 2i − 1 standing for letter i
-// and state 2i for the blanks after it.
+// The states that a step from a set of states leads to. A set of states is an array of truth values; state 2i − 1 is on letter i, and state
+// 2i is in the blanks after it.
 use form_words::label;
 use form_words::letters;
 use form_words::may_be_first;
@@ -16,7 +16,7 @@ ghost use Rattle.form_starts.specs.Starts.{StartsAt, ArcStarts};
 ghost use Rattle.trellis.specs.Reached.{entering as enteringOf, Reached};
 ghost use Rattle.trellis_steps.specs.Steps.{Onto, OtherLetter, Led, Behind, TargetOf, From, Within};
 
-// The label of each step into state u: the blank, or that of its letter.
+// The label of every step into state u: the blank, or that of its letter.
 pub fn entering(form: &[u32], u: usize) -> usize
     requires { ⌜ (lettersOf (now form) < length (now form)) × (u ≤ 2 * lettersOf (now form)) ⌝ }
     ensures { λ r. ⌜ r ≡ enteringOf (view (old form)) u ⌝ }
@@ -47,7 +47,7 @@ fn mark_first(form: &[u32], own: usize, j: usize, set: &mut [bool; 255])
     }
 }
 
-// Marks the states on letters that may be first.
+// Marks the states on letters that may be first, unless their label is `own`.
 fn mark_firsts(form: &[u32], own: usize, set: &mut [bool; 255])
     requires { ⌜ Valid (now form) × (length (now set) ≡ 255) ⌝ }
     ensures { λ _. ⌜ Marks (Behind (view (old form)) own 0) (old set) (new set) ⌝ }
@@ -60,7 +60,7 @@ fn mark_firsts(form: &[u32], own: usize, set: &mut [bool; 255])
     }
 }
 
-// Marks the states on the targets of the arcs from b up to e.
+// Marks the states on the targets of the arcs from b up to e, unless their label is `own`.
 fn mark_targets(form: &[u32], own: usize, b: usize, e: usize, set: &mut [bool; 255])
     requires { ⌜ Valid (now form) × (lettersOf (now form) < b) × (b ≤ e) × (e ≤ length (now form)) × (length (now set) ≡ 255) ⌝ }
     ensures { λ _. ⌜ Marks (Iterations (TargetOf (old form) own) b e) (old set) (new set) ⌝ }
@@ -72,7 +72,7 @@ fn mark_targets(form: &[u32], own: usize, b: usize, e: usize, set: &mut [bool; 2
     }
 }
 
-// Marks the states on letters that may stand behind letter i, whose arcs stand from b up to e.
+// Marks the states on letters that may follow letter i, whose arcs are from b up to e, unless their label is `own`.
 fn mark_behind(form: &[u32], own: usize, i: usize, b: usize, e: usize, set: &mut [bool; 255])
     requires { ⌜ Valid (now form) × StartsAt (now form) i b × StartsAt (now form) (i + 1) e × (length (now set) ≡ 255) ⌝ }
     ensures { λ _. ⌜ Marks (Behind (view (old form)) own i) (old set) (new set) ⌝ }
@@ -84,8 +84,8 @@ fn mark_behind(form: &[u32], own: usize, i: usize, b: usize, e: usize, set: &mut
     mark_targets(form, own, b, e, set);
 }
 
-// Marks the states that a step from state s leads to: itself, the blanks after its letter, and the letters that may stand behind it.
-// From a letter no arc leads to an equal label; in blanks `own` is the blank, which no letter has.
+// Marks the states that a step from state s leads to: itself, the blanks after its letter, and the letters that may follow it. On a letter
+// `own` is its label, since no step leads along an arc to an equal label; in blanks `own` is the blank, which no letter has.
 fn mark_steps(form: &[u32], starts: &[usize], s: usize, set: &mut [bool; 255])
     requires { ⌜ Valid (now form) × ArcStarts (now form) (now starts) × (s ≤ 2 * lettersOf (now form)) × (length (now set) ≡ 255) ⌝ }
     ensures { λ _. ⌜ Marks (Onto (view (old form)) s) (old set) (new set) ⌝ }
@@ -97,7 +97,7 @@ fn mark_steps(form: &[u32], starts: &[usize], s: usize, set: &mut [bool; 255])
     mark_behind(form, own, i, starts[i], starts[i + 1], set);
 }
 
-// Marks the states that a step from state s leads to, if it is in the set.
+// Marks the states that a step from state s leads to, if s is in the set.
 fn mark_from(form: &[u32], starts: &[usize], from: &[bool; 255], s: usize, set: &mut [bool; 255])
     requires { ⌜ Valid (now form) × ArcStarts (now form) (now starts) × (s ≤ 2 * lettersOf (now form)) × (length (now set) ≡ 255) ⌝ }
     ensures { λ _. ⌜ Marks (From (view (old form)) (old from) s) (old set) (new set) ⌝ }

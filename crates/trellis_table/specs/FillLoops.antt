@@ -1,4 +1,4 @@
--- The table, a row at a time.
+-- The table, one iteration of the loop over rows at a time.
 use Prim.Native.Nat.{ℕ, _+_, _*_, _-_, _<_, _≤_}
 use mathlib.Core.Path.{_≡_, refl, subst, _∙_}
 use mathlib.Core.Logic.{_⊎_, inl, inr}
@@ -19,7 +19,7 @@ use Rattle.trellis_table.specs.Last.{LastFilled}
 use Rattle.trellis_table.specs.Fill.{Sized, RowsFilled, Filled}
 
 module _ {f : List ℕ} (M : Matrix) (before : List ℕ) (stride : ℕ) where
-  -- the last row is there
+  -- the last row is written
   pub rows-last : Row (view f) M before (M .count * stride) (M .count) 0 → RowsFilled f M before before stride (M .count)
   rows-last r =
       record {
@@ -28,7 +28,7 @@ module _ {f : List ℕ} (M : Matrix) (before : List ℕ) (stride : ℕ) where
       }
 
   module _ (sized : Sized f M before stride) (t : ℕ) (few : t < M .count) where
-    -- the places of column t
+    -- the costs of column t, and its row and the next, are inside their lists
     pub cost-inside : t * M .width + alphabetOf f < length (M .costs)
     cost-inside =
         let a = mul-le-mul-right {m = t + 1} {n = M .count} (M .width) (omega arith) in

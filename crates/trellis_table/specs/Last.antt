@@ -7,7 +7,7 @@ use Rattle.automaton.specs.Form.{view}
 use Rattle.trellis.specs.Table.{Row}
 use Rattle.trellis_row.specs.Letters.{states}
 
--- the last row, at `base`: what there is to pay where no column is left
+-- the last row was written at `base`, and nothing else
 pub record LastFilled (f before after : List ℕ) (base : ℕ) : Type 0 where
   pub row : (M : Matrix) (t : ℕ) → Row (view f) M after base t 0
   pub outside : Outside base (base + states f) before after

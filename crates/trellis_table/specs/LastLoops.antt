@@ -1,4 +1,4 @@
--- The last row, a state at a time.
+-- The last row, one iteration of the loop over states at a time.
 use Prim.Native.Nat.{ℕ, _+_, _*_, _/_, _<_, _≤_}
 use mathlib.Core.Path.{_≡_, _∙_}
 use mathlib.Core.Logic.{_⊎_, inl, inr}
@@ -16,7 +16,7 @@ use Rattle.trellis.specs.CellsLaws.{last-cell}
 use Rattle.trellis_row.specs.Letters.{states}
 use Rattle.trellis_table.specs.Last.{LastFilled}
 
--- its states below n
+-- its states below n were written
 pub record LastBelow (f before after : List ℕ) (base n : ℕ) : Type 0 where
   pub cells : (s : ℕ) → s < n → getD after (base + s) 0 ≡ ending (endsOf f ((s + 1) / 2))
   pub outside : Outside base (base + states f) before after

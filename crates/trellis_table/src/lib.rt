@@ -1,4 +1,4 @@
-// The table of costs to go of Decode, filled backward, row by row (document 01, "Extended states and decoding").
+// The table of costs to go of Decode, filled from the last row to the first (document 01, "Extended states and decoding").
 use form_starts::arc_starts;
 use form_words::letters;
 use trellis_costs::last_cost;
@@ -13,7 +13,7 @@ ghost use Rattle.trellis.specs.Table.{Row};
 ghost use Rattle.trellis_table.specs.Last.{LastFilled};
 ghost use Rattle.trellis_table.specs.Fill.{states, Sized, RowsFilled, Filled};
 
-// The mark for the impossible, which the answer may be.
+// The value that means 'impossible': `fill` returns it where there is no path.
 pub use trellis_costs::TOP;
 
 // Writes the last row, at `base`.
@@ -29,7 +29,7 @@ fn fill_last(form: &[u32], work: &mut [u32], base: usize)
     }
 }
 
-// Writes the rows of all columns, `stride` apart, from the last column to the first; the last row stands behind them.
+// Writes the rows of all columns, `stride` apart, from the last column to the first. The last row is after them, and already written.
 fn fill_rows(
     form: &[u32],
     costs: &[u32],
@@ -58,7 +58,7 @@ fn fill_rows(
     }
 }
 
-// Fills the table of costs to go. The answer is the least price, or TOP where there is none.
+// Fills the table of costs to go and returns the least price, or TOP where there is none.
 pub fn fill(form: &[u32], costs: &[u32], width: usize, count: usize, work: &mut [u32]) -> u32
     requires { ⌜ Sized (now form) (matrix (now costs) width count) (now work) (states (now form)) ⌝ }
     ensures { λ r. ⌜ Filled (old form) (matrix (old costs) width count) (old work) (new work) r ⌝ }

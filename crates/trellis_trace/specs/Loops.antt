@@ -1,4 +1,4 @@
--- The path, a column at a time.
+-- The trace, one iteration of the loop over columns at a time.
 use Prim.Native.Nat.{ℕ, _+_, _*_, _-_, _≤_, _<_}
 use mathlib.Core.Path.{_≡_, refl, sym, ap, ap₂, _∙_, subst}
 use mathlib.Core.Bool.{true, false}
@@ -29,13 +29,13 @@ use Rattle.trellis_column.specs.declared.Front.{Front}
 use Rattle.trellis_column.specs.Column.{Sized, KeptOf, SomeKept, Taken}
 use Rattle.trellis_trace.specs.Traced.{Ready, Traced}
 
--- the path stands in front
+-- the memory begins with the path
 pub traced-front : {A : Automaton} {M : Matrix} {before after : List ℕ} (t : Traced A M before after) → take (M .count) after ≡ t .path
 unfolding written
 traced-front {M = M} {before = before} t =
     ap (take (M .count)) (t .memory) ∙ take-at (t .path) (drop (length (t .path)) before) (M .count) (t .best .qualifies .long)
 
--- before column t: the labels written, and the front that they lead to
+-- before column t: the labels that are written, and the front that they lead to
 pub record Standing (f : List ℕ) (M : Matrix) (before : List ℕ) (t : ℕ) (front : Front) (after : List ℕ) : Type 0 where
   pub so-far : t ≤ M .count
   pub done : List ℕ
@@ -106,7 +106,7 @@ module _ {f : List ℕ} {M : Matrix} {work : List ℕ} {base stride : ℕ} (read
             (subst (λ n. Tracing (extended (view f)) M 0 (M .count) t n (Has (front .set)) (front .left) (s .done)) none (s .tracing));
       }
 
-  -- Column t, which is there, and the next row.
+  -- Column t of the matrix, and the next row of the table.
   module _ (t : ℕ) (there : t < M .count) where
     pub column-inside : t * M .width + M .width ≤ length (M .costs)
     column-inside = let h = mul-le-mul-right (M .width) there in let s = ready .size in omega arith
@@ -136,7 +136,7 @@ module _ {f : List ℕ} {M : Matrix} {work : List ℕ} {base stride : ℕ} (read
       abbrev rest : ℕ
       rest = M .count - (t + 1)
 
-      -- what is kept by the two parts is kept by the matrix and the table
+      -- a state is kept by the two parts exactly if it is kept by the matrix and the table
       keeps-same :
           (u : ℕ) → Reached (view f) (Has (front .set)) u
           → plus (getD column (entering (view f) u) 0) (getD row u 0) ≡ plus (cost M t (entering (view f) u)) (next u)
@@ -165,7 +165,7 @@ module _ {f : List ℕ} {M : Matrix} {work : List ℕ} {base stride : ℕ} (read
           let k = some-kept (valid-proper f (ready .valid)) M t (front .left) next (Has (front .set)) (stands .within) rest table-next (tracing-now .shared) in
           (k .0, back-kept (k .0) (k .2))
 
-      -- one column more
+      -- one more column
       module _ {onward : Front} (taken : Taken (view f) column row front onward) where
         picked : Picked (view f) M t next (Has (front .set)) (front .left) (onward .label) (Has (onward .set))
         picked =

@@ -1,4 +1,4 @@
--- The whole trace: what it relies on, what it promises of the path memory, and where it stands before each column.
+-- The whole trace: what it relies on, and what it promises of the path memory.
 use Prim.Native.Nat.{ℕ, _+_, _*_, _≤_, _<_}
 use mathlib.Core.Path.{_≡_}
 use mathlib.Core.List.{List}
@@ -22,7 +22,7 @@ pub record Ready (f : List ℕ) (M : Matrix) (work : List ℕ) (base stride : �
   pub table : Table (view f) M work base stride
   pub below : getD work base 0 < TOP
 
--- what it promises: in front of the memory the best of all ways from state 0, one label for each column, and the rest as it was
+-- what it promises: the memory begins with the best of all ways from state 0, one label for each column, and the rest is as it was
 pub record Traced (A : Automaton) (M : Matrix) (before after : List ℕ) : Type 0 where
   pub path : List ℕ
   pub memory : after ≡ written path before

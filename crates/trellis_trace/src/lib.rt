@@ -1,5 +1,5 @@
-// The best path, traced forward through the table of costs to go (document 01, "Extended states and decoding"): the set of all
-// equally cheap states is taken on column by column, by the lowest label that keeps to the price.
+// The best path, traced forward through the table of costs to go (document 01, "Extended states and decoding"): the set of all equally
+// cheap states is advanced column by column, by the lowest label that lies on a cheapest path.
 use form_starts::arc_starts;
 use form_words::letters;
 use trellis_column::Front;
@@ -12,7 +12,7 @@ ghost use Rattle.matrix.specs.Matrix.{matrix};
 ghost use Rattle.trellis_trace.specs.Traced.{Ready, Traced};
 
 // Writes the best path, one label for each column. The row of column t begins at base + t * stride of the work memory: rows of several
-// tables may stand in one list, as request T-08 will need.
+// tables may be in one list, as request T-08 will need.
 pub fn trace(
     form: &[u32],
     costs: &[u32],

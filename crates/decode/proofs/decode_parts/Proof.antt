@@ -1,4 +1,4 @@
--- `decode::decode_parts` meets its contract: the first check that holds, or what is read past them.
+-- `decode::decode_parts` meets its contract: the first refusal that applies, or the answer past the checks.
 use mathlib.Core.Path.{_≡_, sym, ap, ap₂, _∙_}
 use mathlib.Core.Bool.{true, not}
 use native.Mathlib.Omega.{arith}
@@ -57,7 +57,7 @@ check-matrix-requires c κs =
 abbrev start : tie.After-check-matrix → tie.Start
 start c = c .before .before .before .before .before .before .before .before .before .before
 
--- what the other checks say
+-- what the other checks show
 told :
     (c : tie.After-check-matrix)
     → c .check-matrix .result ≡ first-refusal (matrix-checks (alphabetOf (now (start c .args .form))) (lettersOf (now (start c .args .form))) (costs (start c)) (rooms (lent (start c))))

@@ -1,4 +1,4 @@
--- `decode_checks::all_pass` meets its contract: what is left of the list decides.
+-- `decode_checks::all_pass` meets its contract: the costs so far pass, so the rest of the list decides.
 use Prim.Native.Nat.{_≤_, _-_}
 use mathlib.Core.Path.{_≡_, refl, sym}
 use native.Mathlib.Omega.{arith}

@@ -1,4 +1,4 @@
--- `decode_checks::check_matrix` meets its contract: the first check that holds, or none.
+-- `decode_checks::check_matrix` meets its contract: the first refusal whose check holds, or none.
 use mathlib.Core.Path.{_≡_, sym, _∙_}
 use mathlib.Core.Bool.{true, false}
 use native.Mathlib.Omega.{arith}
@@ -29,7 +29,7 @@ returns c =
 all-pass-requires : tie.Need-all-pass-requires
 all-pass-requires c κs = search needs
 
--- what the tests so far say
+-- what the tests so far show
 fine : (c : tie.Else1) → matrix-fault (c .before .before .before .args .k) (matrix (c .before .before .before)) ≡ false
 fine c = sym (c .before .has-fault .ensures) ∙ c .if1 .left
 

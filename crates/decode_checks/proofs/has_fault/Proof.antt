@@ -1,4 +1,4 @@
--- `decode_checks::has_fault` meets its contract, a lemma for each answer.
+-- `decode_checks::has_fault` meets its contract, by a law for each answer.
 use Prim.Native.Nat.{_*_, _≤_}
 use mathlib.Core.Path.{sym}
 use native.Mathlib.Nat.{mul-le-mul}

@@ -1,4 +1,4 @@
--- `read_spelling::write_characters` meets its contract: the labels in front of place i are replaced, the others are still there.
+-- `read_spelling::write_characters` meets its contract: the labels before place i are replaced, the others are still there.
 use Prim.Native.Nat.{_+_, _-_, _≤_}
 use mathlib.Core.Path.{_≡_, sym, _∙_, subst}
 use native.Mathlib.Omega.{arith}

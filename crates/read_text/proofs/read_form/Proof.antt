@@ -1,4 +1,4 @@
--- `read_text::read_form` meets its contract: the first check that holds, or what is read past them.
+-- `read_text::read_form` meets its contract: the first refusal that applies, or the answer past the checks.
 use mathlib.Core.Path.{_≡_, sym, ap, _∙_, subst}
 use lib.ListN.{length}
 use denote.Ref.{now}
@@ -24,7 +24,7 @@ costs c = matrix (now (c .args .costs)) (c .args .width) (c .args .count)
 abbrev start : tie.After-check-matrix → tie.Start
 start c = c .before .before .before .before .before .before .before .before
 
--- what the checks say
+-- what the checks show
 told :
     (c : tie.After-check-matrix)
     → c .check-matrix .result ≡ first-refusal (matrix-checks (length (now (start c .args .alphabet))) (lettersOf (now (start c .args .form))) (costs (start c)) (rooms (lent (start c))))

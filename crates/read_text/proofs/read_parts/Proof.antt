@@ -1,4 +1,4 @@
--- `read_text::read_parts` meets its contract: Compile's refusal, or what the form that it wrote reads.
+-- `read_text::read_parts` meets its contract: Compile's refusal, or the answer by the form that it wrote.
 use Prim.Native.Nat.{ℕ}
 use mathlib.Core.Path.{sym, subst}
 use mathlib.Core.List.{List}

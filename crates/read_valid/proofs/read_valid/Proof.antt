@@ -1,4 +1,4 @@
--- `read_valid::read_valid` meets its contract: what Decode read, its word spelt out.
+-- `read_valid::read_valid` meets its contract: Decode's answer, with its word as characters.
 use Prim.Native.Nat.{_+_}
 use mathlib.Core.Path.{ap, _∙_, subst}
 use denote.Ref.{now}

@@ -12,7 +12,7 @@ nearby : (c : tie.After-reached)
     (c .before .before .before .before .before .before .before .args .front .left) (c .before .before .before .before .before .before .before .args .front .set) (c .reached .result)
 nearby c = let p = c .before .before .before .before .before .before .before .pre in record { sized = p .0; within = p .2; reached = c .reached .ensures; some = p .3 }
 
--- the lowest label
+-- the lowest label is the blank or one of the alphabet
 label : (c : tie.After-lowest) → c .lowest .result ≤ alphabetOf (now (c .before .before .before .before .before .before .before .before .before .args .form))
 label c = lowest-label (nearby (c .before .before)) (c .lowest .ensures)
 

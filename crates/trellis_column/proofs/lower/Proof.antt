@@ -1,4 +1,4 @@
--- `trellis_column::lower` meets its contract, by its two arms.
+-- `trellis_column::lower` meets its contract, in both branches.
 use native.Mathlib.Omega.{arith}
 use Rattle.trellis_column.proofs.lower.Statement.{statement}
 use Rattle.trellis_column.proofs.lower.Tie as tie

@@ -1,4 +1,4 @@
--- `trellis_column::lowest` meets its contract: the least of what the turns so far offered.
+-- `trellis_column::lowest` meets its contract: the loop has the lowest of the labels offered so far.
 use Prim.Native.Nat.{_≤_, _+_, _*_, _-_}
 use mathlib.Core.Path.{_≡_, sym, subst}
 use native.Mathlib.Omega.{arith}

@@ -11,7 +11,7 @@ use Rattle.trellis_column.specs.Loops.{offers-absent, offers-dear, offer
 use Rattle.trellis_column.proofs.offered.Statement.{statement}
 use Rattle.trellis_column.proofs.offered.Tie as tie
 
--- the label is one of the column
+-- the label has a cost in the column
 inside : (c : tie.After-entering) → c .entering .result ≤ alphabetOf (now (c .before .before .before .before .before .before .args .form))
 inside c =
     let a = c .before .before .before .before .before .before .args in

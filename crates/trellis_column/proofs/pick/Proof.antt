@@ -1,4 +1,4 @@
--- `trellis_column::pick` meets its contract, by its two arms.
+-- `trellis_column::pick` meets its contract, in both branches.
 use native.Mathlib.Omega.{arith}
 use denote.Ref.{now}
 use borrow.Author.Needs.{needs}

@@ -1,4 +1,4 @@
--- `trellis_column::picked` meets its contract: the turns so far have marked their states.
+-- `trellis_column::picked` meets its contract: the iterations so far have marked their states.
 use Prim.Native.Nat.{_≤_, _+_, _*_, _-_}
 use mathlib.Core.Path.{_≡_}
 use mathlib.Core.Bool.{false}

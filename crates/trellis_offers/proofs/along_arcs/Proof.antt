@@ -1,4 +1,4 @@
--- `trellis_offers::along_arcs` meets its contract: the least along the arc words that are passed.
+-- `trellis_offers::along_arcs` meets its contract: the loop has the least along the arc words so far.
 use Prim.Native.Nat.{_-_, _≤_}
 use native.Mathlib.Omega.{arith}
 use borrow.Author.Needs.{needs}

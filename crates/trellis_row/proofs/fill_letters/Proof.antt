@@ -1,4 +1,4 @@
--- `trellis_row::fill_letters` meets its contract: the states of the letters that are passed.
+-- `trellis_row::fill_letters` meets its contract: the loop has written the states of the letters so far.
 use Prim.Native.Nat.{_+_, _-_, _≤_}
 use mathlib.Core.Path.{_≡_, subst}
 use native.Mathlib.Omega.{arith}

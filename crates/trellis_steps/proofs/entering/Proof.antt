@@ -1,4 +1,4 @@
--- `trellis_steps::entering` meets its contract: an even state is one in blanks, and an odd one is on a letter.
+-- `trellis_steps::entering` meets its contract: an even state is in blanks, and an odd one is on a letter.
 use Prim.Native.Nat.{_+_, _/_}
 use mathlib.Core.Path.{sym, _∙_}
 use native.Mathlib.Omega.{arith}

@@ -1,4 +1,4 @@
--- `trellis_steps::mark_first` meets its contract, by its two arms.
+-- `trellis_steps::mark_first` meets its contract, in both branches.
 use mathlib.Core.Path.{sym, _∙_}
 use denote.Ref.{now}
 use borrow.Author.Needs.{needs}

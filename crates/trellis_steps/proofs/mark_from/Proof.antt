@@ -1,4 +1,4 @@
--- `trellis_steps::mark_from` meets its contract, by its two arms.
+-- `trellis_steps::mark_from` meets its contract, in both branches.
 use denote.Ref.{now}
 use borrow.Author.Needs.{needs}
 use Rattle.automaton.specs.Form.{view}

@@ -1,4 +1,4 @@
--- `trellis_steps::mark_letter` meets its contract, by its two arms.
+-- `trellis_steps::mark_letter` meets its contract, in both branches.
 use mathlib.Core.Path.{sym, _∙_}
 use native.Mathlib.Omega.{arith}
 use denote.Ref.{now}

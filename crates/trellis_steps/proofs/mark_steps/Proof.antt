@@ -1,4 +1,4 @@
--- `trellis_steps::mark_steps` meets its contract: the two states, then the letters behind.
+-- `trellis_steps::mark_steps` meets its contract: the two states, then the letters that may follow.
 use Prim.Native.Nat.{_+_, _*_, _/_}
 use mathlib.Core.Path.{subst}
 use mathlib.Core.Bool.{true}

@@ -1,4 +1,4 @@
--- `trellis_steps::reached` meets its contract: the turns so far have marked what steps from their states lead to.
+-- `trellis_steps::reached` meets its contract: the iterations so far have marked what steps from their states lead to.
 use Prim.Native.Nat.{_≤_, _+_, _*_, _-_}
 use mathlib.Core.Path.{_≡_}
 use mathlib.Core.Bool.{false}

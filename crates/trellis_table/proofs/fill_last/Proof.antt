@@ -1,4 +1,4 @@
--- `trellis_table::fill_last` meets its contract: the states that are passed.
+-- `trellis_table::fill_last` meets its contract: the loop has written the states so far.
 use Prim.Native.Nat.{_+_, _*_, _-_, _<_, _≤_}
 use mathlib.Core.Path.{_≡_, subst}
 use native.Mathlib.Omega.{arith}
@@ -30,7 +30,7 @@ loop-holds c = let a = c .before .before .before .args in (omega arith, last-non
 last-cost-requires : tie.Need-last-cost-requires Inv-loop μ-loop
 last-cost-requires c κs = (c .before .before .before .before .before .pre .0, omega (arith, c .before .before .letters .ensures, c .loop-test .taken))
 
--- the place of state s lies in the memory
+-- the place of state s is in the memory
 inside : (c : tie.After-last-cost Inv-loop μ-loop) → (c .before .before .loop .s ≤ 254) × (c .before .before .before .before .before .before .args .base + c .before .before .loop .s < length (c .before .before .loop .work))
 inside c =
     let few = c .before .before .before .before .before .before .pre .0 .head .letters-high in

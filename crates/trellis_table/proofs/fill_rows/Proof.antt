@@ -1,4 +1,4 @@
--- `trellis_table::fill_rows` meets its contract: the rows from that of column t on.
+-- `trellis_table::fill_rows` meets its contract: the loop has written the rows from that of column t on.
 use Prim.Native.Nat.{_+_, _*_, _-_, _<_, _≤_}
 use mathlib.Core.Path.{_≡_, sym, subst}
 use native.Mathlib.Omega.{arith}
@@ -28,7 +28,7 @@ loop-holds c =
 sub-t : tie.Need-sub-t Inv-loop μ-loop
 sub-t c = omega (arith, c .loop-test .taken)
 
--- the column in front, and the places of its costs and rows
+-- the column before t, and the places of its costs and rows
 column : (c : tie.In-loop Inv-loop μ-loop) → c .before .loop .t - 1 < c .before .before .before .before .before .before .args .count
 column c = omega (arith, c .loop-test .taken, c .before .loop .inv .0)
 

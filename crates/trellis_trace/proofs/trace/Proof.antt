@@ -1,4 +1,4 @@
--- `trellis_trace::trace` meets its contract: what is written leads to the front, column by column.
+-- `trellis_trace::trace` meets its contract: the labels so far lead to the front.
 use Prim.Native.Nat.{_≤_, _+_, _*_, _-_}
 use mathlib.Core.Path.{refl, sym}
 use native.Mathlib.Omega.{arith}
@@ -16,7 +16,7 @@ Inv-loop form costs width count work base stride path₀ starts states price fro
 abbrev μ-loop : tie.MeasureT-loop
 μ-loop form costs width count work base stride path₀ starts states price front₀ t₀ path front t = count - t
 
--- the column and the row lie inside
+-- the column and the row are inside their lists
 column : (c : tie.In-loop Inv-loop μ-loop) → c .before .loop .t * c .before .before .before .before .before .before .before .before .before .args .width + c .before .before .before .before .before .before .before .before .before .args .width ≤ length (now (c .before .before .before .before .before .before .before .before .before .args .costs))
 column c = column-inside (c .before .before .before .before .before .before .before .before .before .pre .0) (c .before .loop .t) (c .loop-test .taken)
 
