@@ -7,7 +7,8 @@ use lib.ListN.{length}
 use lib.Dec.{leb}
 use borrow.Author.Tests.{leb-true, not-false}
 use Rattle.lists.specs.RangeLaws.{range-below, range-above, range-inside}
-use Rattle.lists.specs.Lists.{in-range, all}
+use Rattle.lists.specs.Lists.{in-range}
+use Rattle.lists.specs.Each.{all}
 use Rattle.lists.specs.OrderLaws.{and-left, and-right}
 use Rattle.refusal.specs.declared.Refusal.the-variants.{Alphabet, TextLength, TextByte}
 use Rattle.refusal.specs.declared.Checked.the-variants.{Passed, Refused}

@@ -11,7 +11,8 @@ use lib.ListN.{length, getD, drop, length-append, length-map, take-append-drop}
 use lib.Seq.{take-at, drop-at, drop-cons, drop-drop, ext-getD, getD-take, getD-drop}
 use borrow.Author.Tests.{eq-eqb, eqb-true}
 use Rattle.lists.specs.OrderLaws.{same-truth, and-left, and-right, and-both}
-use Rattle.lists.specs.Lists.{Each, Among, any, keep, numbers, Ascending}
+use Rattle.lists.specs.Lists.{Among, any, keep, numbers, Ascending}
+use Rattle.lists.specs.Each.{Each}
 use Rattle.lists.specs.AmongLaws.{any-among, among-any, among-each, each-among, among-map, map-among, among-keep, keep-among, among-flat, flat-among}
 use Rattle.lists.specs.AscendingLaws.{length-numbers, map-numbers-at, among-numbers, numbers-among, ascending-numbers, ascending-keep, ascending-map, ascending-flat, ascending-same}
 use Rattle.automaton.specs.Automaton.{Automaton, Accepts}

@@ -5,7 +5,8 @@ use mathlib.Core.Bool.{true, false, _&&_, _||_}
 use mathlib.Core.List.{List, [], _∷_, _++_, map, flatMap}
 use lib.ListN.{replicate}
 use lib.Dec.{eqb}
-use Rattle.lists.specs.Lists.{in-range, all, any, keep, numbers}
+use Rattle.lists.specs.Lists.{in-range, any, keep, numbers}
+use Rattle.lists.specs.Each.{all}
 use Rattle.automaton.specs.Automaton.{Automaton}
 use Rattle.automaton.specs.Accepted.{spells, accepts}
 use Rattle.automaton.specs.Form.{lettersOf, alphabetOf, labelOf, ordered, validForm, followOf, endsOf, view, encode}

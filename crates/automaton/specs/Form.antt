@@ -5,7 +5,8 @@ use mathlib.Core.Bool.{Bool, true, cond, _&&_, _||_}
 use mathlib.Core.List.{List, [], _∷_, _++_, map, flatMap}
 use lib.Dec.{leb, ltb, eqb}
 use lib.ListN.{length, getD, take, drop}
-use Rattle.lists.specs.Lists.{in-range, all, any, keep, numbers}
+use Rattle.lists.specs.Lists.{in-range, any, keep, numbers}
+use Rattle.lists.specs.Each.{all}
 use Rattle.automaton.specs.Automaton.{Automaton}
 
 abbrev pub bit : Bool → ℕ

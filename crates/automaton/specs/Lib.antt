@@ -7,6 +7,7 @@ pub mod Words
 pub mod Valid
 pub mod ValidLaws
 pub mod FormAccepts
+pub mod FormAcceptsLaws
 pub mod Encode
 pub mod Examples
 pub mod Arrays

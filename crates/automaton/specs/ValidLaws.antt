@@ -9,7 +9,8 @@ use lib.ListN.{length, getD, drop, length-drop}
 use lib.Seq.{getD-drop, getD-take, length-take-le}
 use borrow.Author.Tests.{leb-true, ltb-true, eqb-true, le-leb, lt-ltb, eq-eqb}
 use Rattle.lists.specs.RangeLaws.{range-inside, range-true}
-use Rattle.lists.specs.Lists.{in-range, all, Each, Among, Ascending}
+use Rattle.lists.specs.Lists.{in-range, Among, Ascending}
+use Rattle.lists.specs.Each.{all, Each}
 use Rattle.lists.specs.OrderLaws.{and-left, and-right, and-both, and-three, and-all-three}
 use Rattle.lists.specs.EachLaws.{all-each, each-all, each-at, each-map}
 use Rattle.lists.specs.AmongLaws.{any-among, among-any, among-at, among-index}

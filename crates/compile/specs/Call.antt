@@ -18,10 +18,10 @@ abbrev pub formed : List ℕ → ℕ → Tree → Verdict (List ℕ)
 formed A room t = unless (check (ltb 127 (letterCount A t)) Letters ∷ (check (ltb room (length (formOf A t))) FormMemory ∷ [])) (formOf A t)
 
 -- refusals 4 to 8 are the parser's: that of the leftmost fault
-abbrev pub read-form : List ℕ → ℕ → Parsing Tree → Verdict (List ℕ)
-read-form A room (found t rest) = formed A room t
-read-form A room (fault n rest) = refused n
+abbrev pub parsed-form : List ℕ → ℕ → Parsing Tree → Verdict (List ℕ)
+parsed-form A room (found t rest) = formed A room t
+parsed-form A room (fault n rest) = refused n
 
 -- what Compile fills, with this much room for the form
 unfoldable pub compile-call : (A s : List ℕ) (room : ℕ) → Verdict (List ℕ)
-compile-call A s room = if-passed (unless (text-checks A s) s) (λ s. read-form A room (expressionOf A s))
+compile-call A s room = if-passed (unless (text-checks A s) s) (λ s. parsed-form A room (expressionOf A s))

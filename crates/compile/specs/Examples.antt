@@ -6,7 +6,8 @@ use mathlib.Core.Bool.{Bool, true, false, _&&_}
 use mathlib.Core.List.{List, [], _∷_, flatMap}
 use lib.ListN.{length}
 use lib.Dec.{eqb, ltb}
-use Rattle.lists.specs.Lists.{all, any, keep, numbers}
+use Rattle.lists.specs.Lists.{any, keep, numbers}
+use Rattle.lists.specs.Each.{all}
 use Rattle.refusal.specs.declared.Refusal.the-variants.{FormMemory}
 use Rattle.refusal.specs.Number.{numberOf}
 use Rattle.refusal.specs.Verdict.{Verdict, passed, refused, check, unless, if-passed}

@@ -1,4 +1,5 @@
 pub mod Call
+pub mod Means
 pub mod Meaning
 pub mod Compilable
 pub mod Steps

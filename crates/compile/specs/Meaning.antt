@@ -3,41 +3,32 @@
 use Prim.Native.Nat.{ℕ, _≤_}
 use mathlib.Core.Path.{_≡_, refl, sym, ap, _∙_, subst}
 use mathlib.Core.Bool.{Bool, true, false, not, _&&_}
-use mathlib.Core.Logic.{_↔_, Iff·trans, Iff·symm}
+use mathlib.Core.Logic.{Iff·trans, Iff·symm}
 use mathlib.Core.List.{List, [], _∷_}
 use native.Mathlib.Omega.{arith}
 use lib.ListN.{length}
 use lib.Dec.{leb, ltb}
 use borrow.Author.Tests.{leb-true, ltb-false, le-ltb, not-false}
-use Rattle.lists.specs.Lists.{in-range, all}
+use Rattle.lists.specs.Lists.{in-range}
+use Rattle.lists.specs.Each.{all}
 use Rattle.lists.specs.OrderLaws.{and-left, and-right}
 use Rattle.refusal.specs.declared.Refusal.{Refusal}
 use Rattle.refusal.specs.declared.Refusal.the-variants.{Alphabet, TextLength, TextByte, Letters, FormMemory}
 use Rattle.refusal.specs.Verdict.{Verdict, passed, refused, Check, check, unless, if-passed, first-refusal}
 use Rattle.refusal.specs.VerdictLaws.{unless-neither, first-all}
 use Rattle.refusal.specs.declared.Checked.the-variants.{Passed}
-use Rattle.automaton.specs.Automaton.{Accepts}
-use Rattle.automaton.specs.Form.{validForm, view, lettersOf, alphabetOf}
 use Rattle.regex.specs.Tree.{Tree}
 use Rattle.regex.specs.Parsing.{Parsing, found, fault}
 use Rattle.regex.specs.Letters.{letterCount}
 use Rattle.regex.specs.Parse.{expressionOf}
-use Rattle.regex.specs.Grammar.{TextOf, WordsOf}
+use Rattle.regex.specs.Grammar.{TextOf}
 use Rattle.regex.specs.Exact.{exact, words-of-text, expression-whole}
 use Rattle.regex.specs.Sense.{sensible}
 use Rattle.positions.specs.Compiled.{formOf}
 use Rattle.positions.specs.CompiledLaws.{form-valid, form-alphabet, form-letters, form-words}
 use Rattle.alphabet.specs.Alphabet.{distinct, is-alphabet, text-checks}
-use Rattle.compile.specs.Call.{read-form, compile-call}
-
--- the form f is that of the text s over the alphabet A: valid, with its K and L, and with the text's words
-pub record Means (A s f : List ℕ) : Type 0 where
-  pub valid : validForm f ≡ true
-  pub alphabet : alphabetOf f ≡ length A
-  pub tree : Tree
-  pub text : TextOf A 16 tree s
-  pub letters : lettersOf f ≡ letterCount A tree
-  pub words : (w : List ℕ) → Accepts (view f) w ↔ WordsOf A s w
+use Rattle.compile.specs.Call.{parsed-form, compile-call}
+use Rattle.compile.specs.Means.{Means}
 
 -- what passed a list of checks passed each
 unless-passed : {X : Type 0} (t : Bool) (n : Refusal) (cs : List Check) (a b : X) → unless (check t n ∷ cs) a ≡ passed b → (t ≡ false) × (unless cs a ≡ passed b)
@@ -50,7 +41,7 @@ unfolding unless
 unless-same a b e = cc
 
 module _ (A s : List ℕ) (room : ℕ) (f : List ℕ) where
-  tree : (low : 1 ≤ length A) (high : length A ≤ 95) (y : Parsing Tree) → expressionOf A s ≡ y → read-form A room y ≡ passed f → Means A s f
+  tree : (low : 1 ≤ length A) (high : length A ≤ 95) (y : Parsing Tree) → expressionOf A s ≡ y → parsed-form A room y ≡ passed f → Means A s f
   tree low high (fault n rest) e h = let z : _≡_ {A = ℕ} 0 1 = cc in absurd (omega arith)
   tree low high (found t rest) e h =
       let a = unless-passed (ltb 127 (letterCount A t)) Letters (check (ltb room (length (formOf A t))) FormMemory ∷ []) (formOf A t) f h in
@@ -74,7 +65,7 @@ module _ (A s : List ℕ) (room : ℕ) (f : List ℕ) where
   unfolding compile-call if-passed
   compiled-means e = by (unless (text-checks A s) s) refl e
     where
-      by : (v : Verdict (List ℕ)) → unless (text-checks A s) s ≡ v → if-passed v (λ s. read-form A room (expressionOf A s)) ≡ passed f → Means A s f
+      by : (v : Verdict (List ℕ)) → unless (text-checks A s) s ≡ v → if-passed v (λ s. parsed-form A room (expressionOf A s)) ≡ passed f → Means A s f
       by (refused n) h g = let z : _≡_ {A = ℕ} 0 1 = cc in absurd (omega arith)
       by (passed s′) h g =
           let a = unless-passed (not (is-alphabet A)) Alphabet (check (not (in-range 1 255 (length s))) TextLength ∷ (check (not (all (in-range 32 126) s)) TextByte ∷ [])) s s′ h in
@@ -90,6 +81,6 @@ module _ (A s : List ℕ) (room : ℕ) (f : List ℕ) where
       → compile-call A s room ≡ passed (formOf A t)
   unfolding compile-call if-passed
   compiles t e x h l =
-      ap (λ v. if-passed v (λ s. read-form A room (expressionOf A s))) (first-all s (text-checks A s) e)
-      ∙ ap (read-form A room) (exact A s t .1 x)
+      ap (λ v. if-passed v (λ s. parsed-form A room (expressionOf A s))) (first-all s (text-checks A s) e)
+      ∙ ap (parsed-form A room) (exact A s t .1 x)
       ∙ unless-neither (formOf A t) (ltb 127 (letterCount A t)) (ltb room (length (formOf A t))) Letters FormMemory (le-ltb 127 (letterCount A t) h) (le-ltb room (length (formOf A t)) l)

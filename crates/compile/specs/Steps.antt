@@ -34,25 +34,25 @@ use Rattle.positions_parts.specs.declared.Built.{Built}
 use Rattle.positions_letters.specs.Found.{treeOf}
 use Rattle.positions_build.specs.Whole.{treeOfText, Buildable, BuildsWhole}
 use Rattle.positions_build.specs.WholeLaws.{no-arc}
-use Rattle.compile.specs.Call.{read-form, compile-call}
+use Rattle.compile.specs.Call.{parsed-form, compile-call}
 use Rattle.compile.specs.Compilable.{Compilable}
 
 module _ (A s : List ℕ) (room : ℕ) where
   -- the leftmost fault
-  pub text-refused : (x : Refusal) → Refused x ≡ parsed A s → read-form A room (expressionOf A s) ≡ refused x
+  pub text-refused : (x : Refusal) → Refused x ≡ parsed A s → parsed-form A room (expressionOf A s) ≡ refused x
   unfolding parsed
   text-refused x e = by (expressionOf A s) e
     where
-      by : (y : Parsing Tree) → Refused x ≡ parsedOf A y → read-form A room y ≡ refused x
+      by : (y : Parsing Tree) → Refused x ≡ parsedOf A y → parsed-form A room y ≡ refused x
       by (found t r) e = let z : _≡_ {A = ℕ} 0 1 = cc in absurd (omega arith)
       by (fault n r) e = let q : n ≡ x = cc in ap refused q
 
   -- too many letters
-  pub text-many : (n : ℕ) → Letters n ≡ parsed A s → 127 < n → read-form A room (expressionOf A s) ≡ refused refusal.Letters
+  pub text-many : (n : ℕ) → Letters n ≡ parsed A s → 127 < n → parsed-form A room (expressionOf A s) ≡ refused refusal.Letters
   unfolding parsed
   text-many n e h = by (expressionOf A s) e
     where
-      by : (y : Parsing Tree) → Letters n ≡ parsedOf A y → read-form A room y ≡ refused refusal.Letters
+      by : (y : Parsing Tree) → Letters n ≡ parsedOf A y → parsed-form A room y ≡ refused refusal.Letters
       by (fault m r) e = let z : _≡_ {A = ℕ} 0 1 = cc in absurd (omega arith)
       by (found t r) e =
           let q : n ≡ few (letterCount A t) = cc in
@@ -71,11 +71,11 @@ module _ (A s : List ℕ) (room : ℕ) where
           record { reads = ap is-found g; within = omega arith }
 
   -- and then the form
-  pub text-form : Compilable A s → read-form A room (expressionOf A s) ≡ form-call (length A) (automatonOf A (treeOfText A s)) room
+  pub text-form : Compilable A s → parsed-form A room (expressionOf A s) ≡ form-call (length A) (automatonOf A (treeOfText A s)) room
   unfolding form-call
   text-form c = by (expressionOf A s) (c .reads) (c .within)
     where
-      by : (y : Parsing Tree) → is-found y ≡ true → letterCount A (treeOf y) ≤ 127 → read-form A room y ≡ form-call (length A) (automatonOf A (treeOf y)) room
+      by : (y : Parsing Tree) → is-found y ≡ true → letterCount A (treeOf y) ≤ 127 → parsed-form A room y ≡ form-call (length A) (automatonOf A (treeOf y)) room
       by (fault m r) e h = let z : _≡_ {A = ℕ} 0 1 = cc in absurd (omega arith)
       by (found t r) e h =
           unless-fails (formOf A t) (ltb 127 (letterCount A t)) refusal.Letters (check (ltb room (length (formOf A t))) refusal.FormMemory ∷ []) (le-ltb 127 (letterCount A t) h)
@@ -83,11 +83,11 @@ module _ (A s : List ℕ) (room : ℕ) where
   -- refusals 1 to 3
   pub call-refused : (n : Refusal) → checks.Refused n ≡ first-refusal (text-checks A s) → compile-call A s room ≡ refused n
   unfolding compile-call if-passed
-  call-refused n e = ap (λ v. if-passed v (λ s. read-form A room (expressionOf A s))) (first-refused s n (text-checks A s) (sym e))
+  call-refused n e = ap (λ v. if-passed v (λ s. parsed-form A room (expressionOf A s))) (first-refused s n (text-checks A s) (sym e))
 
-  pub call-passed : checks.Passed ≡ first-refusal (text-checks A s) → compile-call A s room ≡ read-form A room (expressionOf A s)
+  pub call-passed : checks.Passed ≡ first-refusal (text-checks A s) → compile-call A s room ≡ parsed-form A room (expressionOf A s)
   unfolding compile-call if-passed
-  call-passed e = ap (λ v. if-passed v (λ s. read-form A room (expressionOf A s))) (first-all s (text-checks A s) (sym e))
+  call-passed e = ap (λ v. if-passed v (λ s. parsed-form A room (expressionOf A s))) (first-all s (text-checks A s) (sym e))
 
 -- Built over cleared arrays.
 pub buildable : (A s : List ℕ) → length A ≤ 95 → Compilable A s → Buildable A s (replicate 127 0) (replicate 127 (replicate 127 false))

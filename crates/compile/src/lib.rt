@@ -6,12 +6,12 @@ use refusal::Refusal;
 ghost use Prim.Native.Nat.{_≤_};
 ghost use lib.ListN.{length};
 ghost use Rattle.lists.specs.Memory.{old, new};
-ghost use Rattle.refusal.specs.Report.{reported, Fills};
+ghost use Rattle.refusal.specs.Fills.{reported, Fills};
 ghost use Rattle.regex.specs.Parse.{expressionOf};
 ghost use Rattle.positions.specs.Numbered.{automatonOf};
 ghost use Rattle.form_encode.specs.Call.{form-call};
 ghost use Rattle.positions_build.specs.Whole.{treeOfText};
-ghost use Rattle.compile.specs.Call.{read-form, compile-call};
+ghost use Rattle.compile.specs.Call.{parsed-form, compile-call};
 ghost use Rattle.compile.specs.Compilable.{Compilable};
 
 // Writes the form of a well-formed text with at most 127 letters: its arcs are known, as an array of arrays, before the first word is
@@ -42,7 +42,7 @@ fn write(alphabet: &[u8], text: &[u8], form: &mut [u32]) -> Counted
 // Compile, where refusals 1 to 3 do not apply.
 fn compile_text(alphabet: &[u8], text: &[u8], form: &mut [u32]) -> Counted
     requires { ⌜ length (now alphabet) ≤ 95 ⌝ }
-    ensures { λ r. ⌜ Fills (read-form (old alphabet) (length (old form)) (expressionOf (old alphabet) (old text))) (reported r) (old form)
+    ensures { λ r. ⌜ Fills (parsed-form (old alphabet) (length (old form)) (expressionOf (old alphabet) (old text))) (reported r) (old form)
         (new form) ⌝ }
 {
     match regex_parse::expression(alphabet, text) {

@@ -7,7 +7,7 @@ ghost use Prim.Native.Nat.{_*_, _^_, _≤_};
 ghost use mathlib.Core.List.{map};
 ghost use lib.ListN.{length};
 ghost use Rattle.lists.specs.Memory.{old, new, Wrote};
-ghost use Rattle.refusal.specs.Report.{reported, Fills};
+ghost use Rattle.refusal.specs.Fills.{reported, Fills};
 ghost use Rattle.confidence.specs.Cost.{shift, cost-of, costs-call};
 
 // The square of a number up to the fourth power of 255.

@@ -7,7 +7,7 @@ use native.Mathlib.Omega.{arith}
 use lib.ListN.{length}
 use lib.Dec.{eqb}
 use borrow.Author.Tests.{eqb-true, eqb-false, eq-eqb, ne-eqb}
-use Rattle.lists.specs.Lists.{Each}
+use Rattle.lists.specs.Each.{Each}
 use Rattle.ctc.specs.Collapse.{omitting, merge, without-blanks, collapse}
 
 -- Collapse from the left, one label at a time: what a path adds to the word after label a.

@@ -9,7 +9,7 @@ use lib.ListN.{length}
 use lib.Dec.{eqb}
 use borrow.Author.Tests.{eqb-false, ne-eqb}
 use Rattle.lists.specs.OrderLaws.{eq-or-ne}
-use Rattle.lists.specs.Lists.{Each}
+use Rattle.lists.specs.Each.{Each}
 use Rattle.ctc.specs.Collapse.{collapse}
 use Rattle.ctc.specs.CollapseLaws.{after, after-same, after-blank, after-new, collapse-after, collapse-letters}
 use Rattle.ctc.specs.Spread.{parted, spread, pairs, Shortest}

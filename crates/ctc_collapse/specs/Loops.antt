@@ -7,7 +7,7 @@ use native.Mathlib.Omega.{arith}
 use lib.ListN.{length, getD, drop, set}
 use borrow.Author.Tests.{eq-eqb, ne-eqb}
 use Rattle.lists.specs.EachLaws.{drop-here, drop-all}
-use Rattle.lists.specs.Memory.{Stored}
+use Rattle.lists.specs.Stored.{Stored}
 use Rattle.ctc.specs.CollapseLaws.{after}
 use Rattle.ctc_collapse.specs.Added.{added}
 use lib.Dec.{eqb}

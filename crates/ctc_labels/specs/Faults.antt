@@ -6,7 +6,8 @@ use mathlib.Core.List.{List}
 use lib.ListN.{length}
 use lib.Dec.{leb, ltb}
 use borrow.Author.Tests.{lt-ltb, le-ltb, leb-true, not-false}
-use Rattle.lists.specs.Lists.{in-range, all, Each}
+use Rattle.lists.specs.Lists.{in-range}
+use Rattle.lists.specs.Each.{all, Each}
 use Rattle.lists.specs.OrderLaws.{and-left, or-neither}
 use Rattle.lists.specs.EachLaws.{all-each}
 use Rattle.ctc_labels.specs.Calls.{label-fault}

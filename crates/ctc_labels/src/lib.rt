@@ -3,7 +3,8 @@ use numbers::in_range;
 use numbers::wide;
 ghost use mathlib.Core.Path.{_≡_};
 ghost use Rattle.lists.specs.Memory.{old};
-ghost use Rattle.lists.specs.Lists.{in-range, all};
+ghost use Rattle.lists.specs.Lists.{in-range};
+ghost use Rattle.lists.specs.Each.{all};
 ghost use Rattle.ctc_labels.specs.Calls.{label-fault};
 
 // Is each number of a list from `low` to `high`?

@@ -9,7 +9,7 @@ use lib.ListN.{length, getD, drop, set, length-drop}
 use lib.Dec.{eqb}
 use borrow.Author.Tests.{eq-eqb, ne-eqb}
 use Rattle.lists.specs.EachLaws.{drop-here, drop-all}
-use Rattle.lists.specs.Memory.{Stored}
+use Rattle.lists.specs.Stored.{Stored}
 use Rattle.ctc.specs.Spread.{pairs, parted}
 use Rattle.ctc.specs.SpreadLaws.{spread-after}
 use Rattle.ctc_spread.specs.Spaced.{spaced}

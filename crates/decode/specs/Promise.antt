@@ -5,7 +5,8 @@ use Rattle.refusal.specs.Verdict.{first-refusal}
 use Rattle.refusal.specs.Report.{Report}
 use Rattle.matrix.specs.Matrix.{Matrix}
 use Rattle.decode_checks.specs.Checks.{decode-checks}
-use Rattle.decode_valid.specs.Answers.{Lent, rooms, DecodeAnswers, Checks}
+use Rattle.decode_valid.specs.Answers.{DecodeAnswers, Checks}
+use Rattle.decode_valid.specs.Lent.{Lent, rooms}
 
 -- Decode's promise
 abbrev pub Decodes : (form : List ℕ) (M : Matrix) (before after : Lent) (answer : Report) → Type 0

@@ -14,7 +14,7 @@ ghost use Rattle.lists.specs.Memory.{old, new};
 ghost use Rattle.answers.specs.Decoded.{reported};
 ghost use Rattle.matrix.specs.Matrix.{matrix};
 ghost use Rattle.matrix.specs.View.{value};
-ghost use Rattle.decode_valid.specs.Answers.{lent};
+ghost use Rattle.decode_valid.specs.Lent.{lent};
 ghost use Rattle.decode.specs.Promise.{Decodes};
 
 // The work of Decode: the first refusal that applies, or the answer past the checks.

@@ -4,7 +4,7 @@ use mathlib.Core.Bool.{Bool, not, _||_}
 use mathlib.Core.List.{List, [], _∷_}
 use lib.ListN.{length}
 use lib.Dec.{leb, ltb, eqb}
-use Rattle.lists.specs.Lists.{all}
+use Rattle.lists.specs.Each.{all}
 use Rattle.refusal.specs.declared.Refusal.the-variants.{BadForm, Matrix as MatrixRefusal, Cost, OutputMemory, Work}
 use Rattle.refusal.specs.Verdict.{Check, check}
 use Rattle.automaton.specs.Form.{validForm, lettersOf, alphabetOf}

@@ -2,7 +2,8 @@
 use Prim.Native.Nat.{ℕ, _+_, _*_, _≤_}
 use mathlib.Core.Path.{_≡_}
 use lib.ListN.{length}
-use Rattle.matrix.specs.Matrix.{Matrix, CostsPass}
+use Rattle.matrix.specs.Matrix.{Matrix}
+use Rattle.matrix.specs.Paths.{CostsPass}
 use Rattle.decode_checks.specs.Checks.{Rooms, needed}
 
 -- the matrix and the memory fit a form of l letters over k characters

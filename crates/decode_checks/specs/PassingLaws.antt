@@ -10,12 +10,13 @@ use lib.Dec.{ltb, eqb}
 use borrow.Author.Tests.{lt-ltb, le-ltb, ltb-false, ne-eqb, eq-eqb, eqb-true, leb-true, not-false}
 use Rattle.lists.specs.OrderLaws.{or-neither}
 use Rattle.lists.specs.EachLaws.{all-each}
-use Rattle.lists.specs.Lists.{all}
+use Rattle.lists.specs.Each.{all}
 use Rattle.refusal.specs.declared.Refusal.the-variants.{Matrix as MatrixRefusal, Cost, OutputMemory, Work}
 use Rattle.refusal.specs.declared.Checked.the-variants.{Passed, Refused}
 use Rattle.refusal.specs.Verdict.{Check, check, first-refusal}
 use Rattle.refusal.specs.VerdictLaws.{first-holds, first-fails, first-passed}
-use Rattle.matrix.specs.Matrix.{Matrix, Usable}
+use Rattle.matrix.specs.Matrix.{Matrix}
+use Rattle.matrix.specs.Paths.{Usable}
 use Rattle.decode_checks.specs.Checks.{Rooms, needed, matrix-fault, passes, matrix-checks}
 use Rattle.decode_checks.specs.Passing.{Fits}
 

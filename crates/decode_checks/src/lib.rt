@@ -5,7 +5,7 @@ use refusal::Refusal;
 ghost use mathlib.Core.Path.{_≡_};
 ghost use Prim.Native.Nat.{_≤_};
 ghost use Rattle.lists.specs.Memory.{old};
-ghost use Rattle.lists.specs.Lists.{all};
+ghost use Rattle.lists.specs.Each.{all};
 ghost use Rattle.refusal.specs.Verdict.{first-refusal};
 ghost use Rattle.matrix.specs.Matrix.{matrix};
 ghost use Rattle.decode_checks.specs.Checks.{passes, matrix-fault, matrix-checks};

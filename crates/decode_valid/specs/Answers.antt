@@ -15,19 +15,8 @@ use Rattle.automaton.specs.Automaton.{Accepts}
 use Rattle.automaton.specs.Form.{view, lettersOf}
 use Rattle.matrix.specs.Matrix.{Matrix, price}
 use Rattle.outcome.specs.Outcome.{Outcome}
-use Rattle.decode_checks.specs.Checks.{Rooms, needed}
-
--- the lent lists
-pub record Lent : Type 0 where
-  pub path : List ℕ
-  pub word : List ℕ
-  pub work : List ℕ
-
-abbrev pub lent : (path word work : List ℕ) → Lent
-lent path word work = record { path = path; word = word; work = work }
-
-abbrev pub rooms : Lent → Rooms
-rooms m = record { path = length (m .path); word = length (m .word); work = length (m .work) }
+use Rattle.decode_checks.specs.Checks.{needed}
+use Rattle.decode_valid.specs.Lent.{Lent}
 
 -- What is reported of an outcome, and what is written to path and word memory.
 

@@ -4,7 +4,8 @@ use Rattle.refusal.specs.declared.Refusal.{Refusal}
 use Rattle.refusal.specs.declared.Checked.{Checked}
 use Rattle.refusal.specs.declared.Checked.the-variants.{Passed, Refused}
 use Rattle.refusal.specs.Report.{Report, turned-away}
-use Rattle.decode_valid.specs.Answers.{Lent, Checks}
+use Rattle.decode_valid.specs.Answers.{Checks}
+use Rattle.decode_valid.specs.Lent.{Lent}
 
 module _ (c : Checked) (Passes : (before after : Lent) (answer : Report) → Type 0) where
   pub checks-refused : (n : Refusal) (memory : Lent) → c ≡ Refused n → Checks c Passes memory memory (turned-away n)

@@ -3,8 +3,8 @@ use Prim.Native.Nat.{ℕ, _≤_}
 use mathlib.Core.Path.{_≡_}
 use mathlib.Core.Logic.{_⊎_}
 use mathlib.Core.List.{List}
-use lib.ListN.{length, drop}
-use Rattle.lists.specs.Lists.{Each}
+use lib.ListN.{length}
+use Rattle.lists.specs.Each.{Each}
 use Rattle.lists.specs.Memory.{written}
 use Rattle.refusal.specs.declared.Refusal.the-variants.{NoReading}
 use Rattle.refusal.specs.Report.{Report, turned-away}
@@ -12,7 +12,7 @@ use Rattle.answers.specs.Decoded.{read}
 use Rattle.ctc.specs.Collapse.{collapse}
 use Rattle.matrix.specs.Matrix.{Matrix, price}
 use Rattle.outcome.specs.Order.{NotAfter}
-use Rattle.decode_valid.specs.Answers.{Lent}
+use Rattle.decode_valid.specs.Lent.{Lent}
 
 -- what demand 3 calls a rival: a list of labels, one for each column, each 0 to k, whose collapse is a word
 pub record Plain-rival (Word : List ℕ → Type 0) (k : ℕ) (M : Matrix) (p : List ℕ) : Type 0 where
@@ -43,14 +43,3 @@ pub record No-reading (Word : List ℕ → Type 0) (k : ℕ) (M : Matrix) (befor
 
 abbrev pub Best-or-none : (Word : List ℕ → Type 0) (spelt : List ℕ → List ℕ) (k form : ℕ) (M : Matrix) (before after : Lent) (answer : Report) → Type 0
 Best-or-none Word spelt k form M before after answer = Best-reading Word spelt k form M before after answer ⊎ No-reading Word k M before after answer
-
--- a lent list has the length that it had, and from place n on it is as it was
-pub record Kept-from (n : ℕ) (before after : List ℕ) : Type 0 where
-  pub rest : drop n after ≡ drop n before
-  pub size : length after ≡ length before
-
--- after the path's T labels, after the counted word and after the needed work words, memory is as it was
-pub record Kept (need : ℕ) (M : Matrix) (before after : Lent) (answer : Report) : Type 0 where
-  pub path : Kept-from (M .count) (before .path) (after .path)
-  pub word : Kept-from (answer .filled) (before .word) (after .word)
-  pub work : Kept-from need (before .work) (after .work)

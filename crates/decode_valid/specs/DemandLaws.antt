@@ -9,7 +9,7 @@ use native.Mathlib.Omega.{arith}
 use lib.ListN.{length, drop}
 use lib.Seq.{drop-at}
 use Rattle.lists.specs.EachLaws.{each-map}
-use Rattle.lists.specs.Lists.{Each}
+use Rattle.lists.specs.Each.{Each}
 use Rattle.lists.specs.WrittenLaws.{written-none, length-written}
 use Rattle.lists.specs.Memory.{written}
 use Rattle.refusal.specs.declared.Checked.the-variants.{Passed}
@@ -18,13 +18,16 @@ use Rattle.refusal.specs.Report.{Report}
 use Rattle.answers.specs.Decoded.{read}
 use Rattle.ctc.specs.Collapse.{collapse}
 use Rattle.ctc.specs.CollapseLaws.{collapse-shorter}
-use Rattle.matrix.specs.Matrix.{Matrix, price, PathFrom}
+use Rattle.matrix.specs.Matrix.{Matrix, price}
+use Rattle.matrix.specs.Paths.{PathFrom}
 use Rattle.outcome.specs.Outcome.{Rival, OutcomeOf}
 use Rattle.outcome.specs.OutcomeLaws.{outcome-of-same, passing-rival}
 use Rattle.decode_checks.specs.Checks.{Rooms, matrix-checks}
 use Rattle.decode_checks.specs.PassingLaws.{fits}
-use Rattle.decode_valid.specs.Answers.{Lent, rooms, outcome-report, path-of, word-of, Answers}
-use Rattle.decode_valid.specs.Demand.{Plain-rival, No-rival, Best-or-none, Kept-from, Kept}
+use Rattle.decode_valid.specs.Answers.{outcome-report, path-of, word-of, Answers}
+use Rattle.decode_valid.specs.Lent.{Lent, rooms}
+use Rattle.decode_valid.specs.Demand.{Plain-rival, No-rival, Best-or-none}
+use Rattle.decode_valid.specs.Kept.{Kept-from, Kept}
 
 -- Past the checks every cost is usable, and a column has one for each label 0 to k. So a list is what demand 3 calls a rival
 -- exactly if it is a `Rival`.

@@ -14,7 +14,7 @@ use Rattle.ctc.specs.Collapse.{collapse}
 use Rattle.automaton.specs.Form.{view, lettersOf, alphabetOf}
 use Rattle.automaton.specs.Valid.{Valid}
 use Rattle.automaton.specs.ValidLaws.{valid-proper}
-use Rattle.matrix.specs.Matrix.{Matrix, price}
+use Rattle.matrix.specs.Matrix.{Matrix}
 use Rattle.trellis.specs.Impossible.{TOP}
 use Rattle.trellis.specs.CostToGo.{CostToGo}
 use Rattle.trellis.specs.Extended.{extended}
@@ -23,7 +23,8 @@ use Rattle.trellis_table.specs.Fill.{Sized, Filled, states}
 use Rattle.trellis_trace.specs.Traced.{Ready, Traced}
 use Rattle.trellis_trace.specs.Loops.{traced-front}
 use Rattle.decode_checks.specs.Passing.{Fits}
-use Rattle.decode_valid.specs.Answers.{Lent, rooms, DecodeAnswers}
+use Rattle.decode_valid.specs.Answers.{DecodeAnswers}
+use Rattle.decode_valid.specs.Lent.{Lent, rooms}
 
 module _ {f : List ℕ} (valid : Valid f) {M : Matrix} (before : Lent) (fits : Fits (alphabetOf f) (lettersOf f) M (rooms before)) where
   pub sized : Sized f M (before .work) (states f)

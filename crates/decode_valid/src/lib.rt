@@ -8,7 +8,8 @@ ghost use Rattle.automaton.specs.Form.{alphabetOf, lettersOf};
 ghost use Rattle.automaton.specs.Valid.{Valid};
 ghost use Rattle.matrix.specs.Matrix.{matrix};
 ghost use Rattle.decode_checks.specs.Passing.{Fits};
-ghost use Rattle.decode_valid.specs.Answers.{lent, rooms, DecodeAnswers};
+ghost use Rattle.decode_valid.specs.Answers.{DecodeAnswers};
+ghost use Rattle.decode_valid.specs.Lent.{lent, rooms};
 
 // Fills the table of costs to go and traces the best path through it; a price of TOP means that there is none.
 pub fn decode_valid(

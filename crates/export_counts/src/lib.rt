@@ -5,7 +5,7 @@ use refusal::number;
 ghost use mathlib.Core.Path.{_≡_};
 ghost use Prim.Native.Nat.{_<_, _^_};
 ghost use Rattle.lists.specs.Memory.{new};
-ghost use Rattle.refusal.specs.Report.{reported};
+ghost use Rattle.refusal.specs.Fills.{reported};
 ghost use Rattle.answers.specs.Judgement.{reported as judgement};
 ghost use Rattle.export_counts.specs.Handed.{length-alone, Hands, HandsJudgement};
 

@@ -13,7 +13,7 @@ use lib.Seq.{take-all}
 use borrow.Author.Tests.{eq-eqb, ne-eqb, lt-ltb, le-ltb}
 use Rattle.lists.specs.OrderLaws.{eq-or-ne}
 use Rattle.lists.specs.EachLaws.{drop-here, drop-all}
-use Rattle.lists.specs.Lists.{all}
+use Rattle.lists.specs.Each.{all}
 use Rattle.automaton.specs.Form.{bit, bit8, bit9, byte0, byte2, headWord, letterWord, isHead, isLetter, isArc, before, ordered, validForm, lettersOf, alphabetOf, letterWords, arcWords}
 use Rattle.automaton.specs.Words.{Arc, arc-true, before-less}
 

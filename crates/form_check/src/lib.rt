@@ -4,7 +4,7 @@ use numbers::in_range;
 ghost use mathlib.Core.Path.{_≡_};
 ghost use mathlib.Core.Bool.{_&&_};
 ghost use Rattle.lists.specs.Memory.{old};
-ghost use Rattle.lists.specs.Lists.{all};
+ghost use Rattle.lists.specs.Each.{all};
 ghost use Rattle.automaton.specs.Form.{isHead, isLetter, isArc, ordered, validForm};
 
 fn is_head(w: u32) -> bool

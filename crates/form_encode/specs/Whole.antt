@@ -8,7 +8,8 @@ use lib.ListN.{length, set, length-append, length-map}
 use Rattle.lists.specs.AscendingLaws.{length-numbers}
 use Rattle.lists.specs.Lists.{numbers}
 use Rattle.lists.specs.FillingLoops.{Filling, filling-none, filling-more, filling-stored, filling-room, filling-all}
-use Rattle.lists.specs.Memory.{Stored, Wrote}
+use Rattle.lists.specs.Memory.{Wrote}
+use Rattle.lists.specs.Stored.{Stored}
 use Rattle.automaton.specs.Form.{encode}
 use Rattle.form_encode_arcs.specs.Arcs.{arcsBy}
 use Rattle.automaton.specs.Arrays.{arrayed}

@@ -8,7 +8,8 @@ use native.Mathlib.Omega.{arith}
 use lib.ListN.{length, getD}
 use lib.Dec.{leb}
 use borrow.Author.Tests.{le-leb}
-use Rattle.lists.specs.Lists.{in-range, Each}
+use Rattle.lists.specs.Lists.{in-range}
+use Rattle.lists.specs.Each.{Each}
 use Rattle.lists.specs.OrderLaws.{and-both}
 use Rattle.lists.specs.EachLaws.{each-all}
 use Rattle.refusal.specs.declared.Refusal.the-variants.{BadForm, Label}
@@ -21,7 +22,8 @@ use Rattle.automaton.specs.Form.{bit8, validForm, alphabetOf, view}
 use Rattle.automaton.specs.Accepted.{accepts}
 use Rattle.automaton.specs.AcceptedLaws.{accepts-decides}
 use Rattle.automaton.specs.ValidLaws.{valid-at, view-proper}
-use Rattle.automaton.specs.FormAccepts.{WalkSpells, empty-accepted, nonempty-accepted}
+use Rattle.automaton.specs.FormAccepts.{WalkSpells}
+use Rattle.automaton.specs.FormAcceptsLaws.{empty-accepted, nonempty-accepted}
 use Rattle.judge.specs.Judge.{judged}
 
 module _ (form word : List ℕ) where

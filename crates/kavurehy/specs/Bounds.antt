@@ -9,7 +9,8 @@ use native.Mathlib.Omega.{arith}
 use lib.ListN.{length, length-append, length-map}
 use lib.Dec.{ltb}
 use borrow.Author.Tests.{ltb-false}
-use Rattle.lists.specs.Lists.{in-range, all, keep, numbers}
+use Rattle.lists.specs.Lists.{in-range, keep, numbers}
+use Rattle.lists.specs.Each.{all}
 use Rattle.lists.specs.OrderLaws.{or-neither}
 use Rattle.lists.specs.AmongLaws.{keep-shorter, flat-length}
 use Rattle.lists.specs.AscendingLaws.{length-numbers}
@@ -19,7 +20,8 @@ use Rattle.refusal.specs.declared.Checked.{Checked}
 use Rattle.refusal.specs.declared.Checked.the-variants.{Passed, Refused}
 use Rattle.refusal.specs.Verdict.{Verdict, passed, refused, check, unless, first-refusal}
 use Rattle.refusal.specs.VerdictLaws.{first-passed}
-use Rattle.refusal.specs.Report.{Report, report, Fills}
+use Rattle.refusal.specs.Report.{Report}
+use Rattle.refusal.specs.Fills.{report, Fills}
 use Rattle.ctc.specs.Collapse.{collapse}
 use Rattle.ctc.specs.CollapseLaws.{collapse-shorter}
 use Rattle.ctc.specs.Spread.{spread}
@@ -39,7 +41,8 @@ use Rattle.compile.specs.Call.{compile-call}
 use Rattle.compile.specs.Meaning.{compiled-means}
 use Rattle.decode_checks.specs.Checks.{needed, matrix-checks, decode-checks}
 use Rattle.decode_checks.specs.PassingLaws.{fits}
-use Rattle.decode_valid.specs.Answers.{Lent, rooms, labels, Checks, Answers, outcome-report}
+use Rattle.decode_valid.specs.Answers.{labels, Checks, Answers, outcome-report}
+use Rattle.decode_valid.specs.Lent.{Lent, rooms}
 use Rattle.decode.specs.Promise.{Decodes}
 use Rattle.read_spelling.specs.Spelling.{characters}
 use Rattle.read_text.specs.Promise.{ReadsBy, Reads}

@@ -4,11 +4,12 @@ use mathlib.Core.Path.{_≡_, refl, ap, _∙_}
 use mathlib.Core.Option.{some}
 use mathlib.Core.List.{List, [], _∷_}
 use lib.ListN.{drop, replicate}
-use Rattle.lists.specs.Lists.{all, any, numbers}
+use Rattle.lists.specs.Lists.{any, numbers}
+use Rattle.lists.specs.Each.{all}
 use Rattle.lists.specs.Memory.{written}
 use Rattle.refusal.specs.declared.Refusal.the-variants.{OutputMemory}
 use Rattle.refusal.specs.Verdict.{passed, refused, unless, if-passed, first-refusal}
-use Rattle.refusal.specs.Report.{filling}
+use Rattle.refusal.specs.Fills.{filling}
 use Rattle.ctc.specs.Collapse.{merge, without-blanks, collapse}
 use Rattle.automaton.specs.Automaton.{Accepts}
 use Rattle.automaton.specs.Form.{ordered, validForm, view, followOf, endsOf}
@@ -24,7 +25,8 @@ use Rattle.text.specs.Bytes.{bytes}
 use Rattle.regex.specs.Grammar.{WordsOf}
 use Rattle.compile.specs.Call.{compile-call}
 use Rattle.compile.specs.Meaning.{compiled-means}
-use Rattle.decode_valid.specs.Answers.{Lent, outcome-report, path-of, word-of, labels}
+use Rattle.decode_valid.specs.Answers.{outcome-report, path-of, word-of, labels}
+use Rattle.decode_valid.specs.Lent.{Lent}
 use Rattle.read_spelling.specs.Spelling.{characters}
 use Rattle.judge.specs.Judge.{judged}
 use Rattle.read.specs.Cases.{cases, cases-stated}

@@ -5,12 +5,13 @@ use mathlib.Core.Path.{_≡_}
 use mathlib.Core.List.{List}
 use Rattle.lists.specs.Memory.{written}
 use Rattle.refusal.specs.Verdict.{Verdict}
-use Rattle.refusal.specs.Report.{Report, report, filling}
+use Rattle.refusal.specs.Report.{Report}
+use Rattle.refusal.specs.Fills.{report, filling}
 use Rattle.answers.specs.Judgement.{report as judgement}
 use Rattle.export_counts.specs.Handed.{length-alone, price-and-length, price-and-lengths, Hands, HandsJudgement}
 use Rattle.judge.specs.Judge.{judged}
 use Rattle.matrix.specs.Matrix.{Matrix}
-use Rattle.decode_valid.specs.Answers.{Lent}
+use Rattle.decode_valid.specs.Lent.{Lent}
 use Rattle.decode.specs.Promise.{Decodes}
 use Rattle.read_text.specs.Promise.{Reads}
 

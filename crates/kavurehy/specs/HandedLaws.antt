@@ -3,7 +3,8 @@ use Prim.Native.Nat.{ℕ}
 use mathlib.Core.Path.{_≡_, ap, _∙_}
 use mathlib.Core.List.{List}
 use Rattle.refusal.specs.Verdict.{Verdict}
-use Rattle.refusal.specs.Report.{Report, Fills}
+use Rattle.refusal.specs.Report.{Report}
+use Rattle.refusal.specs.Fills.{Fills}
 use Rattle.export_counts.specs.Handed.{length-alone, Hands}
 use Rattle.kavurehy.specs.Handed.{FillsCounted, FillsPlain}
 

@@ -12,7 +12,7 @@ ghost use Rattle.ctc_spread.specs.Calls.{spread-call};
 ghost use Rattle.confidence.specs.Cost.{costs-call};
 ghost use Rattle.matrix.specs.Matrix.{matrix};
 ghost use Rattle.compile.specs.Call.{compile-call};
-ghost use Rattle.decode_valid.specs.Answers.{lent};
+ghost use Rattle.decode_valid.specs.Lent.{lent};
 ghost use Rattle.kavurehy.specs.Handed.{FillsCounted, FillsPlain, Judges, DecodesCounted, ReadsCounted};
 
 // Writes the form of an expression over an alphabet, and its length to `counts`.

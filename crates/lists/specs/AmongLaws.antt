@@ -7,7 +7,8 @@ use mathlib.Core.List.{List, [], _∷_, _++_, map, flatMap}
 use native.Mathlib.Nat.{le-of-suc-le-suc, not-suc-le-zero}
 use native.Mathlib.Omega.{arith}
 use lib.ListN.{length, getD, length-append}
-use Rattle.lists.specs.Lists.{Each, Among, any, keeping, keep}
+use Rattle.lists.specs.Lists.{Among, any, keeping, keep}
+use Rattle.lists.specs.Each.{Each}
 use Rattle.lists.specs.OrderLaws.{or-either}
 
 module _ {A : Type 0} where

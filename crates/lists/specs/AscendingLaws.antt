@@ -9,7 +9,8 @@ use native.Mathlib.Numerals.{add-one}
 use native.Mathlib.Omega.{arith}
 use lib.ListN.{length, getD}
 use Rattle.lists.specs.EachLaws.{each-append, each-at}
-use Rattle.lists.specs.Lists.{Each, Among, keep, keeping, numbers, Ascending}
+use Rattle.lists.specs.Lists.{Among, keep, keeping, numbers, Ascending}
+use Rattle.lists.specs.Each.{Each}
 use Rattle.lists.specs.OrderLaws.{eq-or-ne}
 use Rattle.lists.specs.AmongLaws.{keep-among, among-each, each-among, map-among, flat-among}
 

@@ -8,7 +8,7 @@ use native.Mathlib.Nat.{le-of-suc-le-suc, not-suc-le-zero}
 use lib.ListN.{length, getD, drop, drop-of-length-le}
 use lib.Seq.{drop-cons}
 use Rattle.lists.specs.OrderLaws.{and-left, and-right, and-both}
-use Rattle.lists.specs.Lists.{all, Each}
+use Rattle.lists.specs.Each.{all, Each}
 
 module _ {A : Type 0} where
   pub each-map : (P Q : A → Type 0) → ((x : A) → P x → Q x) → (xs : List A) → Each P xs → Each Q xs

@@ -6,7 +6,8 @@ use native.Mathlib.Numerals.{add-one}
 use native.Mathlib.Omega.{arith}
 use lib.ListN.{length, getD, take, drop, set, length-append, length-drop, take-append-drop}
 use lib.Seq.{drop-cons, take-suc, sets, length-take-le, take-length, take-at, drop-at}
-use Rattle.lists.specs.Memory.{written, Wrote, Stored}
+use Rattle.lists.specs.Memory.{written, Wrote}
+use Rattle.lists.specs.Stored.{Stored}
 use Rattle.lists.specs.WrittenLaws.{written-none, length-written, written-more}
 
 module _ {A : Type 0} where

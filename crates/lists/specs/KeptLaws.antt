@@ -6,7 +6,7 @@ use mathlib.Core.List.{List, []}
 use native.Mathlib.Omega.{arith}
 use lib.ListN.{length, set}
 use Rattle.lists.specs.Lists.{keeping}
-use Rattle.lists.specs.Memory.{Stored}
+use Rattle.lists.specs.Stored.{Stored}
 
 -- Element w at place n, stored or left out.
 module _ (w n : ℕ) (form : List ℕ) where

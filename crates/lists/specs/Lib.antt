@@ -1,5 +1,7 @@
+pub mod Each
 pub mod Lists
 pub mod Memory
+pub mod Stored
 pub mod Cases
 pub mod Marks
 pub mod Least

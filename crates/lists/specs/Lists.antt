@@ -5,18 +5,9 @@ use mathlib.Core.Path.{_≡_}
 use mathlib.Core.Logic.{_⊎_}
 use Prim.Native.Nat.{ℕ, zero, suc, _<_}
 use lib.Dec.{leb}
+use Rattle.lists.specs.Each.{Each}
 
 module _ {A : Type 0} where
-  -- the fact holds of each element
-  abbrev pub Each : (A → Type 0) → List A → Type 0
-  Each P [] = Unit {0}
-  Each P (x ∷ xs) = P x × Each P xs
-
-  -- the test holds of each element
-  unfoldable pub all : (A → Bool) → List A → Bool
-  all p [] = true
-  all p (x ∷ xs) = p x && all p xs
-
   -- `a` is an element of the list
   abbrev pub Among : A → List A → Type 0
   Among a [] = ⊥

@@ -1,11 +1,10 @@
 -- What a lent list holds, as contracts say it: before and after the call, and what a function wrote into it.
 use denote.Ref.{RefT, now}
 use denote.Triple.Both.{Both}
-use Prim.Native.Nat.{ℕ, _+_}
+use Prim.Native.Nat.{ℕ}
 use mathlib.Core.Path.{_≡_}
 use mathlib.Core.List.{List, _++_}
-use lib.ListN.{length, drop, take}
-use lib.Seq.{sets}
+use lib.ListN.{length, drop}
 
 -- what it holds when the function is called
 abbrev pub old : {X Y : Type 0} → Both (RefT X) Y → X
@@ -24,14 +23,3 @@ module _ {A : Type 0} where
   pub record Wrote (w before after : List A) (answer : ℕ) : Type 0 where
     pub count : answer ≡ length w
     pub memory : after ≡ written w before
-
-  -- a function stored the elements c from place n on and returned the next place
-  pub record Stored (c : List A) (n : ℕ) (before after : List A) (answer : ℕ) : Type 0 where
-    pub next : answer ≡ n + length c
-    pub memory : after ≡ sets before n c
-
-  -- nothing was written before place a, and nothing from place b on
-  pub record Outside (a b : ℕ) (before after : List A) : Type 0 where
-    pub size : length after ≡ length before
-    pub front : take a after ≡ take a before
-    pub behind : drop b after ≡ drop b before

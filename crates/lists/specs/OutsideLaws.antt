@@ -5,7 +5,7 @@ use mathlib.Core.List.{List}
 use native.Mathlib.Omega.{arith}
 use lib.ListN.{getD, take, drop, set, length-set}
 use lib.Seq.{take-take, drop-drop, take-set-le, drop-set-lt, getD-take, getD-drop}
-use Rattle.lists.specs.Memory.{Outside}
+use Rattle.lists.specs.Stored.{Outside}
 
 module _ {A : Type 0} where
   pub outside-none : (a b : ℕ) (m : List A) → Outside a b m m

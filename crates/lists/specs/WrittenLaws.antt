@@ -5,7 +5,8 @@ use mathlib.Core.List.{List, [], _∷_, _++_, append-assoc}
 use native.Mathlib.Omega.{arith}
 use lib.ListN.{length, getD, take, drop, set, length-append, length-drop, List·getD-append}
 use lib.Seq.{drop-cons, set-at, sets, sets-eq, length-sets, length-take-le, take-at, drop-at, getD-append-add, getD-drop}
-use Rattle.lists.specs.Memory.{written, Stored}
+use Rattle.lists.specs.Memory.{written}
+use Rattle.lists.specs.Stored.{Stored}
 
 module _ {A : Type 0} where
   pub written-none : (m : List A) → written [] m ≡ m

@@ -3,7 +3,8 @@ use mathlib.Core.Path.{_≡_, refl}
 use mathlib.Core.List.{[], _∷_}
 use native.Mathlib.Omega.{arith}
 use denote.Ref.{now}
-use Rattle.matrix.specs.Matrix.{Matrix, matrix, cost, price, Usable, PathOf}
+use Rattle.matrix.specs.Matrix.{Matrix, matrix, cost, price}
+use Rattle.matrix.specs.Paths.{Usable, PathOf}
 use Rattle.matrix.specs.View.{value}
 use Rattle.matrix.specs.declared.Matrix.{Matrix as View}
 

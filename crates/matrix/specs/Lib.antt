@@ -1,4 +1,5 @@
 pub mod Matrix
+pub mod Paths
 pub mod MatrixLaws
 pub mod View
 pub mod Examples

@@ -1,9 +1,7 @@
 -- The matrix of costs, and paths through it with their prices (document 01, "Extended states and decoding").
-use Prim.Native.Nat.{ℕ, _+_, _*_, _≤_, _<_}
-use mathlib.Core.Path.{_≡_}
+use Prim.Native.Nat.{ℕ, _+_, _*_}
 use mathlib.Core.List.{List, [], _∷_}
-use lib.ListN.{length, getD}
-use Rattle.lists.specs.Lists.{Each}
+use lib.ListN.{getD}
 
 -- its costs, one column after another; its column width; its column count
 pub record Matrix : Type 0 where
@@ -25,21 +23,3 @@ priceFrom M t (x ∷ p) = cost M t x + priceFrom M (t + 1) p
 
 abbrev pub price : Matrix → List ℕ → ℕ
 price M p = priceFrom M 0 p
-
--- a cost that a path may use
-abbrev pub Usable : ℕ → Type 0
-Usable c = c ≤ 1000000
-
--- a list of labels of the matrix with usable costs, where the first label is in column t
-abbrev pub PathFrom : Matrix → ℕ → List ℕ → Type 0
-PathFrom M t [] = Unit {0}
-PathFrom M t (x ∷ p) = (x < M .width) × Usable (cost M t x) × PathFrom M (t + 1) p
-
--- one label for each column
-pub record PathOf (M : Matrix) (p : List ℕ) : Type 0 where
-  pub one-each : length p ≡ M .count
-  pub labels : PathFrom M 0 p
-
--- refusal 13 turns away no cost of the matrix
-abbrev pub CostsPass : Matrix → Type 0
-CostsPass M = Each Usable (M .costs)

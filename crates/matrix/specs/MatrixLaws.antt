@@ -7,7 +7,8 @@ use lib.ListN.{length, List·getD-eq-default}
 use mathlib.Core.Logic.{⊎-elim}
 use Rattle.lists.specs.OrderLaws.{lt-or-le}
 use Rattle.lists.specs.EachLaws.{each-at}
-use Rattle.matrix.specs.Matrix.{Matrix, cost, priceFrom, Usable, PathFrom, CostsPass}
+use Rattle.matrix.specs.Matrix.{Matrix, cost, priceFrom}
+use Rattle.matrix.specs.Paths.{Usable, PathFrom, CostsPass}
 
 module _ (M : Matrix) where
   -- the price of joined parts

@@ -8,7 +8,8 @@ use mathlib.Core.Logic.{_⊎_, inl, inr}
 use native.Mathlib.Omega.{arith}
 use lib.ListN.{length}
 use Rattle.lists.specs.OrderLaws.{eq-or-ne}
-use Rattle.matrix.specs.Matrix.{Matrix, cost, priceFrom, price, Usable, PathFrom}
+use Rattle.matrix.specs.Matrix.{Matrix, cost, priceFrom, price}
+use Rattle.matrix.specs.Paths.{Usable, PathFrom}
 use Rattle.outcome.specs.Outcome.{Rival, Outcome}
 
 -- N is M with the usable costs of one column raised, and the same costs are usable

@@ -10,9 +10,10 @@ use lib.ListN.{length}
 use lib.Dec.{leb, eqb}
 use borrow.Author.Tests.{leb-true, le-leb}
 use Rattle.lists.specs.OrderLaws.{eq-or-ne, and-left, and-right, and-both}
-use Rattle.lists.specs.Lists.{Each}
+use Rattle.lists.specs.Each.{Each}
 use Rattle.ctc.specs.Collapse.{merge, without-blanks, collapse}
-use Rattle.matrix.specs.Matrix.{Matrix, cost, price, PathFrom}
+use Rattle.matrix.specs.Matrix.{Matrix, cost, price}
+use Rattle.matrix.specs.Paths.{PathFrom}
 use Rattle.outcome.specs.Outcome.{OutcomeOf, Outcome}
 use Rattle.outcome.specs.OutcomeLaws.{outcome-of-same}
 use Rattle.outcome.specs.Choice.{not-after, preferred, better, outcome-either}

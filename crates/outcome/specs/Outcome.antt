@@ -4,7 +4,8 @@ use mathlib.Core.Option.{Option, some, none}
 use mathlib.Core.List.{List}
 use Rattle.ctc.specs.Collapse.{collapse}
 use Rattle.outcome.specs.Best.{BestOf}
-use Rattle.matrix.specs.Matrix.{Matrix, price, PathOf}
+use Rattle.matrix.specs.Matrix.{Matrix, price}
+use Rattle.matrix.specs.Paths.{PathOf}
 use Rattle.outcome.specs.Order.{NotAfter}
 
 -- a path whose collapse is a word

@@ -6,8 +6,9 @@ use mathlib.Core.List.{List, [], _∷_}
 use lib.ListN.{length}
 use Rattle.ctc.specs.Collapse.{collapse}
 use Rattle.outcome.specs.BestLaws.{best-same, best-unique}
-use Rattle.lists.specs.Lists.{Each}
-use Rattle.matrix.specs.Matrix.{Matrix, price, PathFrom, CostsPass}
+use Rattle.lists.specs.Each.{Each}
+use Rattle.matrix.specs.Matrix.{Matrix, price}
+use Rattle.matrix.specs.Paths.{PathFrom, CostsPass}
 use Rattle.matrix.specs.MatrixLaws.{cost-passes}
 use Rattle.outcome.specs.OrderLaws.{order-antisymmetric}
 use Rattle.outcome.specs.Outcome.{Rival, OutcomeOf, Outcome}

@@ -8,7 +8,7 @@ use native.Mathlib.Omega.{arith}
 use lib.ListN.{length, getD, length-append, List·getD-append}
 use lib.Seq.{getD-append-add}
 use Rattle.lists.specs.EachLaws.{each-append, each-at}
-use Rattle.lists.specs.Lists.{Each}
+use Rattle.lists.specs.Each.{Each}
 use Rattle.lists.specs.AmongLaws.{among-each}
 use Rattle.automaton.specs.Automaton.{Accepts}
 use Rattle.automaton.specs.Proper.{Proper}

@@ -16,7 +16,7 @@ use Rattle.regex.specs.Sense.{copies-some}
 use Rattle.regex.specs.Parse.{m-alternation, m-branch, m-piece, m-group, ends, parse}
 use Rattle.positions.specs.Opened.{opened, repeated, labels}
 use Rattle.positions.specs.Equations.{letters-joining, letters-alternation}
-use Rattle.text.specs.Text.{place}
+use Rattle.text.specs.Places.{place}
 use Rattle.positions_parts.specs.Together.{Chosen, Joined}
 use Rattle.positions_parts.specs.declared.Built.{Built}
 use Rattle.positions_letters.specs.Found.{restOf, treeOf}

@@ -10,7 +10,8 @@ use lib.Dec.{eqb}
 use borrow.Author.Tests.{eq-eqb, ne-eqb}
 use Rattle.regex.specs.Tree.{only, Tree, set, join, either}
 use Rattle.regex.specs.Parsing.{Parsing, found, fault, then}
-use Rattle.text.specs.Text.{next, rest, place}
+use Rattle.text.specs.Text.{next, rest}
+use Rattle.text.specs.Places.{place}
 use Rattle.regex.specs.Parse.{Mode, m-alternation, m-branch, m-piece, ends, step, parse}
 use Rattle.regex.specs.Says.{of-found}
 use Rattle.regex.specs.Sense.{Sensible, sensible}

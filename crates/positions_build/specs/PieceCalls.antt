@@ -11,11 +11,11 @@ use lib.ListN.{length, getD, drop}
 use lib.Dec.{leb}
 use Rattle.lists.specs.OrderLaws.{lt-or-le}
 use Rattle.regex.specs.Letters.{copiesOf}
-use Rattle.regex.specs.Parse.{m-alternation, m-piece, m-group, ends, parse}
+use Rattle.regex.specs.Parse.{m-alternation, m-piece, m-group, parse}
 use Rattle.positions.specs.Opened.{Opened, joining, opened, labels, labelsIn, anyOf}
 use Rattle.positions.specs.Equations.{letters-joining}
 use Rattle.positions.specs.Letters.{any-of-labels}
-use Rattle.text.specs.Text.{place}
+use Rattle.text.specs.Places.{place}
 use Rattle.regex_bracket.specs.Answers.{is-found}
 use Rattle.regex_set.specs.Answers.{SetAt, setAt}
 use Rattle.positions_parts.specs.Together.{Joined, Looped, Spared, Ended}

@@ -11,7 +11,8 @@ use borrow.Author.Tests.{eqb-true, eq-eqb, ne-eqb}
 use Rattle.refusal.specs.declared.Refusal.the-variants as refusal
 use Rattle.regex.specs.Tree.{Set, Count, between, Tree, set, group, times}
 use Rattle.regex.specs.Parsing.{Parsing, found, fault, then}
-use Rattle.text.specs.Text.{next, rest, place}
+use Rattle.text.specs.Text.{next, rest}
+use Rattle.text.specs.Places.{place}
 use Rattle.regex.specs.Letters.{labelsOf}
 use Rattle.regex.specs.Sets.{a-set, labelled-set}
 use Rattle.regex.specs.Repetition.{repeats, repetition}

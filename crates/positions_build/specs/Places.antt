@@ -7,7 +7,7 @@ use lib.ListN.{drop, length}
 use Rattle.regex.specs.Tree.{Count, Tree, between, onward}
 use Rattle.regex.specs.Parse.{Mode, m-group, parse}
 use Rattle.positions.specs.Opened.{Opened, opened, repeated, labels}
-use Rattle.text.specs.Text.{place}
+use Rattle.text.specs.Places.{place}
 use Rattle.regex_bracket.specs.Answers.{is-found}
 use Rattle.positions_letters.specs.Found.{restOf, treeOf, countOf, counted}
 

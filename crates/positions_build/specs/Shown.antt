@@ -7,7 +7,7 @@ use mathlib.Core.List.{List}
 use native.Mathlib.Omega.{arith}
 use lib.ListN.{length}
 use Rattle.lists.specs.WrittenLaws.{stored-then, stored-size}
-use Rattle.lists.specs.Memory.{Stored}
+use Rattle.lists.specs.Stored.{Stored}
 use Rattle.positions_follow.specs.Sets.{member, arc, Linked}
 use Rattle.positions.specs.Opened.{Opened, joining, alternation, labels}
 use Rattle.positions.specs.Numbered.{Positions, joint, choice, again, numbered}

@@ -4,7 +4,7 @@ use mathlib.Core.Path.{_≡_}
 use mathlib.Core.Bool.{Bool, true, false}
 use mathlib.Core.List.{List}
 use lib.ListN.{length}
-use Rattle.lists.specs.Memory.{Stored}
+use Rattle.lists.specs.Stored.{Stored}
 use Rattle.positions_follow.specs.Sets.{arc}
 use Rattle.regex.specs.Tree.{Tree}
 use Rattle.regex.specs.Letters.{letterCount}

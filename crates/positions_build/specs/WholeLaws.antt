@@ -13,7 +13,7 @@ use Rattle.regex.specs.Parse.{m-alternation, parse, whole, expressionOf}
 use Rattle.positions.specs.Opened.{Opened, labels}
 use Rattle.positions.specs.Numbered.{numbered, positionAutomaton}
 use Rattle.positions.specs.Letters.{opened-letters}
-use Rattle.text.specs.Text.{place}
+use Rattle.text.specs.Places.{place}
 use Rattle.automaton.specs.Arrays.{has, Tells}
 use Rattle.regex_bracket.specs.Answers.{is-found}
 use Rattle.positions_parts.specs.declared.Built.{Built}

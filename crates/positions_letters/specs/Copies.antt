@@ -5,7 +5,7 @@ use mathlib.Core.List.{List}
 use Rattle.regex.specs.Tree.{Count, between, onward}
 use Rattle.regex.specs.Parsing.{Parsing}
 use Rattle.regex.specs.Letters.{copiesOf}
-use Rattle.text.specs.Text.{place}
+use Rattle.text.specs.Places.{place}
 use Rattle.positions_letters.specs.Found.{restOf, countOf}
 use Rattle.positions_letters.specs.declared.Copies.{Copies}
 

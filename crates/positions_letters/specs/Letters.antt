@@ -9,7 +9,7 @@ use Rattle.regex.specs.Tree.{Set}
 use Rattle.regex.specs.Sets.{a-set}
 use Rattle.positions.specs.Opened.{labelsIn, anyOf}
 use Rattle.positions.specs.Equations.{alone}
-use Rattle.text.specs.Text.{place}
+use Rattle.text.specs.Places.{place}
 use Rattle.regex_set.specs.Answers.{setAt}
 use Rattle.positions_parts.specs.declared.Built.{Built}
 use Rattle.positions_letters.specs.Found.{restOf}

@@ -12,7 +12,7 @@ use borrow.Author.Tests.{le-leb, lt-leb, lt-ltb, le-ltb}
 use Rattle.lists.specs.OrderLaws.{lt-or-le, eq-or-ne}
 use Rattle.lists.specs.Lists.{keep, keeping, numbers}
 use Rattle.lists.specs.AscendingLaws.{numbers-here, numbers-past}
-use Rattle.lists.specs.Memory.{Stored}
+use Rattle.lists.specs.Stored.{Stored}
 use Rattle.positions_follow.specs.Sets.{member, arc}
 use Rattle.regex.specs.Tree.{Set, member as memberOf}
 use Rattle.positions.specs.Opened.{labelsIn, anyOf}

@@ -4,7 +4,7 @@ use mathlib.Core.Path.{_≡_}
 use mathlib.Core.Bool.{Bool, _||_}
 use mathlib.Core.List.{List}
 use lib.ListN.{length}
-use Rattle.lists.specs.Memory.{Stored}
+use Rattle.lists.specs.Stored.{Stored}
 use Rattle.positions_follow.specs.Sets.{member, arc}
 use Rattle.positions.specs.Opened.{Opened, labels}
 use Rattle.positions.specs.Numbered.{Positions, numbered}

@@ -13,7 +13,7 @@ use Rattle.regex.specs.Repetition.{repeats, repetition}
 use Rattle.regex_bracket.specs.declared.End.the-variants as end
 use Rattle.regex_repetition.specs.declared.Repeats.the-variants as count
 use Rattle.text.specs.TextLaws.{place-drop}
-use Rattle.text.specs.Text.{place}
+use Rattle.text.specs.Places.{place}
 use Rattle.regex_bracket.specs.Answers.{is-found, endOf}
 use Rattle.regex_repetition.specs.Answers.{repeatsOf}
 use Rattle.positions_letters.specs.Found.{restOf, counted}

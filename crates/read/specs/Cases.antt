@@ -12,7 +12,8 @@ use lib.Dec.{eqb}
 use borrow.Author.Tests.{eqb-true}
 use Rattle.lists.specs.OrderLaws.{and-left, and-right}
 use Rattle.lists.specs.EachLaws.{all-each}
-use Rattle.lists.specs.Lists.{all, Each, any, keep, numbers}
+use Rattle.lists.specs.Lists.{any, keep, numbers}
+use Rattle.lists.specs.Each.{all, Each}
 use Rattle.refusal.specs.declared.Checked.{Checked}
 use Rattle.refusal.specs.declared.Checked.the-variants.{Passed, Refused}
 use Rattle.refusal.specs.Verdict.{Verdict, passed, refused, unless, if-passed, first-refusal}

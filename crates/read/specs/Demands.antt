@@ -6,23 +6,27 @@ use mathlib.Core.Path.{_≡_, ap, _∙_}
 use mathlib.Core.Logic.{_↔_}
 use mathlib.Core.List.{List}
 use lib.ListN.{length, length-map}
-use Rattle.lists.specs.Lists.{Each}
+use Rattle.lists.specs.Each.{Each}
 use Rattle.lists.specs.WrittenLaws.{written-none}
 use Rattle.lists.specs.Memory.{written}
 use Rattle.refusal.specs.declared.Refusal.{Refusal}
 use Rattle.refusal.specs.declared.Checked.the-variants.{Passed, Refused}
 use Rattle.refusal.specs.Verdict.{passed, refused, first-refusal}
-use Rattle.refusal.specs.Report.{Report, turned-away, filling}
+use Rattle.refusal.specs.Report.{Report, turned-away}
+use Rattle.refusal.specs.Fills.{filling}
 use Rattle.ctc.specs.Spread.{spread, Shortest}
 use Rattle.ctc.specs.SpreadLaws.{spread-is-shortest}
 use Rattle.automaton.specs.Form.{lettersOf}
 use Rattle.matrix.specs.Matrix.{Matrix}
 use Rattle.regex.specs.Grammar.{WordsOf}
 use Rattle.compile.specs.Call.{compile-call}
-use Rattle.compile.specs.Meaning.{Means, compiled-means}
+use Rattle.compile.specs.Meaning.{compiled-means}
+use Rattle.compile.specs.Means.{Means}
 use Rattle.decode_checks.specs.Checks.{needed, matrix-checks}
-use Rattle.decode_valid.specs.Answers.{Lent, rooms, Answers}
-use Rattle.decode_valid.specs.Demand.{Plain-rival, No-rival, Best-or-none, Kept}
+use Rattle.decode_valid.specs.Answers.{Answers}
+use Rattle.decode_valid.specs.Lent.{Lent, rooms}
+use Rattle.decode_valid.specs.Demand.{Plain-rival, No-rival, Best-or-none}
+use Rattle.decode_valid.specs.Kept.{Kept}
 use Rattle.decode_valid.specs.DemandLaws.{answers-as-demanded, none-exactly, rival-reads}
 use Rattle.read_spelling.specs.Spelling.{characters}
 use Rattle.read_text.specs.Promise.{Reads}

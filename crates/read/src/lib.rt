@@ -8,7 +8,7 @@ ghost use Rattle.lists.specs.Memory.{old, new};
 ghost use Rattle.answers.specs.Reading.{reported};
 ghost use Rattle.matrix.specs.View.{value};
 ghost use Rattle.matrix.specs.Matrix.{matrix};
-ghost use Rattle.decode_valid.specs.Answers.{lent};
+ghost use Rattle.decode_valid.specs.Lent.{lent};
 ghost use Rattle.read_text.specs.Promise.{Reads};
 
 // Document 01's Read, for an alphabet of K characters, the text of an expression and a matrix of T columns; the compiled form of the

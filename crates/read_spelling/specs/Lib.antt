@@ -1,3 +1,4 @@
 pub mod Spelling
+pub mod InPlace
 pub mod Loops
 pub mod Examples

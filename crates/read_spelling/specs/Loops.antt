@@ -8,7 +8,8 @@ use lib.Seq.{getD-take, length-take-le}
 use Rattle.lists.specs.EachLaws.{each-at, drop-here, drop-all}
 use Rattle.lists.specs.WrittenLaws.{written-behind}
 use Rattle.lists.specs.FillingLoops.{Filling, filling-none, filling-more, filling-all, filling-length}
-use Rattle.read_spelling.specs.Spelling.{characters, Labels, Spelt}
+use Rattle.read_spelling.specs.Spelling.{characters}
+use Rattle.read_spelling.specs.InPlace.{Labels, Spelt}
 
 -- the loop at place i: the labels before it are replaced by their characters
 abbrev pub Spelling : (A : List ℕ) (n : ℕ) (before after : List ℕ) (i : ℕ) → Type 0

@@ -1,7 +1,7 @@
 // A word's labels as characters of the alphabet, written in place of the labels (demand 3).
 use numbers::wide;
 ghost use Rattle.lists.specs.Memory.{old, new};
-ghost use Rattle.read_spelling.specs.Spelling.{Labels, Spelt};
+ghost use Rattle.read_spelling.specs.InPlace.{Labels, Spelt};
 
 // Replaces each of the first n labels by its character.
 pub fn write_characters(alphabet: &[u8], word: &mut [u8], n: usize)

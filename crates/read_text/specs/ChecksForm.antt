@@ -7,7 +7,8 @@ use Rattle.refusal.specs.Report.{Report}
 use Rattle.automaton.specs.Form.{lettersOf}
 use Rattle.matrix.specs.Matrix.{Matrix}
 use Rattle.decode_checks.specs.Checks.{matrix-checks}
-use Rattle.decode_valid.specs.Answers.{Lent, rooms, Checks}
+use Rattle.decode_valid.specs.Answers.{Checks}
+use Rattle.decode_valid.specs.Lent.{Lent, rooms}
 use Rattle.read_valid.specs.Accepted.{ReadsAccepted}
 
 -- Past Compile, with the form f: refusals 12 to 15, or the outcome for the words that the form accepts.

@@ -5,12 +5,14 @@ use mathlib.Core.List.{List}
 use lib.ListN.{length}
 use Rattle.lists.specs.Memory.{written}
 use Rattle.refusal.specs.Verdict.{Verdict, passed, refused, first-refusal}
-use Rattle.refusal.specs.Report.{Report, turned-away, filling}
+use Rattle.refusal.specs.Report.{Report, turned-away}
+use Rattle.refusal.specs.Fills.{filling}
 use Rattle.automaton.specs.Form.{lettersOf}
 use Rattle.matrix.specs.Matrix.{Matrix}
 use Rattle.regex.specs.Grammar.{WordsOf}
 use Rattle.decode_checks.specs.Checks.{needed, matrix-checks}
-use Rattle.decode_valid.specs.Answers.{Lent, rooms, Answers, Checks}
+use Rattle.decode_valid.specs.Answers.{Answers, Checks}
+use Rattle.decode_valid.specs.Lent.{Lent, rooms}
 use Rattle.compile.specs.Call.{compile-call}
 use Rattle.read_spelling.specs.Spelling.{characters}
 

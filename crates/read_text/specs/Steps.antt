@@ -11,16 +11,19 @@ use Rattle.refusal.specs.declared.Checked.{Checked}
 use Rattle.refusal.specs.declared.Checked.the-variants.{Passed, Refused}
 use Rattle.refusal.specs.NumberLaws.{number-between}
 use Rattle.refusal.specs.Verdict.{Verdict, passed, refused, first-refusal}
-use Rattle.refusal.specs.Report.{Report, turned-away, counted, report, filling, Fills}
+use Rattle.refusal.specs.Report.{Report, turned-away}
+use Rattle.refusal.specs.Fills.{counted, report, filling, Fills}
 use Rattle.automaton.specs.Automaton.{Accepts}
 use Rattle.automaton.specs.Form.{view, lettersOf}
 use Rattle.matrix.specs.Matrix.{Matrix}
 use Rattle.outcome.specs.OutcomeLaws.{outcome-same}
 use Rattle.regex.specs.Grammar.{WordsOf}
 use Rattle.compile.specs.Call.{compile-call}
-use Rattle.compile.specs.Meaning.{Means, compiled-means}
+use Rattle.compile.specs.Meaning.{compiled-means}
+use Rattle.compile.specs.Means.{Means}
 use Rattle.decode_checks.specs.Checks.{needed, matrix-checks}
-use Rattle.decode_valid.specs.Answers.{Lent, rooms, Answers, Checks}
+use Rattle.decode_valid.specs.Answers.{Answers, Checks}
+use Rattle.decode_valid.specs.Lent.{Lent, rooms}
 use Rattle.read_spelling.specs.Spelling.{characters}
 use Rattle.read_valid.specs.Accepted.{ReadsAccepted}
 use Rattle.read_text.specs.Promise.{Reads}

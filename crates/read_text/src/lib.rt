@@ -13,7 +13,7 @@ ghost use Rattle.automaton.specs.Form.{alphabetOf};
 ghost use Rattle.automaton.specs.Valid.{Valid};
 ghost use Rattle.matrix.specs.Matrix.{matrix};
 ghost use Rattle.read_text.specs.Promise.{Reads};
-ghost use Rattle.decode_valid.specs.Answers.{lent};
+ghost use Rattle.decode_valid.specs.Lent.{lent};
 ghost use Rattle.read_text.specs.ChecksForm.{ChecksForm};
 
 // Read by a compiled form: the first of refusals 12 to 15 that applies, or the answer past them.

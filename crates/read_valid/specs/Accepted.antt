@@ -7,7 +7,8 @@ use Rattle.automaton.specs.Automaton.{Accepts}
 use Rattle.automaton.specs.Form.{view, lettersOf}
 use Rattle.matrix.specs.Matrix.{Matrix}
 use Rattle.decode_checks.specs.Checks.{needed}
-use Rattle.decode_valid.specs.Answers.{Lent, Answers}
+use Rattle.decode_valid.specs.Answers.{Answers}
+use Rattle.decode_valid.specs.Lent.{Lent}
 use Rattle.read_spelling.specs.Spelling.{characters}
 
 -- the outcome for the words that the form accepts, with the word written as characters

@@ -5,7 +5,7 @@ use mathlib.Core.Option.{Option, some, none}
 use mathlib.Core.List.{List, [], _∷_}
 use native.Mathlib.Omega.{arith}
 use lib.ListN.{length, getD, take, length-map}
-use Rattle.lists.specs.Lists.{Each}
+use Rattle.lists.specs.Each.{Each}
 use Rattle.lists.specs.WrittenLaws.{length-written, written-over, take-written}
 use Rattle.lists.specs.Memory.{written}
 use Rattle.refusal.specs.declared.Refusal.{Refusal}
@@ -16,10 +16,13 @@ use Rattle.ctc.specs.Collapse.{collapse}
 use Rattle.ctc.specs.CollapseLaws.{collapse-each, collapse-letters, collapse-shorter}
 use Rattle.automaton.specs.Automaton.{Accepts}
 use Rattle.automaton.specs.Form.{view}
-use Rattle.matrix.specs.Matrix.{Matrix, price, PathFrom}
+use Rattle.matrix.specs.Matrix.{Matrix, price}
+use Rattle.matrix.specs.Paths.{PathFrom}
 use Rattle.outcome.specs.Outcome.{Best, Outcome}
-use Rattle.decode_valid.specs.Answers.{Lent, outcome-report, path-of, word-of, labels, DecodeAnswers}
-use Rattle.read_spelling.specs.Spelling.{characters, Labels, Spelt}
+use Rattle.decode_valid.specs.Answers.{outcome-report, path-of, word-of, labels, DecodeAnswers}
+use Rattle.decode_valid.specs.Lent.{Lent}
+use Rattle.read_spelling.specs.Spelling.{characters}
+use Rattle.read_spelling.specs.InPlace.{Labels, Spelt}
 use Rattle.read_valid.specs.Accepted.{ReadsAccepted}
 
 path-each : (M : Matrix) (t : ℕ) (p : List ℕ) → PathFrom M t p → Each (λ x. x < M .width) p

@@ -11,7 +11,7 @@ ghost use Rattle.automaton.specs.Form.{alphabetOf, lettersOf};
 ghost use Rattle.automaton.specs.Valid.{Valid};
 ghost use Rattle.matrix.specs.Matrix.{matrix};
 ghost use Rattle.decode_checks.specs.Passing.{Fits};
-ghost use Rattle.decode_valid.specs.Answers.{lent, rooms};
+ghost use Rattle.decode_valid.specs.Lent.{lent, rooms};
 ghost use Rattle.read_valid.specs.Accepted.{ReadsAccepted};
 
 // Decodes the matrix by the form, and writes the word as characters.

@@ -11,7 +11,7 @@ use Rattle.refusal.specs.declared.Checked.the-variants.{Passed, Refused 
 use Rattle.refusal.specs.declared.Counted.the-variants.{Filled, Refused}
 use Rattle.refusal.specs.Number.{numberOf}
 use Rattle.refusal.specs.Verdict.{Verdict, passed, refused, Check, check, unless, if-passed, first-refusal}
-use Rattle.refusal.specs.Report.{reported, report, filling}
+use Rattle.refusal.specs.Fills.{reported, report, filling}
 
 -- the refusals in the order of document 01
 abbrev refusals : List Refusal

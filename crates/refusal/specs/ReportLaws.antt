@@ -6,7 +6,8 @@ use Rattle.lists.specs.WrittenLaws.{written-none}
 use Rattle.lists.specs.Memory.{Wrote}
 use Rattle.refusal.specs.declared.Refusal.{Refusal}
 use Rattle.refusal.specs.Verdict.{Verdict, passed, refused}
-use Rattle.refusal.specs.Report.{turned-away, counted, Fills}
+use Rattle.refusal.specs.Report.{turned-away}
+use Rattle.refusal.specs.Fills.{counted, Fills}
 
 module _ {A : Type 0} where
   pub fills-refused : (v : Verdict (List A)) (n : Refusal) (memory : List A) → v ≡ refused n → Fills v (turned-away n) memory memory

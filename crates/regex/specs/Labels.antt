@@ -9,7 +9,7 @@ use native.Mathlib.Omega.{arith}
 use native.Mathlib.Nat.{le-of-suc-le-suc}
 use lib.ListN.{length, getD}
 use Rattle.lists.specs.EachLaws.{each-append}
-use Rattle.lists.specs.Lists.{Each}
+use Rattle.lists.specs.Each.{Each}
 use Rattle.regex.specs.Tree.{Set, member, Tree, set, group, times, join, either, Joined, Words}
 use Rattle.regex.specs.Letters.{labelsOf}
 

@@ -14,7 +14,8 @@ use Rattle.regex.specs.Says.{Says, of-fault, then-says}
 use Rattle.regex.specs.Front.{Front, Stop, Begins, stop-behind}
 use Rattle.regex.specs.Sound.{parse-sound}
 use Rattle.regex.specs.Exact.{exact}
-use Rattle.regex.specs.Places.{Place, refused-at}
+use Rattle.regex.specs.Places.{Place}
+use Rattle.regex.specs.PlacesLaws.{refused-at}
 
 -- One of refusals 4 to 8 at the leftmost fault: the text from the fault on begins as the refusal says, the text is no expression, and the
 -- text before the fault begins one, so that no fault is further left.

@@ -15,6 +15,7 @@ pub mod Front
 pub mod Sound
 pub mod Steps
 pub mod Places
+pub mod PlacesLaws
 pub mod Exact
 pub mod Leftmost
 pub mod Together

@@ -11,7 +11,7 @@ use native.Mathlib.Omega.{arith}
 use lib.Dec.{eqb}
 use borrow.Author.Tests.{eqb-true}
 use Rattle.lists.specs.OrderLaws.{or-either}
-use Rattle.lists.specs.Lists.{Each}
+use Rattle.lists.specs.Each.{Each}
 use Rattle.refusal.specs.declared.Refusal.{Refusal}
 use Rattle.regex.specs.Parsing.{Parsing, found, enclosed}
 use Rattle.text.specs.Text.{one-of, next, rest, in-front, split}

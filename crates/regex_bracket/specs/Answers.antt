@@ -4,7 +4,7 @@ use mathlib.Core.Bool.{Bool, true, false, cond}
 use Prim.Native.Nat.{ℕ, _+_}
 use Rattle.regex.specs.Tree.{Set, only}
 use Rattle.regex.specs.Parsing.{Parsing, found, fault}
-use Rattle.text.specs.Text.{place, until}
+use Rattle.text.specs.Places.{place, until}
 use Rattle.regex_bracket.specs.declared.End.{End}
 use Rattle.regex_bracket.specs.declared.End.the-variants as end
 use Prim.Native.Char.{code}

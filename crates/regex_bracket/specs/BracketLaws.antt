@@ -15,7 +15,8 @@ use Rattle.lists.specs.OrderLaws.{lt-or-le, not-both}
 use Rattle.refusal.specs.declared.Refusal.the-variants as refusal
 use Rattle.regex.specs.Tree.{Range, Set, only, except, member, among}
 use Rattle.regex.specs.Parsing.{Parsing, found, fault, then, enclosed}
-use Rattle.text.specs.Text.{rest, in-front, split, until}
+use Rattle.text.specs.Text.{rest, in-front, split}
+use Rattle.text.specs.Places.{until}
 use Rattle.regex.specs.Sets.{closed, members, inside, bracket}
 use Rattle.text.specs.TextLaws.{split-found, split-missing, byte-within, next-at, rest-at, place-drop}
 use Rattle.regex_items.specs.Items.{is-some, listed}

@@ -12,7 +12,8 @@ use Rattle.refusal.specs.declared.Refusal.{Refusal}
 use Rattle.refusal.specs.declared.Refusal.the-variants as refusal
 use Rattle.regex.specs.Tree.{Count, between, onward, Tree, group, times, join, either}
 use Rattle.regex.specs.Parsing.{Parsing, found, fault, then}
-use Rattle.text.specs.Text.{next, rest, place}
+use Rattle.text.specs.Text.{next, rest}
+use Rattle.text.specs.Places.{place}
 use Rattle.regex.specs.Letters.{copiesOf, letterCount}
 use Rattle.regex.specs.Sense.{few-add}
 use Rattle.regex.specs.Few.{few}

@@ -16,7 +16,7 @@ use Rattle.regex.specs.Steps.{parse-forward}
 use Rattle.regex_set.specs.declared.Part.{Part}
 use Rattle.regex_set.specs.declared.Part.the-variants as part
 use Rattle.text.specs.TextLaws.{behind}
-use Rattle.text.specs.Text.{place}
+use Rattle.text.specs.Places.{place}
 use Rattle.regex_set.specs.Answers.{partOf}
 
 module _ (A text : List ℕ) where

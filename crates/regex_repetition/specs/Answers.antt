@@ -3,7 +3,8 @@ use mathlib.Core.List.{List}
 use Prim.Native.Nat.{ℕ, _+_}
 use Rattle.regex.specs.Tree.{Count, between, onward}
 use Rattle.regex.specs.Parsing.{Parsing, found, fault, enclosed}
-use Rattle.text.specs.Text.{place, split}
+use Rattle.text.specs.Text.{split}
+use Rattle.text.specs.Places.{place}
 use Rattle.regex_repetition.specs.declared.Repeats.{Repeats}
 use Rattle.regex_repetition.specs.declared.Repeats.the-variants as repeats
 use mathlib.Core.Option.{Option, some, none}

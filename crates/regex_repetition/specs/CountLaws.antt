@@ -13,7 +13,8 @@ use Rattle.lists.specs.EachLaws.{drop-here, drop-all}
 use Rattle.lists.specs.OrderLaws.{and-right, and-both}
 use Rattle.refusal.specs.declared.Refusal.the-variants as refusal
 use Rattle.regex.specs.Tree.{Count, between}
-use Rattle.text.specs.Text.{split, until}
+use Rattle.text.specs.Text.{split}
+use Rattle.text.specs.Places.{until}
 use Rattle.lists.specs.Cases.{provided}
 use Rattle.regex.specs.Repetition.{number, from-on, from-to, comma, counts}
 use Rattle.text.specs.Digits.{digits, value}

@@ -16,7 +16,8 @@ use Rattle.refusal.specs.declared.Refusal.{Refusal}
 use Rattle.refusal.specs.declared.Refusal.the-variants as refusal
 use Rattle.regex.specs.Tree.{Count, between, onward}
 use Rattle.regex.specs.Parsing.{Parsing, found, fault, then, enclosed}
-use Rattle.text.specs.Text.{next, rest, split, until, place}
+use Rattle.text.specs.Text.{next, rest, split}
+use Rattle.text.specs.Places.{until, place}
 use Rattle.lists.specs.Cases.{first-of}
 use Rattle.regex.specs.Repetition.{counts, sign, repetition}
 use Rattle.regex.specs.Says.{Says, first-says, enclosed-says}

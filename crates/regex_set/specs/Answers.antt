@@ -9,7 +9,7 @@ use Rattle.regex.specs.Parsing.{Parsing, found, fault, then}
 use Rattle.regex.specs.Letters.{letterCount}
 use Rattle.regex.specs.Few.{few}
 use Rattle.regex.specs.Sets.{a-set, labelled-set}
-use Rattle.text.specs.Text.{place}
+use Rattle.text.specs.Places.{place}
 use Rattle.regex_bracket.specs.Answers.{is-found, setOf}
 use Rattle.regex_set.specs.declared.Part.{Part}
 use Rattle.regex_set.specs.declared.Part.the-variants as part

@@ -20,7 +20,7 @@ use Rattle.regex.specs.Letters.{labelsOf, letterCount}
 use Rattle.regex.specs.Few.{few}
 use Rattle.regex.specs.Sets.{special, alone, escaped, bracket, a-set, labelled-set}
 use Rattle.text.specs.TextLaws.{place-drop, byte-within}
-use Rattle.text.specs.Text.{place}
+use Rattle.text.specs.Places.{place}
 use Rattle.lists.specs.CasesLaws.{fourth}
 use Rattle.regex_bracket.specs.declared.End.the-variants as end
 use Rattle.regex_bracket.specs.Answers.{endOf, is-found, setOf, bracketAt}

@@ -5,7 +5,8 @@ use mathlib.Core.Path.{_≡_, refl}
 use mathlib.Core.Option.{some, none}
 use mathlib.Core.List.{List, [], _∷_, flatMap, flatten}
 use lib.ListN.{take}
-use Rattle.lists.specs.Lists.{all, any, keep, numbers}
+use Rattle.lists.specs.Lists.{any, keep, numbers}
+use Rattle.lists.specs.Each.{all}
 use Rattle.refusal.specs.Verdict.{unless, if-passed, first-refusal}
 use Rattle.ctc.specs.Collapse.{merge, without-blanks, collapse}
 use Rattle.automaton.specs.Form.{encode}

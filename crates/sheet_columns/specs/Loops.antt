@@ -11,10 +11,10 @@ use lib.Seq.{sets, drop-set-lt}
 use lib.Dec.{eqb}
 use borrow.Author.Tests.{eq-eqb, ne-eqb, eqb-true}
 use Rattle.lists.specs.EachLaws.{drop-all}
-use Rattle.lists.specs.Lists.{all}
+use Rattle.lists.specs.Each.{all}
 use Rattle.lists.specs.OrderLaws.{and-left, and-right, and-both}
 use Rattle.lists.specs.WrittenLaws.{stored-size, stored-then}
-use Rattle.lists.specs.Memory.{Stored}
+use Rattle.lists.specs.Stored.{Stored}
 use Rattle.sheet_format.specs.Sheet.{both}
 use Rattle.sheet_format.specs.ColumnLinesLaws.{columnsIn-end, columnsIn-some, beside, put}
 use Rattle.sheet_format.specs.ColumnLines.{columnsIn}

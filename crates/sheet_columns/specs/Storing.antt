@@ -7,8 +7,8 @@ use mathlib.Core.Bool.{Bool, true}
 use Prim.Native.Nat.{ℕ, _+_, _<_, _≤_}
 use lib.ListN.{length, drop}
 use lib.Dec.{eqb}
-use Rattle.lists.specs.Lists.{all}
-use Rattle.lists.specs.Memory.{Stored}
+use Rattle.lists.specs.Each.{all}
+use Rattle.lists.specs.Stored.{Stored}
 use Rattle.sheet_format.specs.Sheet.{both}
 use Rattle.sheet_format.specs.ColumnLines.{columnsIn}
 use Rattle.sheet_columns.specs.declared.Column.{Column}

@@ -5,7 +5,7 @@ use mathlib.Core.List.{List, _++_}
 use native.Mathlib.Omega.{arith}
 use lib.ListN.{length, length-append}
 use Rattle.lists.specs.WrittenLaws.{stored-then, stored-size}
-use Rattle.lists.specs.Memory.{Stored}
+use Rattle.lists.specs.Stored.{Stored}
 
 -- front and back are the whole: there is room for both, and what is stored then
 module _ (whole front back before : List ℕ) (n : ℕ) (is : whole ≡ front ++ back) (room : n + length whole ≤ length before) where

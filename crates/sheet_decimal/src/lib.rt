@@ -3,7 +3,8 @@ ghost use mathlib.Core.Path.{_≡_};
 ghost use mathlib.Core.List.{[], _∷_};
 ghost use Prim.Native.Nat.{_+_, _<_, _≤_};
 ghost use lib.ListN.{length};
-ghost use Rattle.lists.specs.Memory.{old, new, Stored};
+ghost use Rattle.lists.specs.Memory.{old, new};
+ghost use Rattle.lists.specs.Stored.{Stored};
 ghost use Rattle.sheet_decimal.specs.Numerals.{digit, decimal};
 
 // The digit of a number below 10.

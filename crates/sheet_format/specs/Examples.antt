@@ -4,7 +4,7 @@ use mathlib.Core.Option.{Option, some, none}
 use mathlib.Core.List.{List, [], _∷_, map, flatten}
 use mathlib.Core.Bool.{Bool, true, false}
 use Prim.Native.Nat.{ℕ}
-use Rattle.lists.specs.Lists.{all}
+use Rattle.lists.specs.Each.{all}
 use Rattle.text.specs.Bytes.{bytes}
 use Rattle.lists.specs.Cases.{provided}
 use Rattle.matrix.specs.Matrix.{matrix}

@@ -10,7 +10,7 @@ use native.Mathlib.Omega.{arith}
 use lib.ListN.{length, replicate, length-append, length-replicate}
 use lib.Dec.{eqb, leb, ltb}
 use borrow.Author.Tests.{lt-leb, le-leb, lt-ltb, le-ltb}
-use Rattle.lists.specs.Lists.{all}
+use Rattle.lists.specs.Each.{all}
 use Rattle.lists.specs.OrderLaws.{lt-or-le}
 use Rattle.lists.specs.Cases.{provided}
 use Rattle.sheet_format.specs.Sheet.{onto, pieces, both, every, linesOf, costOf, columnOf, Sheet, equal-columns, fitting, laid, sheetFrom, sheetOf}

@@ -7,7 +7,7 @@ use Prim.Native.Nat.{ℕ, _+_}
 use Prim.Native.Char.{code}
 use lib.ListN.{length}
 use lib.Dec.{eqb, leb}
-use Rattle.lists.specs.Lists.{all}
+use Rattle.lists.specs.Each.{all}
 use Rattle.lists.specs.Cases.{provided}
 use Rattle.text.specs.Digits.{digits, value}
 use Rattle.matrix.specs.Matrix.{Matrix, matrix}

@@ -4,9 +4,10 @@ use mathlib.Core.Path.{_≡_}
 use mathlib.Core.List.{List, [], _∷_, _++_, append-nil}
 use native.Mathlib.Omega.{arith}
 use lib.ListN.{length, length-append}
-use Rattle.lists.specs.Lists.{Each}
+use Rattle.lists.specs.Each.{Each}
 use Rattle.lists.specs.FillingLoops.{filling-none, filling-stored, filling-all}
-use Rattle.lists.specs.Memory.{Wrote, Stored}
+use Rattle.lists.specs.Memory.{Wrote}
+use Rattle.lists.specs.Stored.{Stored}
 use Rattle.refusal.specs.declared.Refusal.{Refusal}
 use Rattle.refusal.specs.Number.{numberOf}
 use Rattle.refusal.specs.NumberLaws.{number-between}

@@ -8,7 +8,7 @@ use lib.ListN.{length, getD, take, drop, take-append-drop, length-drop}
 use lib.Seq.{take-suc, drop-drop, getD-take, getD-drop, length-take-le}
 use borrow.Author.Tests.{eq-eqb, ne-eqb}
 use Rattle.lists.specs.OrderLaws.{eq-or-ne}
-use Rattle.text.specs.Text.{until}
+use Rattle.text.specs.Places.{until}
 use Rattle.sheet_format.specs.ColumnLines.{Free}
 use Rattle.sheet_number.specs.Places.{part, LineEnd}
 

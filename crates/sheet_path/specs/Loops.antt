@@ -6,7 +6,7 @@ use native.Mathlib.Omega.{arith}
 use lib.Dec.{lit≤}
 use lib.ListN.{length, getD, drop, length-append}
 use Rattle.lists.specs.EachLaws.{drop-here, drop-all}
-use Rattle.lists.specs.Lists.{Each}
+use Rattle.lists.specs.Each.{Each}
 use Rattle.sheet_decimal.specs.Numerals.{decimal}
 use Rattle.sheet_decimal.specs.Decimal.{decimal-short}
 use Rattle.sheet_path.specs.Labels.{following, spaced}

@@ -4,7 +4,8 @@ use sheet_decimal::put_decimal;
 ghost use mathlib.Core.List.{_∷_};
 ghost use Prim.Native.Nat.{_+_, _≤_};
 ghost use lib.ListN.{length, drop};
-ghost use Rattle.lists.specs.Memory.{old, new, Stored};
+ghost use Rattle.lists.specs.Memory.{old, new};
+ghost use Rattle.lists.specs.Stored.{Stored};
 ghost use Rattle.sheet_decimal.specs.Numerals.{decimal};
 ghost use Rattle.sheet_path.specs.Labels.{following, spaced};
 

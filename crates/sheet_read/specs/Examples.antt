@@ -5,7 +5,7 @@ use mathlib.Core.Path.{_≡_, refl}
 use lib.Dec.{leb}
 use mathlib.Core.Bool.{true}
 use lib.ListN.{replicate}
-use Rattle.lists.specs.Lists.{all}
+use Rattle.lists.specs.Each.{all}
 use Rattle.refusal.specs.declared.Refusal.the-variants.{Work}
 use Rattle.refusal.specs.declared.Checked.{Checked}
 use Rattle.refusal.specs.declared.Checked.the-variants.{Passed, Refused}

@@ -5,7 +5,7 @@ use mathlib.Core.Option.{Option, some, none}
 use mathlib.Core.List.{List, [], _∷_}
 use native.Mathlib.Omega.{arith}
 use lib.ListN.{length, getD, length-map}
-use Rattle.lists.specs.Lists.{Each}
+use Rattle.lists.specs.Each.{Each}
 use Rattle.refusal.specs.declared.Refusal.{Refusal}
 use Rattle.refusal.specs.declared.Refusal.the-variants.{NoReading}
 use Rattle.refusal.specs.declared.Checked.{Checked}
@@ -16,7 +16,8 @@ use Rattle.ctc.specs.Collapse.{collapse}
 use Rattle.ctc.specs.CollapseLaws.{collapse-shorter}
 use Rattle.automaton.specs.Form.{lettersOf}
 use Rattle.automaton.specs.ValidLaws.{valid-parts}
-use Rattle.matrix.specs.Matrix.{Matrix, priceFrom, price, PathFrom, PathOf}
+use Rattle.matrix.specs.Matrix.{Matrix, priceFrom, price}
+use Rattle.matrix.specs.Paths.{PathFrom, PathOf}
 use Rattle.outcome.specs.Outcome.{Outcome}
 use Rattle.regex.specs.Grammar.{WordsOf}
 use Rattle.compile.specs.Call.{compile-call}

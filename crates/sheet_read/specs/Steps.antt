@@ -26,7 +26,8 @@ use Rattle.outcome.specs.Outcome.{Outcome}
 use Rattle.regex.specs.Grammar.{WordsOf}
 use Rattle.compile.specs.Call.{compile-call}
 use Rattle.decode_checks.specs.Checks.{needed, matrix-checks}
-use Rattle.decode_valid.specs.Answers.{Lent, rooms, outcome-report, path-of, word-of, Answers, Checks}
+use Rattle.decode_valid.specs.Answers.{outcome-report, path-of, word-of, Answers, Checks}
+use Rattle.decode_valid.specs.Lent.{Lent, rooms}
 use Rattle.read_spelling.specs.Spelling.{characters}
 use Rattle.read_text.specs.Promise.{ReadsBy, Reads}
 use Rattle.sheet_lines.specs.Lines.{reading-lines, refusal-line}

@@ -1,4 +1,5 @@
 pub mod Bytes
 pub mod Text
+pub mod Places
 pub mod Digits
 pub mod TextLaws

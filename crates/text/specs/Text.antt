@@ -1,11 +1,10 @@
 -- A text as a list of bytes: what it begins with, and where a sign first occurs in it.
 use mathlib.Core.Option.{Option, some, none}
 use mathlib.Core.List.{List, [], _∷_}
-use mathlib.Core.Bool.{Bool, true, false, _||_, cond}
-use Prim.Native.Nat.{ℕ, suc, _-_}
+use mathlib.Core.Bool.{Bool, true, false, _||_}
+use Prim.Native.Nat.{ℕ}
 use Prim.Native.Char.{Char, code}
 use lib.Dec.{eqb}
-use lib.ListN.{length}
 
 -- the byte is one of these
 abbrev pub one-of : List ℕ → ℕ → Bool
@@ -33,12 +32,3 @@ in-front b (some x) = some (b ∷ x .0, x .1)
 unfoldable pub split : Char → List ℕ → Option (List ℕ × List ℕ)
 split c [] = none
 split c (b ∷ s) = elim (eqb b (code c)) [ true ↦ some ([], s) | false ↦ in-front b (split c s) ]
-
--- the number of bytes before the first such byte
-unfoldable pub until : ℕ → List ℕ → ℕ
-until c [] = 0
-until c (b ∷ s) = cond (eqb b c) 0 (suc (until c s))
-
--- the place where a rest of the text begins
-abbrev pub place : List ℕ → List ℕ → ℕ
-place text r = length text - length r

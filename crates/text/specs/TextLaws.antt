@@ -13,7 +13,8 @@ use lib.Dec.{eqb}
 use borrow.Author.Tests.{eq-eqb, ne-eqb}
 use lib.Seq.{drop-drop, drop-append-seam, take-all}
 use Rattle.lists.specs.EachLaws.{drop-here, drop-all}
-use Rattle.text.specs.Text.{next, next-of, one-of, rest, in-front, split, until, place}
+use Rattle.text.specs.Text.{next, next-of, one-of, rest, in-front, split}
+use Rattle.text.specs.Places.{until, place}
 
 module _ (c : ℕ) (text : List ℕ) (i : ℕ) where
   pub until-here : i < length text → getD text i 0 ≡ c → i + until c (drop i text) ≡ i

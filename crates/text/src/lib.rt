@@ -3,7 +3,8 @@ ghost use mathlib.Core.Path.{_≡_};
 ghost use Prim.Native.Nat.{_+_};
 ghost use lib.ListN.{getD, drop};
 ghost use Rattle.lists.specs.Memory.{old};
-ghost use Rattle.text.specs.Text.{one-of, until};
+ghost use Rattle.text.specs.Text.{one-of};
+ghost use Rattle.text.specs.Places.{until};
 
 // The byte at a place, or 0 past the end.
 pub fn peek(text: &[u8], at: usize) -> u8

@@ -5,7 +5,7 @@ use mathlib.Core.Bool.{true}
 use mathlib.Core.List.{List, [], _∷_}
 use mathlib.Core.Logic.{_↔_, _⊎_, inl, inr}
 use native.Mathlib.Omega.{arith}
-use Rattle.lists.specs.Lists.{Each}
+use Rattle.lists.specs.Each.{Each}
 use Rattle.lists.specs.OrderLaws.{eq-or-ne}
 use Rattle.automaton.specs.Automaton.{Automaton}
 use Rattle.automaton.specs.Proper.{Proper}

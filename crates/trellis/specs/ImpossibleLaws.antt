@@ -4,8 +4,9 @@ use mathlib.Core.List.{List, [], _∷_}
 use native.Mathlib.Omega.{arith}
 use lib.ListN.{length}
 use Rattle.lists.specs.EachLaws.{each-anywhere}
-use Rattle.lists.specs.Lists.{Each}
-use Rattle.matrix.specs.Matrix.{Matrix, cost, priceFrom, Usable, PathFrom, CostsPass}
+use Rattle.lists.specs.Each.{Each}
+use Rattle.matrix.specs.Matrix.{Matrix, cost, priceFrom}
+use Rattle.matrix.specs.Paths.{Usable, PathFrom, CostsPass}
 use Rattle.trellis.specs.Impossible.{TOP}
 
 module _ (M : Matrix) (pass : CostsPass M) where

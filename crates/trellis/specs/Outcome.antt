@@ -7,10 +7,11 @@ use mathlib.Core.Logic.{_↔_, ⊎-elim}
 use native.Mathlib.Omega.{arith}
 use lib.ListN.{length}
 use Rattle.lists.specs.OrderLaws.{lt-or-le}
-use Rattle.lists.specs.Lists.{Each}
+use Rattle.lists.specs.Each.{Each}
 use Rattle.automaton.specs.Automaton.{Automaton, Accepts}
 use Rattle.automaton.specs.Proper.{Proper}
-use Rattle.matrix.specs.Matrix.{Matrix, price, CostsPass}
+use Rattle.matrix.specs.Matrix.{Matrix, price}
+use Rattle.matrix.specs.Paths.{CostsPass}
 use Rattle.outcome.specs.Outcome.{Rival, Best, Outcome}
 use Rattle.trellis.specs.Graph.{Way}
 use Rattle.trellis.specs.Impossible.{TOP}

@@ -8,7 +8,7 @@ use lib.ListN.{length, getD, set, length-set}
 use lib.Seq.{getD-set-same, getD-set-other}
 use Rattle.lists.specs.OrderLaws.{eq-or-ne}
 use Rattle.lists.specs.OutsideLaws.{outside-none, outside-set, outside-then, outside-wider, front-at, behind-at}
-use Rattle.lists.specs.Memory.{Outside}
+use Rattle.lists.specs.Stored.{Outside}
 use Rattle.automaton.specs.Form.{lettersOf}
 use Rattle.trellis.specs.Impossible.{plus}
 use Rattle.trellis_offers.specs.Offers.{Offers, candidate}

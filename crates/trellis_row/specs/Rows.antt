@@ -4,7 +4,7 @@ use mathlib.Core.Path.{_≡_}
 use mathlib.Core.List.{List}
 use lib.ListN.{getD}
 use Rattle.lists.specs.Least.{Least}
-use Rattle.lists.specs.Memory.{Outside}
+use Rattle.lists.specs.Stored.{Outside}
 use Rattle.automaton.specs.Form.{lettersOf, labelOf, view}
 use Rattle.form_starts.specs.Starts.{ArcStarts}
 use Rattle.trellis.specs.Impossible.{TOP, plus}

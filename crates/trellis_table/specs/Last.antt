@@ -1,7 +1,7 @@
 -- The last row of the table: what there is to pay where no column is left.
 use Prim.Native.Nat.{ℕ, _+_}
 use mathlib.Core.List.{List}
-use Rattle.lists.specs.Memory.{Outside}
+use Rattle.lists.specs.Stored.{Outside}
 use Rattle.matrix.specs.Matrix.{Matrix}
 use Rattle.automaton.specs.Form.{view}
 use Rattle.trellis.specs.Table.{Row}

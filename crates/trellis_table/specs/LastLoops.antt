@@ -8,7 +8,7 @@ use lib.ListN.{length, getD, set}
 use lib.Seq.{getD-set-same, getD-set-other}
 use Rattle.lists.specs.OrderLaws.{eq-or-ne}
 use Rattle.lists.specs.OutsideLaws.{outside-none, outside-set, outside-then}
-use Rattle.lists.specs.Memory.{Outside}
+use Rattle.lists.specs.Stored.{Outside}
 use Rattle.automaton.specs.Form.{lettersOf, endsOf, view}
 use Rattle.trellis.specs.ExtendedLaws.{at-letter}
 use Rattle.trellis.specs.Cells.{ending}

@@ -8,7 +8,7 @@ use lib.ListN.{length, getD, take, drop, length-drop}
 use lib.Dec.{eqb}
 use lib.Seq.{drop-drop}
 use Rattle.lists.specs.EachLaws.{drop-all}
-use Rattle.text.specs.Text.{until}
+use Rattle.text.specs.Places.{until}
 use Rattle.sheet_format.specs.Sheet.{pieces, onto}
 
 pub until-within : (c : ℕ) (s : List ℕ) → until c s ≤ length s

@@ -10,7 +10,8 @@ use lib.Seq.{take-nil}
 use borrow.Author.Tests.{eq-eqb, ne-eqb}
 use Rattle.lists.specs.EachLaws.{drop-here, drop-all}
 use Rattle.lists.specs.FillingLoops.{Filling, filling-none, filling-stored, filling-length, filling-all}
-use Rattle.lists.specs.Memory.{written, Wrote, Stored}
+use Rattle.lists.specs.Memory.{written, Wrote}
+use Rattle.lists.specs.Stored.{Stored}
 use Rattle.sheet_format.specs.Sheet.{pieces, onto}
 use Rattle.vectors_fields.specs.Fields.{more, value, numbersOf, ended, onward}
 

@@ -5,7 +5,8 @@ ghost use mathlib.Core.Bool.{false};
 ghost use mathlib.Core.List.{map};
 ghost use Prim.Native.Nat.{_-_, _≤_, min};
 ghost use lib.ListN.{length, take, drop};
-ghost use Rattle.lists.specs.Memory.{old, new, Stored, Wrote};
+ghost use Rattle.lists.specs.Memory.{old, new, Wrote};
+ghost use Rattle.lists.specs.Stored.{Stored};
 ghost use Rattle.vectors_fields.specs.Fields.{fieldOf, numbersOf, sizeOf, low, labelsOf, Counts, ended, onward};
 
 // Where field k begins: after the k-th tab, or at the end.

@@ -2,7 +2,7 @@
 use mathlib.Core.Path.{sym, _∙_, subst}
 use lib.ListN.{length}
 use denote.Ref.{now}
-use Rattle.refusal.specs.Report.{reported, Fills}
+use Rattle.refusal.specs.Fills.{reported, Fills}
 use Rattle.refusal.specs.ReportLaws.{fills-refused}
 use Rattle.alphabet.specs.Tests.{text-alphabet}
 use Rattle.compile.specs.Call.{compile-call}

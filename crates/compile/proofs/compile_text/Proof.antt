@@ -3,10 +3,10 @@ use mathlib.Core.Path.{sym, _∙_, subst}
 use lib.ListN.{length}
 use denote.Ref.{now}
 use Rattle.refusal.specs.declared.Refusal.the-variants.{Letters}
-use Rattle.refusal.specs.Report.{reported, Fills}
+use Rattle.refusal.specs.Fills.{reported, Fills}
 use Rattle.refusal.specs.ReportLaws.{fills-refused}
 use Rattle.regex.specs.Parse.{expressionOf}
-use Rattle.compile.specs.Call.{read-form}
+use Rattle.compile.specs.Call.{parsed-form}
 use Rattle.compile.specs.Steps.{text-refused, text-many, text-compilable, text-form}
 use borrow.Author.Needs.{needs}
 use Rattle.compile.proofs.compile_text.Statement.{statement}
@@ -27,7 +27,7 @@ returns c =
     let A = now (s .args .alphabet) in
     let t = now (s .args .text) in
     let m = now (s .args .form) in
-    fills-refused (read-form A (length m) (expressionOf A t)) Letters m
+    fills-refused (parsed-form A (length m) (expressionOf A t)) Letters m
     (text-many A t (length m) (c .before .before .n .given .0 .0) (sym (c .before .before .n .given .1) ∙ c .before .before .before .before .expression .ensures) (c .if1 .taken))
 
 write-requires : tie.Need-write-requires
@@ -43,7 +43,7 @@ returns-2 c =
     let A = now (s .args .alphabet) in
     let t = now (s .args .text) in
     let m = now (s .args .form) in
-    fills-refused (read-form A (length m) (expressionOf A t)) (c .before .r .given .0 .0) m
+    fills-refused (parsed-form A (length m) (expressionOf A t)) (c .before .r .given .0 .0) m
     (text-refused A t (length m) (c .before .r .given .0 .0) (sym (c .before .r .given .1) ∙ c .before .before .before .expression .ensures))
 
 same-length : tie.Need-same-length

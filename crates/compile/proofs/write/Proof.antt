@@ -3,7 +3,7 @@ use mathlib.Core.Path.{_≡_, subst}
 use native.Mathlib.Omega.{arith}
 use lib.ListN.{length}
 use denote.Ref.{now}
-use Rattle.refusal.specs.Report.{reported, Fills}
+use Rattle.refusal.specs.Fills.{reported, Fills}
 use Rattle.compile.specs.Steps.{buildable, told-call}
 use borrow.Author.Needs.{needs}
 use Rattle.compile.proofs.write.Statement.{statement}

@@ -6,7 +6,8 @@ use lib.ListN.{length, drop}
 use denote.Ref.{now}
 use borrow.Author.Needs.{needs}
 use borrow.Author.Tests.{not-true, not-false}
-use Rattle.lists.specs.Lists.{in-range, all}
+use Rattle.lists.specs.Lists.{in-range}
+use Rattle.lists.specs.Each.{all}
 use Rattle.lists.specs.EachLaws.{all-more, all-fails, all-end}
 use Rattle.ctc_labels.proofs.all_in_range.Statement.{statement}
 use Rattle.ctc_labels.proofs.all_in_range.Tie as tie

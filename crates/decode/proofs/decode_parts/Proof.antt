@@ -13,7 +13,8 @@ use Rattle.automaton.specs.ValidLaws.{valid-at}
 use Rattle.matrix.specs.Matrix.{Matrix, matrix}
 use Rattle.decode_checks.specs.Checks.{matrix-checks, decode-checks}
 use Rattle.decode_checks.specs.PassingLaws.{fits}
-use Rattle.decode_valid.specs.Answers.{Lent, rooms, DecodeAnswers}
+use Rattle.decode_valid.specs.Answers.{DecodeAnswers}
+use Rattle.decode_valid.specs.Lent.{Lent, rooms}
 use Rattle.decode_valid.specs.AnswersLaws.{checks-refused, checks-passed}
 use Rattle.decode.proofs.decode_parts.Statement.{statement}
 use Rattle.decode.proofs.decode_parts.Tie as tie

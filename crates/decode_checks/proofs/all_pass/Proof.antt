@@ -6,7 +6,7 @@ use lib.ListN.{length, drop, getD}
 use denote.Ref.{now}
 use borrow.Author.Tests.{lt-leb, le-leb}
 use Rattle.lists.specs.EachLaws.{all-more, all-fails, all-end}
-use Rattle.lists.specs.Lists.{all}
+use Rattle.lists.specs.Each.{all}
 use Rattle.decode_checks.specs.Checks.{passes}
 use Rattle.decode_checks.proofs.all_pass.Statement.{statement}
 use Rattle.decode_checks.proofs.all_pass.Tie as tie

@@ -5,7 +5,7 @@ use native.Mathlib.Omega.{arith}
 use borrow.Author.Needs.{needs}
 use borrow.Author.Tests.{not-true, not-false}
 use denote.Ref.{now}
-use Rattle.lists.specs.Lists.{all}
+use Rattle.lists.specs.Each.{all}
 use Rattle.matrix.specs.Matrix.{Matrix}
 use Rattle.decode_checks.specs.Checks.{Rooms, matrix-fault, passes}
 use Rattle.decode_checks.specs.PassingLaws.{sized, needed-most, refused-matrix, refused-cost, refused-path, refused-word, refused-work, all-passed}

@@ -3,7 +3,7 @@ use Prim.Native.Nat.{_^_, _<_}
 use mathlib.Core.Path.{refl, ap}
 use native.Mathlib.Omega.{arith}
 use borrow.Author.Needs.{needs}
-use Rattle.refusal.specs.Report.{reported}
+use Rattle.refusal.specs.Fills.{reported}
 use Rattle.export_counts.specs.Handed.{length-alone}
 use Rattle.export_counts.specs.HandedLaws.{hands-as}
 use Rattle.export_counts.proofs.hand_length.Statement.{statement}

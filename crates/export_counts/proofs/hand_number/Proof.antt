@@ -2,7 +2,7 @@
 use mathlib.Core.Path.{sym, ap, _∙_}
 use borrow.Author.Needs.{needs}
 use Rattle.refusal.specs.declared.Counted.{Counted}
-use Rattle.refusal.specs.Report.{reported}
+use Rattle.refusal.specs.Fills.{reported}
 use Rattle.export_counts.proofs.hand_number.Statement.{statement}
 use Rattle.export_counts.proofs.hand_number.Tie as tie
 

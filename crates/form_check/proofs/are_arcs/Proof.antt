@@ -7,7 +7,7 @@ use lib.ListN.{length, drop}
 use denote.Ref.{now}
 use borrow.Author.Needs.{needs}
 use borrow.Author.Tests.{not-true, not-false}
-use Rattle.lists.specs.Lists.{all}
+use Rattle.lists.specs.Each.{all}
 use Rattle.automaton.specs.Form.{isArc, ordered}
 use Rattle.form_check.specs.Checks.{behind, behind-none, behind-more, behind-bad, behind-late, behind-end}
 use Rattle.form_check.proofs.are_arcs.Statement.{statement}

@@ -7,7 +7,7 @@ use denote.Ref.{now}
 use borrow.Author.Needs.{needs}
 use borrow.Author.Tests.{not-true, not-false}
 use Rattle.lists.specs.EachLaws.{all-more, all-fails, all-end}
-use Rattle.lists.specs.Lists.{all}
+use Rattle.lists.specs.Each.{all}
 use Rattle.automaton.specs.Form.{isLetter}
 use Rattle.form_check.proofs.are_letters.Statement.{statement}
 use Rattle.form_check.proofs.are_letters.Tie as tie

@@ -3,7 +3,7 @@ use mathlib.Core.Path.{sym, ap, _∙_}
 use mathlib.Core.Bool.{_&&_}
 use denote.Ref.{now}
 use borrow.Author.Tests.{not-true, not-false}
-use Rattle.lists.specs.Lists.{all}
+use Rattle.lists.specs.Each.{all}
 use Rattle.automaton.specs.Form.{isLetter, isArc, ordered, lettersOf, alphabetOf}
 use Rattle.form_check.specs.Checks.{valid-empty, valid-head, valid-short, valid-letters, valid-arcs, letters-part, arcs-part}
 use borrow.Author.Needs.{needs}

@@ -3,7 +3,7 @@ use borrow.Author.Needs.{needs}
 use denote.Ref.{now}
 use Rattle.answers.specs.Decoded.{reported}
 use Rattle.matrix.specs.Matrix.{matrix}
-use Rattle.decode_valid.specs.Answers.{Lent}
+use Rattle.decode_valid.specs.Lent.{Lent}
 use Rattle.kavurehy.specs.Bounds.{decode-fits}
 use Rattle.kavurehy.proofs.kavurehy_decode.Statement.{statement}
 use Rattle.kavurehy.proofs.kavurehy_decode.Tie as tie

@@ -8,7 +8,7 @@ use Rattle.matrix.specs.Matrix.{Matrix, matrix}
 use Rattle.decode_checks.specs.Checks.{matrix-checks}
 use Rattle.decode_checks.specs.Passing.{Fits}
 use Rattle.decode_checks.specs.PassingLaws.{fits}
-use Rattle.decode_valid.specs.Answers.{Lent, rooms}
+use Rattle.decode_valid.specs.Lent.{Lent, rooms}
 use Rattle.decode_valid.specs.AnswersLaws.{checks-refused, checks-passed}
 use Rattle.read_valid.specs.Accepted.{ReadsAccepted}
 use borrow.Author.Needs.{needs}

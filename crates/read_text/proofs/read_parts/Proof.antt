@@ -5,11 +5,11 @@ use mathlib.Core.List.{List}
 use lib.ListN.{length}
 use lib.Seq.{length-take-le}
 use denote.Ref.{now}
-use Rattle.refusal.specs.Report.{reported as counted, Fills}
+use Rattle.refusal.specs.Fills.{reported as counted, Fills}
 use Rattle.automaton.specs.ValidLaws.{valid-at}
 use Rattle.matrix.specs.Matrix.{Matrix, matrix}
 use Rattle.compile.specs.Call.{compile-call}
-use Rattle.decode_valid.specs.Answers.{Lent}
+use Rattle.decode_valid.specs.Lent.{Lent}
 use Rattle.read_text.specs.Steps.{Compiled, compiled, compiled-fits, compiled-form, compiled-text, reads-refused, reads-form}
 use borrow.Author.Needs.{needs}
 use Rattle.read_text.proofs.read_parts.Statement.{statement}

@@ -4,7 +4,8 @@ use mathlib.Core.Path.{ap, _∙_, subst}
 use denote.Ref.{now}
 use Rattle.answers.specs.Decoded.{reported as decoded}
 use Rattle.matrix.specs.Matrix.{Matrix, matrix}
-use Rattle.decode_valid.specs.Answers.{Lent, DecodeAnswers}
+use Rattle.decode_valid.specs.Answers.{DecodeAnswers}
+use Rattle.decode_valid.specs.Lent.{Lent}
 use Rattle.read_valid.specs.Words.{read-none, read-labels, read-characters}
 use borrow.Author.Needs.{needs}
 use Rattle.read_valid.proofs.read_valid.Statement.{statement}

@@ -5,7 +5,6 @@ use Prim.Native.Nat.{_≤_, _-_, _+_}
 use mathlib.Core.Path.{_≡_}
 use lib.ListN.{length, drop}
 use Rattle.regex.specs.Letters.{labelsOf}
-use Rattle.regex.specs.Tree.{member}
 use Rattle.regex_set.specs.Answers.{setAt}
 use Rattle.regex_set.specs.Sets.{labels-none, labels-more, labels-end}
 use Rattle.regex_set.proofs.count_labels.Statement.{statement}

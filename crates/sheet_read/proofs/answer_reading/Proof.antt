@@ -8,7 +8,7 @@ use denote.Ref.{now}
 use borrow.Author.Needs.{needs}
 use Rattle.answers.specs.Reading.{reported}
 use Rattle.matrix.specs.Matrix.{Matrix, matrix}
-use Rattle.decode_valid.specs.Answers.{Lent}
+use Rattle.decode_valid.specs.Lent.{Lent}
 use Rattle.sheet_print.specs.Printed.{answer-lines}
 use Rattle.sheet_read.specs.Answer.{PrintsReading}
 use Rattle.sheet_read.specs.PromiseLaws.{answers}

@@ -5,7 +5,7 @@ use Prim.Native.Nat.{_-_, _+_}
 use mathlib.Core.Path.{_≡_, refl, sym, _∙_}
 use lib.ListN.{length, drop}
 use Rattle.text.specs.TextLaws.{until-here, until-past, until-end}
-use Rattle.text.specs.Text.{until}
+use Rattle.text.specs.Places.{until}
 use Rattle.text.proofs.find.Statement.{statement}
 use Rattle.text.proofs.find.Tie as tie
 

@@ -5,7 +5,6 @@ use denote.Ref.{now}
 use borrow.Author.Needs.{needs}
 use borrow.Author.Tests.{not-true, not-false}
 use Rattle.automaton.specs.Form.{view, alphabetOf}
-use Rattle.trellis.specs.Reached.{entering}
 use Rattle.trellis_steps.specs.Loops.{entering-high}
 use Rattle.trellis_column.specs.Loops.{offers-absent, offers-dear, offers-other, offers-label}
 use Rattle.trellis_column.proofs.offered.Statement.{statement}

@@ -8,7 +8,6 @@ use denote.Ref.{now}
 use borrow.Author.Needs.{needs}
 use Rattle.lists.specs.Marks.{Marks}
 use Rattle.automaton.specs.Form.{view}
-use Rattle.trellis.specs.Reached.{entering}
 use Rattle.trellis.specs.ExtendedLaws.{at-letter}
 use Rattle.trellis_steps.specs.Steps.{Behind}
 use Rattle.trellis_steps.specs.Loops.{steps-marked}

@@ -1,6 +1,5 @@
 -- The measure by which the recursion of `alternation`, `branch`, `group` and `piece` ends, and what is assumed of a call below it.
 use lib.ListN.{length}
-use denote.Ref.{now}
 use Prim.Native.Nat.{ℕ, _+_, _*_, _-_, _<_}
 use borrow.Fn.Kinds.{In}
 use borrow.Fn.PlainCycle.{Measures, is, falls, and}

@@ -1,7 +1,6 @@
 -- The number by which the recursion of `alternation`, `branch`, `group` and `piece` ends, and the contracts of the calls below it.
 use Prim.Native.Nat.{ℕ, _+_, _*_, _-_, _<_}
 use lib.ListN.{length}
-use denote.Ref.{now}
 use borrow.Fn.Kinds.{In}
 use borrow.Fn.PlainCycle.{Measures, is, falls, and}
 use Rattle.regex_parse.proofs.alternation.Reads as alternation
