@@ -63,9 +63,9 @@ static size_t whole(const struct list *list)
 
 static struct list room(size_t size, size_t length)
 {
-    size_t in_front = guarded ? GUARD * size : 0;
-    struct list list = {NULL, memory(2 * in_front + length * size), NULL, size, length};
-    list.first = list.all + in_front;
+    size_t before = guarded ? GUARD * size : 0;
+    struct list list = {NULL, memory(2 * before + length * size), NULL, size, length};
+    list.first = list.all + before;
     if (guarded)
         fill(list.all, whole(&list));
     return list;

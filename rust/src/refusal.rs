@@ -24,13 +24,13 @@ pub enum Refusal {
     Label,
     /// Given by the sheet program alone.
     Sheet,
-    /// A refusal of a newer library, by its number, which none of [`Refusal::ROWS`] has.
+    /// A refusal of a newer library, by its number, which none of [`Refusal::ALL`] has.
     Other(u32),
 }
 
 impl Refusal {
     /// All refusals, in the order of their numbers.
-    pub const ROWS: [Refusal; 18] = [
+    pub const ALL: [Refusal; 18] = [
         Refusal::Alphabet,
         Refusal::TextLength,
         Refusal::TextByte,
@@ -86,10 +86,10 @@ impl Refusal {
     /// assert_eq!(Refusal::from_number(19), Some(Refusal::Other(19)));
     /// ```
     pub fn from_number(number: u32) -> Option<Refusal> {
-        let row = Refusal::ROWS.into_iter().find(|row| row.number() == number);
+        let known = Refusal::ALL.into_iter().find(|r| r.number() == number);
         match number {
             0 => None,
-            _ => Some(row.unwrap_or(Refusal::Other(number))),
+            _ => Some(known.unwrap_or(Refusal::Other(number))),
         }
     }
 
@@ -120,7 +120,7 @@ impl fmt::Display for Refusal {
             Refusal::NoReading => "no reading",
             Refusal::Label => "label",
             Refusal::Sheet => "sheet",
-            Refusal::Other(_) => "a row of a newer library",
+            Refusal::Other(_) => "a refusal of a newer library",
         };
         write!(f, "refused {}: {name}", self.number())
     }
@@ -136,10 +136,10 @@ mod tests {
     fn numbers() {
         assert_eq!(Refusal::from_number(0), None);
         assert_eq!(Refusal::check(0), Ok(()));
-        for (row, number) in Refusal::ROWS.into_iter().zip(1..=18) {
-            assert_eq!(row.number(), number);
-            assert_eq!(Refusal::from_number(number), Some(row));
-            assert_eq!(Refusal::check(number), Err(row));
+        for (refusal, number) in Refusal::ALL.into_iter().zip(1..=18) {
+            assert_eq!(refusal.number(), number);
+            assert_eq!(Refusal::from_number(number), Some(refusal));
+            assert_eq!(Refusal::check(number), Err(refusal));
         }
         for number in [19, u32::MAX] {
             let other = Refusal::Other(number);
@@ -154,6 +154,6 @@ mod tests {
         assert_eq!(Refusal::Alphabet.to_string(), "refused 1: alphabet");
         assert_eq!(Refusal::Sheet.to_string(), "refused 18: sheet");
         let other = Refusal::Other(19).to_string();
-        assert_eq!(other, "refused 19: a row of a newer library");
+        assert_eq!(other, "refused 19: a refusal of a newer library");
     }
 }

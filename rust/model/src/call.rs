@@ -30,8 +30,8 @@ impl Call {
     /// By the document; `search` finds the best path of an expression and its form.
     pub fn expected(&self, search: impl Fn(&Rc<Tree>, &Form) -> Option<Best>) -> Expected {
         match compile_within(&self.alphabet, &self.text, self.form) {
-            Err(row) => Expected {
-                answer: Err(row),
+            Err(refusal) => Expected {
+                answer: Err(refusal),
                 form: Vec::new(),
                 touched: 0,
             },

@@ -31,7 +31,7 @@ impl Machine {
             let here = states[machine.steps.len()].clone();
             let mut steps = Vec::new();
             for x in 1..=k {
-                let next: State = here.iter().flat_map(|rest| behind_all(rest, x)).collect();
+                let next: State = here.iter().flat_map(|rest| after_all(rest, x)).collect();
                 if !next.is_empty() {
                     let number = *numbers.entry(next.clone()).or_insert(states.len());
                     if number == states.len() {
@@ -134,28 +134,28 @@ fn empty_all(parts: &[Rc<Tree>]) -> bool {
 }
 
 /// What may remain of an expression after the label x.
-fn behind(tree: &Tree, x: u8) -> State {
+fn after(tree: &Tree, x: u8) -> State {
     match tree {
         Tree::Set(labels) if labels.contains(&x) => State::from([Vec::new()]),
         Tree::Set(_) => State::new(),
-        Tree::Join(parts) => behind_all(parts, x),
-        Tree::Either(branches) => branches.iter().flat_map(|b| behind(b, x)).collect(),
+        Tree::Join(parts) => after_all(parts, x),
+        Tree::Either(branches) => branches.iter().flat_map(|b| after(b, x)).collect(),
         Tree::Repeat(part, least, most) => {
             let left = most.map(|m| m - 1);
             let again = Rc::new(Tree::Repeat(part.clone(), least.saturating_sub(1), left));
             let more = (left != Some(0)).then_some(again);
             let with = |rest: Remainder| rest.into_iter().chain(more.clone()).collect();
-            behind(part, x).into_iter().map(with).collect()
+            after(part, x).into_iter().map(with).collect()
         }
     }
 }
 
 /// The same for parts joined: x is the first label of some part before which all may be empty.
-fn behind_all(parts: &[Rc<Tree>], x: u8) -> State {
+fn after_all(parts: &[Rc<Tree>], x: u8) -> State {
     let mut all = State::new();
     for (n, part) in parts.iter().enumerate() {
         let with = |rest: Remainder| rest.into_iter().chain(parts[n + 1..].to_vec()).collect();
-        all.extend(behind(part, x).into_iter().map(with));
+        all.extend(after(part, x).into_iter().map(with));
         if !empty(part) {
             break;
         }

@@ -54,7 +54,7 @@ pub fn parse(alphabet: &[u8], text: &[u8]) -> Result<Rc<Tree>, u32> {
     }
     let tokens = tokens(alphabet, text);
     match faults(text, &tokens).into_iter().min() {
-        Some((_, row)) => Err(row),
+        Some((_, refusal)) => Err(refusal),
         None => Ok(tree(text, tokens)),
     }
 }
@@ -112,8 +112,8 @@ fn faults(text: &[u8], tokens: &[Token]) -> Vec<(usize, u32)> {
     let mut before = Before::Nothing;
     let mut open = 0;
     for (at, sign) in tokens {
-        if let Err(row) = sign {
-            found.push((*at, *row));
+        if let Err(refusal) = sign {
+            found.push((*at, *refusal));
         }
         let byte = text[*at];
         let empty = before == Before::Nothing;

@@ -16,7 +16,7 @@ const CASES: usize = 200_000;
 /// Compiles, and compares the answer and the form memory with the model; returns the number of the refusal, or 0.
 pub fn hold(alphabet: &[u8], text: &[u8], memory: usize) -> u32 {
     let expected = compile_within(alphabet, text, memory).map(|(_, form)| form.words());
-    let row = *expected.as_ref().err().unwrap_or(&0);
+    let refusal = *expected.as_ref().err().unwrap_or(&0);
     let written = expected.unwrap_or_default();
     let said = format!("{} {}", alphabet.escape_ascii(), text.escape_ascii());
     let mut form = Lent::new(memory);
@@ -32,15 +32,19 @@ pub fn hold(alphabet: &[u8], text: &[u8], memory: usize) -> u32 {
             &mut counts,
         )
     };
-    assert_eq!((answered, counts), (row, [written.len() as u32]), "{said}");
+    assert_eq!(
+        (answered, counts),
+        (refusal, [written.len() as u32]),
+        "{said}"
+    );
     form.wrote(&written);
 
     let mut form = Lent::new(memory);
     let answer = kavurehy::compile(alphabet, text, form.memory());
-    assert_eq!(number(&answer), row, "{said}");
+    assert_eq!(number(&answer), refusal, "{said}");
     assert_eq!(answer.unwrap_or(0), written.len(), "{said}");
     form.wrote(&written);
-    row
+    refusal
 }
 
 #[test]

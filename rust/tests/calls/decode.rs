@@ -111,12 +111,12 @@ impl Call {
     /// that path, or the number of the refusal.
     fn hold(&self, tally: &mut Tally, search: impl Fn(&Form) -> Option<Best>) -> Result<Best, u32> {
         let (expected, touched) = match self.check() {
-            Err(row) => (Err(row), 0),
+            Err(refusal) => (Err(refusal), 0),
             Ok((form, need)) => (search(&form).ok_or(16), need),
         };
         let (number, price, path) = match &expected {
             Ok(best) => (0, best.price, &best.path[..]),
-            Err(row) => (*row, 0, &[][..]),
+            Err(refusal) => (*refusal, 0, &[][..]),
         };
         let word = collapse(path);
         let counts = [price, word.len() as u32];

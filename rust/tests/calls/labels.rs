@@ -41,23 +41,23 @@ fn hold(
     call: impl Fn(&mut [u8], &mut [u32; 1]) -> u32,
     safe: impl Fn(&mut [u8]) -> Result<usize, Refusal>,
 ) -> u32 {
-    let (row, written) = match expected {
+    let (refusal, written) = match expected {
         Ok(list) => (0, &list[..]),
-        Err(row) => (*row, &[][..]),
+        Err(refusal) => (*refusal, &[][..]),
     };
     let mut lent = Lent::new(memory);
     let mut counts = [u32::MAX];
     let answered = call(lent.memory(), &mut counts);
     let length = [written.len() as u32];
-    assert_eq!((answered, counts), (row, length), "{given:?}");
+    assert_eq!((answered, counts), (refusal, length), "{given:?}");
     lent.wrote(written);
 
     let mut lent = Lent::new(memory);
     let answer = safe(lent.memory());
-    assert_eq!(number(&answer), row, "{given:?}");
+    assert_eq!(number(&answer), refusal, "{given:?}");
     assert_eq!(answer.unwrap_or(0), written.len());
     lent.wrote(written);
-    row
+    refusal
 }
 
 #[test]

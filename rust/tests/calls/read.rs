@@ -15,7 +15,7 @@ use model::tally::Tally;
 use model::words::is_word;
 
 /// The numbers that Read answers.
-const ROWS: [usize; 16] = [0, 1, 2, 3, 4, 5, 6, 7, 8, 9, 10, 12, 13, 14, 15, 16];
+const REFUSALS: [usize; 16] = [0, 1, 2, 3, 4, 5, 6, 7, 8, 9, 10, 12, 13, 14, 15, 16];
 
 #[test]
 fn small_reads() {
@@ -37,7 +37,7 @@ fn small_reads() {
         }
         let _ = hold_small(&call, &mut tally);
     }
-    tally.demand("read", LEAST, &ROWS);
+    tally.demand("read", LEAST, &REFUSALS);
     // lines with several best lists, lines whose best word needs a blank between equal labels, words of several letters
     assert!(
         ties >= LEAST && parted >= LEAST && several >= LEAST,

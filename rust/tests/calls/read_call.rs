@@ -79,7 +79,7 @@ fn answer_safe(call: &Call) -> Answer {
 fn compare(call: &Call, expected: &Expected, answer: &Answer) {
     let (number, price, path, form) = match &expected.answer {
         Ok(best) => (0, best.price, &best.path[..], expected.form.len()),
-        Err(row) => (*row, 0, &[][..], 0),
+        Err(refusal) => (*refusal, 0, &[][..], 0),
     };
     let word = call.characters(&collapse(path));
     let counts = [price, word.len() as u32, form as u32];

@@ -60,5 +60,5 @@ impl<T: Element> Lent<T> {
 
 /// The number of a safe function's answer: that of the refusal, or 0.
 pub fn number<T>(answer: &Result<T, Refusal>) -> u32 {
-    answer.as_ref().err().map_or(0, |row| row.number())
+    answer.as_ref().err().map_or(0, |refusal| refusal.number())
 }

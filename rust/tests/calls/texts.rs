@@ -4,17 +4,17 @@ use kavurehy::FORM_WORDS;
 use model::opening::compile;
 
 /// This text over this alphabet must be answered with this number.
-fn answers(alphabet: &[u8], row: u32, text: &str) {
+fn answers(alphabet: &[u8], number: u32, text: &str) {
     let text = text.as_bytes();
     let by_model = compile(alphabet, text).err().unwrap_or(0);
-    assert_eq!(by_model, row, "model: {}", text.escape_ascii());
-    assert_eq!(hold(alphabet, text, FORM_WORDS), row);
+    assert_eq!(by_model, number, "model: {}", text.escape_ascii());
+    assert_eq!(hold(alphabet, text, FORM_WORDS), number);
 }
 
 /// Texts over the alphabet `ab`, with spaces between.
-fn row(row: u32, texts: &str) {
+fn answer(number: u32, texts: &str) {
     for text in texts.split(' ') {
-        answers(b"ab", row, text);
+        answers(b"ab", number, text);
     }
 }
 
@@ -32,12 +32,12 @@ fn letters(alphabet: &[u8], text: &str) -> String {
 
 #[test]
 fn lines_of_the_document() {
-    row(0, "a{127} a*?");
-    row(4, "a**");
-    row(6, "a{0} a{2,1}");
-    row(7, "[b-a]");
-    row(8, "c");
-    row(9, "a{128}");
+    answer(0, "a{127} a*?");
+    answer(4, "a**");
+    answer(6, "a{0} a{2,1}");
+    answer(7, "[b-a]");
+    answer(8, "c");
+    answer(9, "a{128}");
     let mut form = [0; 5];
     assert_eq!(kavurehy::compile(b"ab", b"ab*", &mut form), Ok(5));
     assert_eq!(
@@ -61,19 +61,19 @@ fn alphabets_and_bytes() {
     answers(b"ab", 0, &format!("[{}]", "a".repeat(253)));
     answers(b"ab", 2, &format!("[{}]", "a".repeat(254)));
     answers(b"ab", 2, "");
-    row(3, "a\n \u{7f} *\t ((\u{1f} a{0}\0");
+    answer(3, "a\n \u{7f} *\t ((\u{1f} a{0}\0");
     assert_eq!(hold(b"ab", b"ab*", 4), 10);
     assert_eq!(hold(b"ab", b"a{128}", 0), 9);
 }
 
 #[test]
 fn misplaced_signs() {
-    row(0, "a?? a{2}? a+?b (a) ((a|b)+)* a|b|a");
-    row(4, "* +a ? (*a) a|* a*** a??? a*+");
-    row(4, "a{1}{1} a*{1} a*?{1} a??* {1} a|{1}");
-    row(4, "{ a*{ ({x} () a() (|a) (a|) |a");
-    row(4, "a| a||b ) a) (a)) (a ( a|(b");
-    row(4, "^ a^ $ a$ ^a$ \\ a\\ \\a \\] \\} \\- (a\\");
+    answer(0, "a?? a{2}? a+?b (a) ((a|b)+)* a|b|a");
+    answer(4, "* +a ? (*a) a|* a*** a??? a*+");
+    answer(4, "a{1}{1} a*{1} a*?{1} a??* {1} a|{1}");
+    answer(4, "{ a*{ ({x} () a() (|a) (a|) |a");
+    answer(4, "a| a||b ) a) (a)) (a ( a|(b");
+    answer(4, "^ a^ $ a$ ^a$ \\ a\\ \\a \\] \\} \\- (a\\");
 }
 
 #[test]
@@ -89,26 +89,26 @@ fn escaped_signs() {
 #[test]
 fn depth() {
     let nested = |open, close| format!("{}a{}", "(".repeat(open), ")".repeat(close));
-    row(0, &nested(16, 16));
-    row(0, &(nested(16, 16) + &nested(16, 16)));
-    row(4, &nested(16, 15));
-    row(4, &format!("*{}", nested(17, 17)));
-    row(5, &nested(17, 17));
-    row(5, &nested(17, 0));
+    answer(0, &nested(16, 16));
+    answer(0, &(nested(16, 16) + &nested(16, 16)));
+    answer(4, &nested(16, 15));
+    answer(4, &format!("*{}", nested(17, 17)));
+    answer(5, &nested(17, 17));
+    answer(5, &nested(17, 0));
 }
 
 #[test]
 fn counts() {
-    row(0, "a{1} a{001} a{0,} a{000,1} a{0,127}");
-    row(0, "a{1,1} a{127,} (a*){63} (a{0,9}){14}");
-    row(6, "a{ a{1 a{1, a{1,2 a{} a{,} a{,2}");
-    row(6, "a{0} a{00} a{0,0} a{3,2} a{0001} a{1,0002}");
-    row(6, "a{256} a{256,} a{1,256} a{999} a{1,2,3}");
-    row(6, "a{b} a{-1} a{1,b} a{1(b}");
+    answer(0, "a{1} a{001} a{0,} a{000,1} a{0,127}");
+    answer(0, "a{1,1} a{127,} (a*){63} (a{0,9}){14}");
+    answer(6, "a{ a{1 a{1, a{1,2 a{} a{,} a{,2}");
+    answer(6, "a{0} a{00} a{0,0} a{3,2} a{0001} a{1,0002}");
+    answer(6, "a{256} a{256,} a{1,256} a{999} a{1,2,3}");
+    answer(6, "a{b} a{-1} a{1,b} a{1(b}");
     answers(b"a ", 6, "a{ 1}");
     answers(b"a ", 6, "a{1, 2}");
-    row(9, "a{255} a{128,} a{1,128} (a{16}){8} [ab]{64}");
-    row(9, "((a{255}){255}){255} (a?){128} ((b|a)*){64,}");
+    answer(9, "a{255} a{128,} a{1,128} (a{16}){8} [ab]{64}");
+    answer(9, "((a{255}){255}){255} (a?){128} ((b|a)*){64,}");
 }
 
 /// Forms by hand: labels, first and last letters, arcs.
@@ -142,10 +142,10 @@ fn openings() {
 
 #[test]
 fn leftmost_first() {
-    row(4, "*c a**c (|c) ^[b-a] a|)c *[ +{0}");
-    row(6, "a{0}c a{2,1}* a{0}( a{[b-a] a{0}{0}");
-    row(7, "[b-a]c [b-a]** [ a[b [c [c-a] [[.c.]]");
-    row(
+    answer(4, "*c a**c (|c) ^[b-a] a|)c *[ +{0}");
+    answer(6, "a{0}c a{2,1}* a{0}( a{[b-a] a{0}{0}");
+    answer(7, "[b-a]c [b-a]** [ a[b [c [c-a] [[.c.]]");
+    answer(
         8,
         "c* c** (c c{0} [c]{0} [^ab] \\( ] } c[ (c{128} a{255}c -",
     );

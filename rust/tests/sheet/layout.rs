@@ -86,11 +86,11 @@ fn too_many_costs() {
     refuses(&wide(63, 256), 12);
     refuses(&wide(63, 257), 18);
     refuses(&wide(95, 171), 18);
-    for (number, row) in [(16_384, 12), (16_385, 18)] {
+    for (number, refusal) in [(16_384, 12), (16_385, 18)] {
         let one_each = format!("a\na*\n{}", columns(number, "0"));
-        refuses(one_each.as_bytes(), row);
+        refuses(one_each.as_bytes(), refusal);
         let one_column = format!("a\na*\n{}\n", vec!["0"; number].join(" "));
-        refuses(one_column.as_bytes(), row);
+        refuses(one_column.as_bytes(), refusal);
     }
 }
 

@@ -7,7 +7,7 @@ use model::sheet::{self, Sheet};
 use model::tally::Tally;
 
 /// All numbers that the program can answer: 16,384 words are enough for every form, 255 bytes for every path and word.
-const ROWS: [usize; 15] = [0, 1, 2, 3, 4, 5, 6, 7, 8, 9, 12, 13, 15, 16, 18];
+const REFUSALS: [usize; 15] = [0, 1, 2, 3, 4, 5, 6, 7, 8, 9, 12, 13, 15, 16, 18];
 
 fn input(r: &mut Random) -> Vec<u8> {
     let mut sheet = Sheet::random(r);
@@ -32,7 +32,7 @@ fn random_sheets() {
         let said = input.escape_ascii();
         assert_eq!(answer(&input).as_bytes(), printed, "{said}");
     }
-    tally.demand("the sheet program", 20, &ROWS);
+    tally.demand("the sheet program", 20, &REFUSALS);
 }
 
 /// What the program should print for a sheet: the answer of the call Read on its parts.
@@ -55,7 +55,7 @@ fn by_call(sheet: &Sheet) -> String {
         &mut work,
     );
     match answer {
-        Err(row) => format!("refused {}\n", row.number()),
+        Err(refusal) => format!("refused {}\n", refusal.number()),
         Ok(reading) => {
             let word = String::from_utf8_lossy(&word[..reading.length]);
             let path: Vec<String> = path[..matrix.columns].iter().map(u8::to_string).collect();

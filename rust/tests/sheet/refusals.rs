@@ -54,10 +54,10 @@ fn alphabets() -> Vec<Vec<u8>> {
 
 /// The sheet with each byte outside 32 to 126, except the newline, in the place of `?`.
 fn bytes_outside(sheet: &str) -> Vec<Vec<u8>> {
-    let (before, behind) = sheet.split_once('?').unwrap();
+    let (before, after) = sheet.split_once('?').unwrap();
     let outside = (0..=255).filter(|b| !(32..=126).contains(b) && *b != b'\n');
     outside
-        .map(|b| [before.as_bytes(), &[b], behind.as_bytes()].concat())
+        .map(|b| [before.as_bytes(), &[b], after.as_bytes()].concat())
         .collect()
 }
 
@@ -125,7 +125,7 @@ fn largest_form() {
 /// The lowest number; among 4 to 8 the leftmost.
 #[test]
 fn first_number() {
-    let rows = [
+    let refusals = [
         (1, "aa\n\n0\n"),
         (1, "\n**\n0 0\n9999999 0\n"),
         (1, "aa\n\u{1}\n"),
@@ -139,7 +139,7 @@ fn first_number() {
         (12, "ab\naa\n1000001\n"),
         (13, "ab\naa\n1000001 0 0\n"),
     ];
-    for (number, sheet) in rows {
+    for (number, sheet) in refusals {
         refuses(sheet.as_bytes(), number);
     }
     let both = format!("a\na{{32}}\n{}0 1000001\n", columns(254, "0 1"));

@@ -71,8 +71,8 @@ pub fn damage(r: &mut Random, text: &mut Vec<u8>) {
 fn deep(r: &mut Random, alphabet: &[u8]) -> Vec<u8> {
     let (open, close) = (r.from(15, 18), r.from(15, 18));
     let inside = expression(r, alphabet, 1).0;
-    let behind = expression(r, alphabet, 2).0;
-    [vec![b'('; open], inside, vec![b')'; close], behind].concat()
+    let after = expression(r, alphabet, 2).0;
+    [vec![b'('; open], inside, vec![b')'; close], after].concat()
 }
 
 /// Around 127 letters, by one count or by two.
