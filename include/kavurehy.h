@@ -2,11 +2,11 @@
    crates/kavurehy/src/lib.rt has the promises, and document 01 defines the words that are used below.
 
    A list is passed as a pointer to its first element and its length, the number of its elements. Lent memory is what a call may write: the
-   lists whose pointers are not const, and the counts. It may be uninitialised: what a call returns, counts and writes, except the work
-   words, does not depend on what lent memory held.
+   lists whose pointers are not const, and the counts. It may be uninitialised: apart from the contents of the work words, no
+   result depends on what lent memory held before.
 
    The caller has these duties:
-   - Pointers must not be null, even for length 0: the proofs know no null pointer. For length 0 any other pointer will do.
+   - Pointers must not be null, even for length 0: the proofs do not cover null pointers. For length 0 any other pointer will do.
    - Each pointer must point to at least as many elements as its length says. All of them must be readable, and those of lent memory must be
      writable too. Const lists must be initialised.
    - Each pointer to uint32_t must be aligned to 4 bytes.
@@ -42,7 +42,7 @@
      15 work           fewer than (columns + 1) * (2 * L + 1) words
      16 no reading     no path with one label for each column collapses to a word that the form accepts (read: to a word of the expression)
      17 label          K not 1 to 95, a label over K, 0 in a word, or a list longer than 255
-   If several apply, it is the lowest; but of 4 to 8 it is the one leftmost in the text. At a refusal each count is 0 and all other lent
+   If several apply, the lowest number is returned; among 4 to 8, that of the leftmost fault in the text. At a refusal each count is 0 and all other lent
    memory is as it was, with two exceptions: after 16 the needed work words may hold anything, and after 12 to 16 the form memory of read is
    as compile leaves it. On success the memory after what is counted is as it was too. */
 #ifndef KAVUREHY_H
@@ -61,7 +61,7 @@ extern "C" {
 uint32_t kavurehy_compile(const uint8_t *alphabet, size_t alphabet_length, const uint8_t *text, size_t text_length, uint32_t *form,
                           size_t form_memory, uint32_t counts[1]);
 
-/* Writes 1 to accepted[0] if the form accepts the word of labels 1 to K, and 0 if it does not, or at a refusal. Returns 0, or a refusal:
+/* Writes 1 to accepted[0] if the form accepts the word of labels 1 to K, and 0 otherwise, also at a refusal. Returns 0, or a refusal:
    11, 17. */
 uint32_t kavurehy_judge(const uint32_t *form, size_t form_length, const uint8_t *word, size_t word_length, uint32_t accepted[1]);
 

@@ -1,4 +1,4 @@
--- What a form accepts, by its words (document 01, "Opening and the compiled form"): "A form accepts the empty word if bit 8 of its head
+-- The walks of a form, by its words (document 01, "Opening and the compiled form"): "A form accepts the empty word if bit 8 of its head
 -- says so, and a nonempty word if some walk from a first letter along arcs to a last letter spells it."
 use Prim.Native.Nat.{ℕ, _≤_}
 use mathlib.Core.Path.{_≡_}

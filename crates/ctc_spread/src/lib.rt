@@ -1,11 +1,10 @@
 // The call Spread, on labels and lent memory (document 01, "Alphabet, labels, paths").
 use ctc_labels::has_fault;
+use numbers::one_if;
 use refusal::Counted;
 use refusal::Refusal;
 ghost use mathlib.Core.Path.{_≡_};
 ghost use Prim.Native.Nat.{_+_, _<_, _≤_};
-ghost use mathlib.Core.Bool.{cond};
-ghost use lib.Dec.{eqb};
 ghost use lib.ListN.{length};
 ghost use Rattle.lists.specs.Memory.{old, new, Wrote};
 ghost use Rattle.lists.specs.Stored.{Stored};
@@ -15,13 +14,6 @@ ghost use Rattle.ctc.specs.Spread.{spread as spreadOf, pairs};
 ghost use Rattle.ctc_spread.specs.Calls.{spread-call};
 ghost use Rattle.ctc_spread.specs.Spaced.{spaced};
 
-// 1 for equal labels, else 0.
-fn one_if_equal(a: u8, b: u8) -> usize
-    ensures { λ r. ⌜ r ≡ cond (eqb a b) 1 0 ⌝ }
-{
-    if a == b { 1 } else { 0 }
-}
-
 // How many pairs of equal neighbours a word has.
 fn count_pairs(word: &[u8]) -> usize
     ensures { λ r. ⌜ r ≡ pairs (old word) ⌝ }
@@ -29,7 +21,7 @@ fn count_pairs(word: &[u8]) -> usize
     let mut n: usize = 0;
     let mut i: usize = 0;
     while i + 1 < word.len() {
-        n += one_if_equal(word[i], word[i + 1]);
+        n += one_if(word[i] == word[i + 1]);
         i += 1;
     }
     n

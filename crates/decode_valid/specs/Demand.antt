@@ -1,4 +1,4 @@
--- What demands 1 and 3 ask of Decode and Read past their checks, for any set of words: the definitions that the demands are stated by.
+-- What demand 3 asks of Decode and Read past their checks, for any set of words.
 use Prim.Native.Nat.{ℕ, _≤_}
 use mathlib.Core.Path.{_≡_}
 use mathlib.Core.Logic.{_⊎_}

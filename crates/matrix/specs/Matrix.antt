@@ -1,4 +1,4 @@
--- The matrix of costs, and paths through it with their prices (document 01, "Extended states and decoding").
+-- The matrix of costs, and the prices of lists of labels (document 01, "Extended states and decoding").
 use Prim.Native.Nat.{ℕ, _+_, _*_}
 use mathlib.Core.List.{List, [], _∷_}
 use lib.ListN.{getD}

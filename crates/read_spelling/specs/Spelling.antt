@@ -1,4 +1,4 @@
--- The characters of a word's labels, and the promise that they replace the labels, in place.
+-- The characters of a word's labels.
 use Prim.Native.Nat.{ℕ, _-_}
 use mathlib.Core.List.{List, map}
 use lib.ListN.{getD}

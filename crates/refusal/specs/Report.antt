@@ -1,5 +1,4 @@
--- What a call reports: 0 or the refusal's number, the price and the lengths, which are 0 at a refusal; and what a call that fills one
--- list promises.
+-- What a call reports: 0 or the refusal's number, the price and the lengths, which are 0 at a refusal.
 use Prim.Native.Nat.{ℕ}
 use Rattle.refusal.specs.declared.Refusal.{Refusal}
 use Rattle.refusal.specs.Number.{numberOf}

@@ -13,12 +13,12 @@ use lib.Dec.{eqb}
 use borrow.Author.Tests.{eqb-true, eq-eqb}
 use Rattle.lists.specs.EachLaws.{drop-here}
 use Rattle.lists.specs.OrderLaws.{and-left, and-right, or-either, or-left, or-right}
-use Rattle.text.specs.Digits.{digits}
+use Rattle.text.specs.Digits.{digits, digit}
 use Rattle.sheet_format.specs.ColumnLinesLaws.{FirstCost, columnsIn-back, put, columnsIn-put}
 use Rattle.sheet_format.specs.ColumnLines.{Free, columnsIn}
 use Rattle.sheet_number.specs.Places.{part}
 use Rattle.sheet_number.specs.PlacesLaws.{part-rest}
-use Rattle.sheet_number.specs.Digits.{digit, separator, CostAt, ReadCost}
+use Rattle.sheet_number.specs.Digits.{separator, CostAt, ReadCost}
 use Rattle.sheet_number.specs.DigitsLaws.{digit-range, cost-back, cost-begins}
 use Rattle.sheet_number.specs.declared.Cost.the-variants as cost
 

@@ -1,16 +1,17 @@
 -- Laws of the decimal numeral: its last digit, its length, its value, no extra zero.
-use Prim.Native.Nat.{ℕ, zero, suc, _+_, _-_, _*_, _/_, _%_, _^_, _<_, _≤_}
+use Prim.Native.Nat.{ℕ, zero, suc, _+_, _/_, _%_, _^_, _<_, _≤_}
 use mathlib.Core.Path.{_≡_, refl, sym, ap, _∙_}
 use mathlib.Core.Logic.{⊎-elim}
-use mathlib.Core.Bool.{true, _&&_}
-use mathlib.Core.List.{List, [], _∷_, _++_}
+use mathlib.Core.Bool.{true}
+use mathlib.Core.List.{[], _∷_, _++_}
 use native.Mathlib.Nat.{pow-suc}
 use native.Mathlib.Omega.{arith}
 use lib.Dec.{leb}
 use borrow.Author.Tests.{lt-ltb, le-ltb, le-leb}
 use lib.ListN.{length, getD, length-append, List·getD-append}
-use Rattle.lists.specs.OrderLaws.{lt-or-le, and-left, and-right, and-both}
-use Rattle.text.specs.Digits.{value, digits as all-digits}
+use Rattle.lists.specs.OrderLaws.{lt-or-le, and-both}
+use Rattle.text.specs.Digits.{value, digit as a-digit, digits as all-digits}
+use Rattle.text.specs.DigitsLaws.{digits-append, value-append}
 use Rattle.sheet_decimal.specs.Numerals.{digit, digits, decimal}
 
 digits-one : (k n : ℕ) → n < 10 → digits (suc k) n ≡ digit n ∷ []
@@ -51,17 +52,12 @@ decimal-short (suc k) n h =
     ⊎-elim (λ l. let e = ap length (decimal-one n l) in omega arith)
     (λ l. let e = decimal-longer n l in let d = decimal-short k (n / 10) (omega arith) in omega arith) (lt-or-le n 10)
 
--- a digit after others
-value-append : (n d : ℕ) (ds : List ℕ) → value n (ds ++ (d ∷ [])) ≡ 10 * value n ds + (d - 48)
-value-append n d [] = refl
-value-append n d (e ∷ ds) = value-append (10 * n + (e - 48)) d ds
-
 -- the value of a number's digits is the number
 digits-value : (k n : ℕ) → n < k → value 0 (digits k n) ≡ n
 digits-value zero n h = absurd (omega arith)
 digits-value (suc k) n h =
     ⊎-elim (λ l. ap (value 0) (digits-one k n l) ∙ omega arith)
-    (λ l. let i = digits-value k (n / 10) (omega arith) in ap (value 0) (digits-more k n l) ∙ value-append 0 (digit (n % 10)) (digits k (n / 10)) ∙ omega arith)
+    (λ l. let i = digits-value k (n / 10) (omega arith) in ap (value 0) (digits-more k n l) ∙ value-append 0 (digits k (n / 10)) (digit (n % 10)) ∙ omega arith)
     (lt-or-le n 10)
 
 pub decimal-value : (n : ℕ) → value 0 (decimal n) ≡ n
@@ -80,20 +76,14 @@ pub decimal-digits : (n : ℕ) → all-digits (decimal n) ≡ true
 unfolding decimal
 decimal-digits n = by (n + 1) n (omega arith)
   where
-    one : (d : ℕ) → d < 10 → leb 48 (digit d) && leb (digit d) 57 ≡ true
+    one : (d : ℕ) → d < 10 → a-digit (digit d) ≡ true
     one d h = and-both (leb 48 (digit d)) (leb (digit d) 57) (le-leb 48 (digit d) (omega arith)) (le-leb (digit d) 57 (omega arith))
-
-    append : (ds : List ℕ) (d : ℕ) → all-digits ds ≡ true → d < 10 → all-digits (ds ++ (digit d ∷ [])) ≡ true
-    append [] d h l = and-both (leb 48 (digit d) && leb (digit d) 57) true (one d l) refl
-    append (e ∷ ds) d h l =
-        and-both (leb 48 e && leb e 57) (all-digits (ds ++ (digit d ∷ []))) (and-left (leb 48 e && leb e 57) (all-digits ds) h)
-        (append ds d (and-right (leb 48 e && leb e 57) (all-digits ds) h) l)
 
     by : (k n : ℕ) → n < k → all-digits (digits k n) ≡ true
     by zero n h = absurd (omega arith)
     by (suc k) n h =
-        ⊎-elim (λ l. ap all-digits (digits-one k n l) ∙ append [] n refl l)
-        (λ l. ap all-digits (digits-more k n l) ∙ append (digits k (n / 10)) (n % 10) (by k (n / 10) (omega arith)) (omega arith)) (lt-or-le n 10)
+        ⊎-elim (λ l. ap all-digits (digits-one k n l) ∙ digits-append [] (digit n) refl (one n l))
+        (λ l. ap all-digits (digits-more k n l) ∙ digits-append (digits k (n / 10)) (digit (n % 10)) (by k (n / 10) (omega arith)) (one (n % 10) (omega arith))) (lt-or-le n 10)
 
 pub decimal-lead : (n : ℕ) → 1 ≤ n → 49 ≤ getD (decimal n) 0 0
 unfolding decimal

@@ -7,14 +7,11 @@ use Prim.Native.Nat.{ℕ, _+_, _-_, _^_, _<_, _≤_}
 use Prim.Native.Char.{code}
 use lib.ListN.{length, getD}
 use lib.Dec.{eqb, leb}
-use Rattle.text.specs.Digits.{digits, value}
+use Rattle.text.specs.Digits.{digits, value, digit}
 use Rattle.sheet_format.specs.Sheet.{costOf}
 use Rattle.sheet_number.specs.Places.{part}
 use Rattle.sheet_number.specs.declared.Cost.{Cost}
 use Rattle.sheet_number.specs.declared.Cost.the-variants.{Is, Not}
-
-abbrev pub digit : ℕ → Bool
-digit b = leb (code "0") b && leb b (code "9")
 
 -- what may follow a cost
 abbrev pub separator : ℕ → Bool

@@ -1,7 +1,7 @@
 -- Laws of the digits at a place, and of the cost that they give.
 use mathlib.Core.Path.{_≡_, refl, sym, ap, ap₂, _∙_, subst}
 use mathlib.Core.Option.{some}
-use mathlib.Core.List.{List, [], _∷_, _++_}
+use mathlib.Core.List.{List, [], _∷_}
 use mathlib.Core.Bool.{true, false, not, _&&_}
 use mathlib.Core.Logic.{⊎-elim}
 use Prim.Native.Nat.{ℕ, zero, suc, _+_, _*_, _-_, _^_, _<_, _≤_}
@@ -10,26 +10,16 @@ use native.Mathlib.Nat.{pow-suc, pow-le-pow-right}
 use lib.ListN.{length, getD, take, drop}
 use lib.Dec.{eqb, leb, lit<}
 use borrow.Author.Tests.{leb-true, le-leb, eqb-true, not-true}
-use Rattle.lists.specs.OrderLaws.{and-left, and-right, and-both, and-three, or-either, not-both, lt-or-le}
+use Rattle.lists.specs.OrderLaws.{and-left, and-right, and-three, or-either, not-both, lt-or-le}
 use Rattle.lists.specs.Cases.{provided}
-use Rattle.text.specs.Digits.{digits, value}
+use Rattle.text.specs.Digits.{digits, value, digit}
 use Rattle.sheet_format.specs.Sheet.{extra-zero, costOf}
 use Rattle.sheet_format.specs.Parts.{provided-back}
 use Rattle.sheet_number.specs.Places.{part}
 use Rattle.sheet_number.specs.PlacesLaws.{part-none, part-more, part-at, part-length}
 use Rattle.sheet_number.specs.declared.Cost.the-variants.{Is, Not}
-use Rattle.sheet_number.specs.Digits.{digit, separator, padded, Begun, Digits, CostAt, ReadCost}
-
--- Lists of digits.
-
-digits-snoc : (p : List ℕ) (b : ℕ) → digits p ≡ true → digit b ≡ true → digits (p ++ (b ∷ [])) ≡ true
-digits-snoc [] b h d = rw d
-digits-snoc (a ∷ p) b h d =
-    and-both (digit a) (digits (p ++ (b ∷ []))) (and-left (digit a) (digits p) h) (digits-snoc p b (and-right (digit a) (digits p) h) d)
-
-value-snoc : (n : ℕ) (p : List ℕ) (b : ℕ) → value n (p ++ (b ∷ [])) ≡ 10 * value n p + (b - 48)
-value-snoc n [] b = refl
-value-snoc n (a ∷ p) b = value-snoc (10 * n + (a - 48)) p b
+use Rattle.sheet_number.specs.Digits.{separator, padded, Begun, Digits, CostAt, ReadCost}
+use Rattle.text.specs.DigitsLaws.{digits-append, value-append}
 
 pub digit-range : (b : ℕ) → digit b ≡ true → (48 ≤ b) × (b ≤ 57)
 digit-range b e = (leb-true 48 b (and-left (leb 48 b) (leb b 57) e), leb-true b 57 (and-right (leb 48 b) (leb b 57) e))
@@ -107,8 +97,8 @@ module _ (input : List ℕ) (at : ℕ) where
           from = omega arith;
           within = omega arith;
           few = omega arith;
-          are = rw more (digits-snoc (part at i input) (getD input i 0) (h .are) d);
-          makes = rw more (value-snoc 0 (part at i input) (getD input i 0) ∙ ap (λ w. 10 * w + (getD input i 0 - 48)) (h .makes));
+          are = rw more (digits-append (part at i input) (getD input i 0) (h .are) d);
+          makes = rw more (value-append 0 (part at i input) (getD input i 0) ∙ ap (λ w. 10 * w + (getD input i 0 - 48)) (h .makes));
           small = rw (n, pow-suc) (omega arith);
         }
 

@@ -5,7 +5,8 @@ ghost use Prim.Native.Nat.{_≤_};
 ghost use lib.ListN.{length};
 ghost use Rattle.lists.specs.Memory.{old};
 ghost use Rattle.sheet_number.specs.Places.{LineEnd};
-ghost use Rattle.sheet_number.specs.Digits.{digit, separator, padded, Digits as DigitsOf, ReadCost};
+ghost use Rattle.sheet_number.specs.Digits.{separator, padded, Digits as DigitsOf, ReadCost};
+ghost use Rattle.text.specs.Digits.{digit};
 
 // The value of digits, and the place after them.
 struct Digits {

@@ -5,9 +5,13 @@ use Prim.Native.Nat.{ℕ, _+_, _*_, _-_}
 use Prim.Native.Char.{code}
 use lib.Dec.{leb}
 
+-- the byte is a digit
+abbrev pub digit : ℕ → Bool
+digit b = leb (code "0") b && leb b (code "9")
+
 abbrev pub digits : List ℕ → Bool
 digits [] = true
-digits (b ∷ s) = (leb (code "0") b && leb b (code "9")) && digits s
+digits (b ∷ s) = digit b && digits s
 
 -- the number that they make in decimal, after digits that make n
 abbrev pub value : ℕ → List ℕ → ℕ

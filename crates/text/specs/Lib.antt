@@ -3,3 +3,4 @@ pub mod Text
 pub mod Places
 pub mod Digits
 pub mod TextLaws
+pub mod DigitsLaws

@@ -1,4 +1,4 @@
--- A text as a list of bytes: what it begins with, and where a sign first occurs in it.
+-- What a text, a list of bytes, begins with, and the first such sign in it.
 use mathlib.Core.Option.{Option, some, none}
 use mathlib.Core.List.{List, [], _∷_}
 use mathlib.Core.Bool.{Bool, true, false, _||_}

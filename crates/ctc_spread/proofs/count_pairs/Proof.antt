@@ -2,11 +2,11 @@
 use Prim.Native.Nat.{_+_, _≤_, _-_}
 use mathlib.Core.Path.{_≡_}
 use native.Mathlib.Omega.{arith}
-use lib.ListN.{length, drop, getD}
+use lib.ListN.{length, drop}
 use denote.Ref.{now}
 use borrow.Author.Needs.{needs}
 use Rattle.ctc.specs.Spread.{pairs}
-use Rattle.ctc_spread.specs.Loops.{pairs-step, pairs-end, at-most-one}
+use Rattle.ctc_spread.specs.Loops.{pairs-step, pairs-end}
 use Rattle.ctc_spread.proofs.count_pairs.Statement.{statement}
 use Rattle.ctc_spread.proofs.count_pairs.Tie as tie
 
@@ -22,24 +22,21 @@ loop-holds c = (omega arith, omega arith, omega arith)
 add-loop : tie.Need-add-loop Inv-loop μ-loop
 add-loop c = omega arith
 
-shared-slice-read-one-if-equal : tie.Need-shared-slice-read-one-if-equal Inv-loop μ-loop
-shared-slice-read-one-if-equal c = omega arith
+shared-slice-read-one-if : tie.Need-shared-slice-read-one-if Inv-loop μ-loop
+shared-slice-read-one-if c = omega arith
 
-add-one-if-equal : tie.Need-add-one-if-equal Inv-loop μ-loop
-add-one-if-equal c = omega arith
+add-one-if : tie.Need-add-one-if Inv-loop μ-loop
+add-one-if c = omega arith
 
-shared-slice-read-one-if-equal-2 : tie.Need-shared-slice-read-one-if-equal-2 Inv-loop μ-loop
-shared-slice-read-one-if-equal-2 c = omega arith
+shared-slice-read-one-if-2 : tie.Need-shared-slice-read-one-if-2 Inv-loop μ-loop
+shared-slice-read-one-if-2 c = omega arith
 
-one-if-equal-requires : tie.Need-one-if-equal-requires Inv-loop μ-loop
-one-if-equal-requires c κs = search needs
+one-if-requires : tie.Need-one-if-requires Inv-loop μ-loop
+one-if-requires c κs = search needs
 
 add-n : tie.Need-add-n Inv-loop μ-loop
 add-n c =
-    let w = now (c .before .before .before .before .before .before .args .word) in
-    let i = c .before .before .before .before .loop .i in
-    let e = c .one-if-equal .ensures in
-    let b = at-most-one (getD w i 0) (getD w (i + 1) 0) in
+    let b = c .one-if .ensures .1 in
     omega arith
 
 add-i : tie.Need-add-i Inv-loop μ-loop
@@ -52,8 +49,8 @@ loop-again : tie.Need-loop-again Inv-loop μ-loop
 loop-again c =
     let w = now (c .before .before .before .before .before .before .args .word) in
     let i = c .before .before .before .before .loop .i in
-    let e = c .one-if-equal .ensures in
-    let b = at-most-one (getD w i 0) (getD w (i + 1) 0) in
+    let e = c .one-if .ensures .0 in
+    let b = c .one-if .ensures .1 in
     let t = pairs-step w i (c .before .before .before .loop-test .taken) in
     (omega arith, omega arith, omega arith)
 
@@ -68,10 +65,10 @@ count-pairs-spec =
     μ-loop
     loop-holds
     add-loop
-    shared-slice-read-one-if-equal
-    add-one-if-equal
-    shared-slice-read-one-if-equal-2
-    one-if-equal-requires
+    shared-slice-read-one-if
+    add-one-if
+    shared-slice-read-one-if-2
+    one-if-requires
     add-n
     add-i
     loop-less

@@ -6,7 +6,8 @@ use native.Mathlib.Omega.{arith}
 use lib.ListN.{length, getD}
 use borrow.Author.Tests.{not-true, not-false}
 use denote.Ref.{now}
-use Rattle.sheet_number.specs.Digits.{digit, Begun}
+use Rattle.sheet_number.specs.Digits.{Begun}
+use Rattle.text.specs.Digits.{digit}
 use Rattle.sheet_number.specs.DigitsLaws.{begun-none, begun-small, begun-more, digit-range, digits-stop, digits-seven, digits-end}
 use Rattle.sheet_number.proofs.read_digits.Statement.{statement}
 use Rattle.sheet_number.proofs.read_digits.Tie as tie
