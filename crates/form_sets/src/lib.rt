@@ -62,7 +62,7 @@ fn mark_targets(form: &[u32], x: usize, b: usize, e: usize, set: &mut [bool; 128
 }
 
 // Marks the letters with label x that may follow i, whose arcs are from b up to e.
-fn mark_behind(form: &[u32], x: usize, i: usize, b: usize, e: usize, set: &mut [bool; 128])
+fn mark_after(form: &[u32], x: usize, i: usize, b: usize, e: usize, set: &mut [bool; 128])
     requires { ⌜ Valid (now form) × (length (now set) ≡ 128) × StartsAt (now form) i b × StartsAt (now form) (i + 1) e ⌝ }
     ensures { λ _. ⌜ Marks (Enters (view (old form)) x i) (old set) (new set) ⌝ }
 {
@@ -83,7 +83,7 @@ pub fn advance(form: &[u32], starts: &[usize], set: [bool; 128], x: usize) -> [b
     let mut i = 0;
     while i <= l {
         if set[i] {
-            mark_behind(form, x, i, starts[i], starts[i + 1], &mut next);
+            mark_after(form, x, i, starts[i], starts[i + 1], &mut next);
         }
         i += 1;
     }

@@ -68,7 +68,7 @@ pub fn copies_at(text: &[u8], at: usize) -> Copies
 }
 
 // The place after the set that begins at `at`.
-fn behind_set(text: &[u8], at: usize) -> usize
+fn after_set(text: &[u8], at: usize) -> usize
     requires { ⌜ SetAt (now text) at ⌝ }
     ensures { λ r. ⌜ r ≡ place (old text) (restOf (a-set (drop at (old text)))) ⌝ }
 {
@@ -134,7 +134,7 @@ pub fn set(alphabet: &[u8], text: &[u8], at: usize, letters: usize, labels: &mut
     let n = write_labels(alphabet, text, at, labels, letters);
     let first = range(letters, n);
     let last = first;
-    let end = behind_set(text, at);
+    let end = after_set(text, at);
     Built {
         end,
         letters: n,

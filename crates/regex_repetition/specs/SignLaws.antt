@@ -140,11 +140,11 @@ module _ (text : List ℕ) (at : ℕ) where
   abbrev modifier : Bool → Count → List ℕ → Parsing Count
   modifier t c r = elim t [ true ↦ found c (rest r) | false ↦ found c r ]
 
-  behind-modifier :
+  after-modifier :
       (c : Count) (r : List ℕ) → drop (place text r) text ≡ r →
       times c (modified text (place text r)) ≡ repeatsOf text (modifier (next "?" r) c r)
   unfolding modified
-  behind-modifier c r q =
+  after-modifier c r q =
       let n : next "?" r ≡ eqb (getD text (place text r) 0) (code "?") = ap (next "?") (sym q) ∙ next-at "?" text (place text r) refl in
       by (eqb (getD text (place text r) 0) (code "?")) refl ∙ ap (λ t. repeatsOf text (modifier t c r)) (sym n)
     where
@@ -175,5 +175,5 @@ module _ (text : List ℕ) (at : ℕ) where
           times c (modified text e) ≡ repeatsOf text (then x (λ c r. modifier (next "?" r) c r))
       by (found d r) s h =
           let q = times-same c d e (place text r) h in
-          ap₂ (λ i j. times i (modified text j)) (q .0) (q .1) ∙ behind-modifier d r s
+          ap₂ (λ i j. times i (modified text j)) (q .0) (q .1) ∙ after-modifier d r s
       by (fault n r) s h = absurd (times-refused c e n h)

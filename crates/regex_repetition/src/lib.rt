@@ -116,7 +116,7 @@ fn sign(text: &[u8], at: usize) -> Repeats
 }
 
 // The place after one `?`, if there is one here.
-fn behind_modifier(text: &[u8], at: usize) -> usize
+fn after_modifier(text: &[u8], at: usize) -> usize
     ensures { λ r. ⌜ r ≡ modified (old text) at ⌝ }
 {
     if peek(text, at) == b'?' {
@@ -131,7 +131,7 @@ pub fn repetition(text: &[u8], at: usize) -> Repeats
 {
     match sign(text, at) {
         Repeats::Refused(x) => Repeats::Refused(x),
-        Repeats::Between(n, m, e) => Repeats::Between(n, m, behind_modifier(text, e)),
-        Repeats::Onward(n, e) => Repeats::Onward(n, behind_modifier(text, e)),
+        Repeats::Between(n, m, e) => Repeats::Between(n, m, after_modifier(text, e)),
+        Repeats::Onward(n, e) => Repeats::Onward(n, after_modifier(text, e)),
     }
 }

@@ -73,7 +73,7 @@ fn mark_targets(form: &[u32], own: usize, b: usize, e: usize, set: &mut [bool; 2
 }
 
 // Marks the states on letters that may follow letter i, whose arcs are from b up to e, unless their label is `own`.
-fn mark_behind(form: &[u32], own: usize, i: usize, b: usize, e: usize, set: &mut [bool; 255])
+fn mark_after(form: &[u32], own: usize, i: usize, b: usize, e: usize, set: &mut [bool; 255])
     requires { ⌜ Valid (now form) × StartsAt (now form) i b × StartsAt (now form) (i + 1) e × (length (now set) ≡ 255) ⌝ }
     ensures { λ _. ⌜ Marks (Behind (view (old form)) own i) (old set) (new set) ⌝ }
 {
@@ -94,7 +94,7 @@ fn mark_steps(form: &[u32], starts: &[usize], s: usize, set: &mut [bool; 255])
     let own = entering(form, s);
     set[s] = true;
     set[2 * i] = true;
-    mark_behind(form, own, i, starts[i], starts[i + 1], set);
+    mark_after(form, own, i, starts[i], starts[i + 1], set);
 }
 
 // Marks the states that a step from state s leads to, if s is in the set.

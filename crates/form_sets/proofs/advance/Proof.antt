@@ -30,31 +30,31 @@ loop-holds c =
 array-read-if1 : tie.Need-array-read-if1 Inv-loop μ-loop
 array-read-if1 c = let few = c .before .before .before .before .before .pre .0 .head .letters-high in omega arith
 
-mul-mark-behind : tie.Need-mul-mark-behind Inv-loop μ-loop
-mul-mark-behind c = let few = c .before .before .before .before .before .before .pre .0 .head .letters-high in omega arith
+mul-mark-after : tie.Need-mul-mark-after Inv-loop μ-loop
+mul-mark-after c = let few = c .before .before .before .before .before .before .pre .0 .head .letters-high in omega arith
 
-shared-slice-read-mark-behind : tie.Need-shared-slice-read-mark-behind Inv-loop μ-loop
-shared-slice-read-mark-behind c =
+shared-slice-read-mark-after : tie.Need-shared-slice-read-mark-after Inv-loop μ-loop
+shared-slice-read-mark-after c =
     let p = c .before .before .before .before .before .before .before .pre in
     let few = p .0 .head .letters-high in
     let size = p .1 .size in
     omega arith
 
-add-mark-behind : tie.Need-add-mark-behind Inv-loop μ-loop
-add-mark-behind c = let few = c .before .before .before .before .before .before .before .pre .0 .head .letters-high in omega arith
+add-mark-after : tie.Need-add-mark-after Inv-loop μ-loop
+add-mark-after c = let few = c .before .before .before .before .before .before .before .pre .0 .head .letters-high in omega arith
 
-mul-mark-behind-2 : tie.Need-mul-mark-behind-2 Inv-loop μ-loop
-mul-mark-behind-2 c = let few = c .before .before .before .before .before .before .before .pre .0 .head .letters-high in omega arith
+mul-mark-after-2 : tie.Need-mul-mark-after-2 Inv-loop μ-loop
+mul-mark-after-2 c = let few = c .before .before .before .before .before .before .before .pre .0 .head .letters-high in omega arith
 
-shared-slice-read-mark-behind-2 : tie.Need-shared-slice-read-mark-behind-2 Inv-loop μ-loop
-shared-slice-read-mark-behind-2 c =
+shared-slice-read-mark-after-2 : tie.Need-shared-slice-read-mark-after-2 Inv-loop μ-loop
+shared-slice-read-mark-after-2 c =
     let p = c .before .before .before .before .before .before .before .before .pre in
     let few = p .0 .head .letters-high in
     let size = p .1 .size in
     omega arith
 
-mark-behind-requires : tie.Need-mark-behind-requires Inv-loop μ-loop
-mark-behind-requires c κs =
+mark-after-requires : tie.Need-mark-after-requires Inv-loop μ-loop
+mark-after-requires c κs =
     let p = c .before .before .before .before .before .before .before .before .before .pre in
     let l = c .before .before .before .before .before .loop in
     let few = p .0 .head .letters-high in
@@ -94,12 +94,12 @@ advance-spec =
     letters-requires
     loop-holds
     array-read-if1
-    mul-mark-behind
-    shared-slice-read-mark-behind
-    add-mark-behind
-    mul-mark-behind-2
-    shared-slice-read-mark-behind-2
-    mark-behind-requires
+    mul-mark-after
+    shared-slice-read-mark-after
+    add-mark-after
+    mul-mark-after-2
+    shared-slice-read-mark-after-2
+    mark-after-requires
     add-i
     loop-less
     loop-again

@@ -17,14 +17,14 @@ enum-known-x c = search needs
 enum-known-n : tie.Need-enum-known-n
 enum-known-n c = search needs
 
-behind-modifier-requires : tie.Need-behind-modifier-requires
-behind-modifier-requires c κs = search needs
+after-modifier-requires : tie.Need-after-modifier-requires
+after-modifier-requires c κs = search needs
 
 enum-known-n-2 : tie.Need-enum-known-n-2
 enum-known-n-2 c = search needs
 
-behind-modifier-requires-2 : tie.Need-behind-modifier-requires-2
-behind-modifier-requires-2 c κs = search needs
+after-modifier-requires-2 : tie.Need-after-modifier-requires-2
+after-modifier-requires-2 c κs = search needs
 
 returns : tie.Need-returns
 returns c =
@@ -41,7 +41,7 @@ returns-2 c =
     let text = now (start .args .text) in
     let at = start .args .at in
     let g = c .before .before .n .given in
-    ap (times (between (g .0 .0) (g .0 .1 .0))) (c .behind-modifier .ensures) ∙ repetition-is text at (between (g .0 .0) (g .0 .1 .0))
+    ap (times (between (g .0 .0) (g .0 .1 .0))) (c .after-modifier .ensures) ∙ repetition-is text at (between (g .0 .0) (g .0 .1 .0))
     (g .0 .1 .1 .0) (sym (g .1) ∙ after-sign .sign .ensures)
 
 returns-3 : tie.Need-returns-3
@@ -51,7 +51,7 @@ returns-3 c =
     let text = now (start .args .text) in
     let at = start .args .at in
     let g = c .before .before .n2 .given in
-    ap (times (onward (g .0 .0))) (c .behind-modifier2 .ensures) ∙ repetition-is text at (onward (g .0 .0)) (g .0 .1 .0)
+    ap (times (onward (g .0 .0))) (c .after-modifier2 .ensures) ∙ repetition-is text at (onward (g .0 .0)) (g .0 .1 .0)
     (sym (g .1) ∙ after-sign .sign .ensures)
 
 pub repetition-spec : {M : Type 1} → statement M
@@ -61,9 +61,9 @@ repetition-spec =
     sign-requires
     enum-known-x
     enum-known-n
-    behind-modifier-requires
+    after-modifier-requires
     enum-known-n-2
-    behind-modifier-requires-2
+    after-modifier-requires-2
     returns
     returns-2
     returns-3)

@@ -29,23 +29,23 @@ mul-set c = search needs
 element-write-set-2 : tie.Need-element-write-set-2
 element-write-set-2 c = search needs
 
-mul-mark-behind : tie.Need-mul-mark-behind
-mul-mark-behind c = search needs
+mul-mark-after : tie.Need-mul-mark-after
+mul-mark-after c = search needs
 
-shared-slice-read-mark-behind : tie.Need-shared-slice-read-mark-behind
-shared-slice-read-mark-behind c = search needs
+shared-slice-read-mark-after : tie.Need-shared-slice-read-mark-after
+shared-slice-read-mark-after c = search needs
 
-add-mark-behind : tie.Need-add-mark-behind
-add-mark-behind c = search needs
+add-mark-after : tie.Need-add-mark-after
+add-mark-after c = search needs
 
-mul-mark-behind-2 : tie.Need-mul-mark-behind-2
-mul-mark-behind-2 c = search needs
+mul-mark-after-2 : tie.Need-mul-mark-after-2
+mul-mark-after-2 c = search needs
 
-shared-slice-read-mark-behind-2 : tie.Need-shared-slice-read-mark-behind-2
-shared-slice-read-mark-behind-2 c = search needs
+shared-slice-read-mark-after-2 : tie.Need-shared-slice-read-mark-after-2
+shared-slice-read-mark-after-2 c = search needs
 
-mark-behind-requires : tie.Need-mark-behind-requires
-mark-behind-requires c κs =
+mark-after-requires : tie.Need-mark-after-requires
+mark-after-requires c κs =
     let a = c .before .before .before .before .before .before .args in
     let p = c .before .before .before .before .before .before .pre in
     let high = p .0 .head .letters-high in
@@ -59,9 +59,9 @@ returns c =
     let high = p .0 .head .letters-high in
     let f = now (a .form) in
     let i = (a .s + 1) / 2 in
-    let after = c .mark-behind .last .1 .1 .1 .1 .1 .0 in
+    let after = c .mark-after .last .1 .1 .1 .1 .1 .0 in
     steps-marked f (p .0) i (a .s) (now (a .set)) after (at-letter (a .s)) (omega arith) (omega arith)
-    (subst (λ x. Marks (Behind (view f) x i) (set (set (now (a .set)) (a .s) true) (2 * i) true) after) (c .before .before .before .before .entering .ensures) (c .mark-behind .ensures))
+    (subst (λ x. Marks (Behind (view f) x i) (set (set (now (a .set)) (a .s) true) (2 * i) true) after) (c .before .before .before .before .entering .ensures) (c .mark-after .ensures))
 
 pub mark-steps-spec : {M : Type 1} → statement M
 mark-steps-spec =
@@ -72,10 +72,10 @@ mark-steps-spec =
     element-write-set
     mul-set
     element-write-set-2
-    mul-mark-behind
-    shared-slice-read-mark-behind
-    add-mark-behind
-    mul-mark-behind-2
-    shared-slice-read-mark-behind-2
-    mark-behind-requires
+    mul-mark-after
+    shared-slice-read-mark-after
+    add-mark-after
+    mul-mark-after-2
+    shared-slice-read-mark-after-2
+    mark-after-requires
     returns)

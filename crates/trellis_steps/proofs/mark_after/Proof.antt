@@ -1,4 +1,4 @@
--- `trellis_steps::mark_behind` meets its contract: the first letters, or the targets of the letter's arcs.
+-- `trellis_steps::mark_after` meets its contract: the first letters, or the targets of the letter's arcs.
 use native.Mathlib.Omega.{arith}
 use mathlib.Core.Path.{sym, subst}
 use denote.Ref.{now}
@@ -7,8 +7,8 @@ use Rattle.automaton.specs.Form.{view}
 use Rattle.form_starts.specs.Loops.{range-rises}
 use Rattle.trellis_steps.specs.Steps.{Behind}
 use Rattle.trellis_steps.specs.Loops.{targets-marked}
-use Rattle.trellis_steps.proofs.mark_behind.Statement.{statement}
-use Rattle.trellis_steps.proofs.mark_behind.Tie as tie
+use Rattle.trellis_steps.proofs.mark_after.Statement.{statement}
+use Rattle.trellis_steps.proofs.mark_after.Tie as tie
 
 mark-firsts-requires : tie.Need-mark-firsts-requires
 mark-firsts-requires c κs = let p = c .before .before .before .pre in (p .0, p .3)
@@ -34,5 +34,5 @@ returns-2 c =
     targets-marked (now (a .form)) (p .0) (a .own) (now (a .set)) (c .mark-targets .last .1 .1 .1 .1 .0) (a .i) (a .b) (a .e) (omega arith) (p .1) (p .2)
     (c .mark-targets .ensures)
 
-pub mark-behind-spec : {M : Type 1} → statement M
-mark-behind-spec = tie.close (tie.spec mark-firsts-requires returns mark-targets-requires returns-2)
+pub mark-after-spec : {M : Type 1} → statement M
+mark-after-spec = tie.close (tie.spec mark-firsts-requires returns mark-targets-requires returns-2)

@@ -1,12 +1,12 @@
--- `positions_letters::behind_set` meets its contract.
+-- `positions_letters::after_set` meets its contract.
 use borrow.Author.Needs.{needs}
 use denote.Ref.{now}
 use mathlib.Core.Path.{sym, _∙_}
 use lib.ListN.{drop}
 use Rattle.regex.specs.Sets.{a-set}
 use Rattle.positions_letters.specs.Tokens.{end-is, end-refused}
-use Rattle.positions_letters.proofs.behind_set.Statement.{statement}
-use Rattle.positions_letters.proofs.behind_set.Tie as tie
+use Rattle.positions_letters.proofs.after_set.Statement.{statement}
+use Rattle.positions_letters.proofs.after_set.Tie as tie
 
 set-end-requires : tie.Need-set-end-requires
 set-end-requires c κs = search needs
@@ -27,5 +27,5 @@ returns-2 c =
     let text = now (c .before .before .before .before .args .text) in
     end-refused text _ (a-set (drop (c .before .before .before .before .args .at) text)) (sym (c .enum-told .given .1) ∙ c .before .before .set-end .ensures) (c .before .before .before .before .pre)
 
-pub behind-set-spec : {M : Type 1} → statement M
-behind-set-spec = tie.close (tie.spec set-end-requires enum-known-e enum-told returns returns-2)
+pub after-set-spec : {M : Type 1} → statement M
+after-set-spec = tie.close (tie.spec set-end-requires enum-known-e enum-told returns returns-2)

@@ -1,12 +1,12 @@
--- `regex_repetition::behind_modifier` meets its contract.
+-- `regex_repetition::after_modifier` meets its contract.
 use borrow.Author.Needs.{needs}
 use native.Mathlib.Omega.{arith}
 use denote.Ref.{now}
 use mathlib.Core.Path.{sym, _∙_}
 use Rattle.text.specs.TextLaws.{byte-is}
 use Rattle.regex_repetition.specs.SignLaws.{modified-is, modified-not}
-use Rattle.regex_repetition.proofs.behind_modifier.Statement.{statement}
-use Rattle.regex_repetition.proofs.behind_modifier.Tie as tie
+use Rattle.regex_repetition.proofs.after_modifier.Statement.{statement}
+use Rattle.regex_repetition.proofs.after_modifier.Tie as tie
 
 peek-requires : tie.Need-peek-requires
 peek-requires c κs = search needs
@@ -33,5 +33,5 @@ returns-2 c =
     let at = start .args .at in
     modified-not text at (λ z. c .if1 .left (c .before .peek .ensures ∙ z))
 
-pub behind-modifier-spec : {M : Type 1} → statement M
-behind-modifier-spec = tie.close (tie.spec peek-requires add-result returns returns-2)
+pub after-modifier-spec : {M : Type 1} → statement M
+after-modifier-spec = tie.close (tie.spec peek-requires add-result returns returns-2)

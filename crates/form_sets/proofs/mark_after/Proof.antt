@@ -1,4 +1,4 @@
--- `form_sets::mark_behind` meets its contract: the letters that may be first, or the targets of the arcs.
+-- `form_sets::mark_after` meets its contract: the letters that may be first, or the targets of the arcs.
 use Prim.Native.Nat.{_≤_}
 use mathlib.Core.Path.{sym, subst}
 use native.Mathlib.Omega.{arith}
@@ -9,8 +9,8 @@ use Rattle.form_starts.specs.Loops.{range-rises}
 use Rattle.form_sets.specs.Sets.{Enters}
 use Rattle.form_sets.specs.Loops.{all-reached}
 use borrow.Author.Needs.{needs}
-use Rattle.form_sets.proofs.mark_behind.Statement.{statement}
-use Rattle.form_sets.proofs.mark_behind.Tie as tie
+use Rattle.form_sets.proofs.mark_after.Statement.{statement}
+use Rattle.form_sets.proofs.mark_after.Tie as tie
 
 mark-firsts-requires : tie.Need-mark-firsts-requires
 mark-firsts-requires c κs = search needs
@@ -33,6 +33,6 @@ returns-2 c =
     let some : 1 ≤ a .i = omega (arith, c .before .before .if1 .left) in
     all-reached (now (a .form)) (a .x) (now (a .set)) (c .mark-targets .last .1 .1 .1 .1 .0) (a .i) (a .b) (a .e) some (p .2) (p .3) (c .mark-targets .ensures)
 
-pub mark-behind-spec : {M : Type 1} → statement M
-mark-behind-spec =
+pub mark-after-spec : {M : Type 1} → statement M
+mark-after-spec =
     tie.close (tie.spec mark-firsts-requires returns mark-targets-requires returns-2)
