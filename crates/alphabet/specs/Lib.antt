@@ -1,4 +1,4 @@
 pub mod Alphabet
-pub mod Tests
+pub mod AlphabetLaws
 pub mod Loops
 pub mod Examples

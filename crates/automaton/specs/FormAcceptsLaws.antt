@@ -10,7 +10,7 @@ use Rattle.lists.specs.Lists.{Among}
 use Rattle.lists.specs.Each.{Each}
 use Rattle.automaton.specs.Automaton.{Walk, Accepts}
 use Rattle.automaton.specs.Form.{arcWord, bit8, bit9, arcWords, validForm, followOf, view}
-use Rattle.automaton.specs.Words.{arc-fields}
+use Rattle.automaton.specs.WordsLaws.{arc-fields}
 use Rattle.automaton.specs.Valid.{Valid}
 use Rattle.automaton.specs.ValidLaws.{valid-at, follow-arc, arc-among, among-follow, may-be-first, may-be-last, accepts-empty, first-letter, follow-target}
 use Rattle.automaton.specs.FormAccepts.{OfForm, Along, lastOf, WalkSpells}

@@ -3,11 +3,11 @@ pub mod Proper
 pub mod Accepted
 pub mod AcceptedLaws
 pub mod Form
-pub mod Words
+pub mod WordsLaws
 pub mod Valid
 pub mod ValidLaws
 pub mod FormAccepts
 pub mod FormAcceptsLaws
-pub mod Encode
+pub mod EncodeLaws
 pub mod Examples
 pub mod Arrays

@@ -3,7 +3,7 @@ use Prim.Native.Nat.{ℕ, _<_, _≤_}
 use mathlib.Core.List.{List}
 use lib.ListN.{length, getD}
 use Rattle.automaton.specs.Form.{lettersOf, alphabetOf}
-use Rattle.automaton.specs.Words.{Head, Letter, Arc}
+use Rattle.automaton.specs.WordsLaws.{Head, Letter, Arc}
 
 -- the head, the letters and the arcs are well formed, and the arcs ascend
 pub record Valid (f : List ℕ) : Type 0 where

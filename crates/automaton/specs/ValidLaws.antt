@@ -17,7 +17,7 @@ use Rattle.lists.specs.AmongLaws.{any-among, among-any, among-at, among-index}
 use Rattle.lists.specs.AscendingLaws.{ascending-at}
 use Rattle.automaton.specs.Proper.{Proper}
 use Rattle.automaton.specs.Form.{bit8, bit9, source, target, isHead, isLetter, isArc, before, ordered, validForm, lettersOf, alphabetOf, letterWords, arcWords, followOf, endsOf, leads, view}
-use Rattle.automaton.specs.Words.{Head, Letter, Arc, head-true, true-head, letter-true, true-letter, arc-true, true-arc, before-less}
+use Rattle.automaton.specs.WordsLaws.{Head, Letter, Arc, head-true, true-head, letter-true, true-letter, arc-true, true-arc, before-less}
 use Rattle.automaton.specs.Valid.{Valid}
 
 pub letter-at : (f : List ℕ) (i : ℕ) → 1 ≤ i → i ≤ lettersOf f → getD (letterWords f) (i - 1) 0 ≡ getD f i 0

@@ -10,5 +10,5 @@ use Rattle.positions_build.specs.Whole.{treeOfText}
 
 -- a well-formed text, with at most 127 letters
 pub record Compilable (A s : List ℕ) : Type 0 where
-  pub reads : is-found (expressionOf A s) ≡ true
+  pub parses : is-found (expressionOf A s) ≡ true
   pub within : letterCount A (treeOfText A s) ≤ 127

@@ -2,5 +2,5 @@ pub mod Call
 pub mod Means
 pub mod Meaning
 pub mod Compilable
-pub mod Steps
+pub mod CallLaws
 pub mod Examples

@@ -23,7 +23,7 @@ use Rattle.regex.specs.Letters.{letterCount}
 use Rattle.regex.specs.Parse.{expressionOf}
 use Rattle.regex.specs.Grammar.{TextOf}
 use Rattle.regex.specs.Exact.{exact, words-of-text, expression-whole}
-use Rattle.regex.specs.Sense.{sensible}
+use Rattle.regex.specs.SenseLaws.{sensible}
 use Rattle.positions.specs.Compiled.{formOf}
 use Rattle.positions.specs.CompiledLaws.{form-valid, form-alphabet, form-letters, form-words}
 use Rattle.alphabet.specs.Alphabet.{distinct, is-alphabet, text-checks}

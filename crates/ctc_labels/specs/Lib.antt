@@ -1,3 +1,3 @@
 pub mod Calls
-pub mod Faults
+pub mod CallsLaws
 pub mod Examples

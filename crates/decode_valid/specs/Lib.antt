@@ -4,4 +4,4 @@ pub mod AnswersLaws
 pub mod Demand
 pub mod Kept
 pub mod DemandLaws
-pub mod Phases
+pub mod PhasesLaws

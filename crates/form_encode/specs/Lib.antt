@@ -2,4 +2,4 @@ pub mod Call
 pub mod Examples
 pub mod Parts
 pub mod PartsLaws
-pub mod Whole
+pub mod WholeLaws

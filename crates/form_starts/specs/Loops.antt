@@ -8,7 +8,7 @@ use lib.ListN.{length, getD, set}
 use lib.Seq.{getD-set-same, getD-set-other}
 use Rattle.lists.specs.OrderLaws.{lt-or-le, eq-or-ne}
 use Rattle.automaton.specs.Form.{lettersOf, source}
-use Rattle.automaton.specs.Words.{Arc}
+use Rattle.automaton.specs.WordsLaws.{Arc}
 use Rattle.automaton.specs.Valid.{Valid}
 use Rattle.form_starts.specs.Starts.{Skipped, StartsAt}
 

@@ -16,7 +16,7 @@ use Rattle.refusal.specs.declared.Refusal.the-variants.{BadForm, Label}
 use Rattle.refusal.specs.Verdict.{passed, refused, check}
 use Rattle.refusal.specs.VerdictLaws.{unless-holds, unless-second, unless-neither}
 use Rattle.ctc_labels.specs.Calls.{label-fault}
-use Rattle.ctc_labels.specs.Faults.{fault-labels}
+use Rattle.ctc_labels.specs.CallsLaws.{fault-labels}
 use Rattle.automaton.specs.Automaton.{Accepts}
 use Rattle.automaton.specs.Form.{bit8, validForm, alphabetOf, view}
 use Rattle.automaton.specs.Accepted.{accepts}

@@ -19,7 +19,7 @@ use Rattle.automaton.specs.AcceptedLaws.{accepts-decides}
 use Rattle.matrix.specs.Matrix.{Matrix, matrix}
 use Rattle.outcome.specs.Outcome.{Outcome}
 use Rattle.outcome.specs.OutcomeLaws.{outcome-same, outcome-unique}
-use Rattle.outcome.specs.Choice.{not-after, preferred, better}
+use Rattle.outcome.specs.ChoiceLaws.{not-after, preferred, better}
 use Rattle.outcome.specs.Exhaustive.{over, exhaustive, usable, decided, decided-outcome}
 use Rattle.text.specs.Bytes.{bytes}
 use Rattle.regex.specs.Grammar.{WordsOf}

@@ -1,4 +1,4 @@
 pub mod Handed
 pub mod HandedLaws
-pub mod Bounds
+pub mod BoundsLaws
 pub mod Examples

@@ -16,7 +16,7 @@ use Rattle.matrix.specs.Matrix.{Matrix, cost, price}
 use Rattle.matrix.specs.Paths.{PathFrom}
 use Rattle.outcome.specs.Outcome.{OutcomeOf, Outcome}
 use Rattle.outcome.specs.OutcomeLaws.{outcome-of-same}
-use Rattle.outcome.specs.Choice.{not-after, preferred, better, outcome-either}
+use Rattle.outcome.specs.ChoiceLaws.{not-after, preferred, better, outcome-either}
 
 abbrev pub prefixed : ℕ → Option (List ℕ) → Option (List ℕ)
 prefixed x none = none

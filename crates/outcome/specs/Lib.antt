@@ -4,7 +4,7 @@ pub mod Order
 pub mod OrderLaws
 pub mod Outcome
 pub mod OutcomeLaws
-pub mod Choice
+pub mod ChoiceLaws
 pub mod Exhaustive
-pub mod Columns
+pub mod ColumnsLaws
 pub mod Examples

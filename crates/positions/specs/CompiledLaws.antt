@@ -8,11 +8,11 @@ use native.Mathlib.Omega.{arith}
 use lib.ListN.{length}
 use Rattle.automaton.specs.Automaton.{Accepts}
 use Rattle.automaton.specs.Form.{validForm, view, alphabetOf, lettersOf}
-use Rattle.automaton.specs.Encode.{encode-valid, encode-accepts, letters-same, alphabet-same}
+use Rattle.automaton.specs.EncodeLaws.{encode-valid, encode-accepts, letters-same, alphabet-same}
 use Rattle.regex.specs.Tree.{Tree, Words}
 use Rattle.regex.specs.Letters.{letterCount}
-use Rattle.regex.specs.Sense.{Sensible, letters-some}
-use Rattle.positions.specs.Letters.{opened-letters}
+use Rattle.regex.specs.SenseLaws.{Sensible, letters-some}
+use Rattle.positions.specs.LettersLaws.{opened-letters}
 use Rattle.positions.specs.Numbered.{positionAutomaton, automatonOf}
 use Rattle.positions.specs.Exact.{accepts-words, automaton-proper}
 use Rattle.positions.specs.Compiled.{formOf}

@@ -13,15 +13,15 @@ use Rattle.lists.specs.AmongLaws.{among-each}
 use Rattle.automaton.specs.Automaton.{Accepts}
 use Rattle.automaton.specs.Proper.{Proper}
 use Rattle.regex.specs.Tree.{Tree, set, group, times, join, either, Joined, Words}
-use Rattle.regex.specs.Sense.{Sensible}
+use Rattle.regex.specs.SenseLaws.{Sensible}
 use Rattle.positions.specs.Opened.{Opened, letter, joining, alternation, optional, star, plus, empty, never, labelsIn, opened, labels, letters}
 use Rattle.positions.specs.OpenedWords.{OpenedWords}
 use Rattle.positions.specs.Opening.{label-among, opening-keeps-words}
-use Rattle.positions.specs.Letters.{any-of-labels}
+use Rattle.positions.specs.LettersLaws.{any-of-labels}
 use Rattle.positions.specs.Numbered.{numbered, bare, labelAt, positionAutomaton, automatonOf}
-use Rattle.positions.specs.Equations.{Kept, repeated-kept}
-use Rattle.positions.specs.Inside.{Inside, goes-to, inside-bare, inside-single, inside-perhaps, inside-again, Apart, inside-choice, inside-joint}
-use Rattle.positions.specs.Walks.{Exact, single-words, empty-words, never-words, joint-words, choice-words, perhaps-words, again-words}
+use Rattle.positions.specs.EquationsLaws.{Kept, repeated-kept}
+use Rattle.positions.specs.InsideLaws.{Inside, goes-to, inside-bare, inside-single, inside-perhaps, inside-again, Apart, inside-choice, inside-joint}
+use Rattle.positions.specs.WalksLaws.{Exact, single-words, empty-words, never-words, joint-words, choice-words, perhaps-words, again-words}
 
 -- The letters of r, numbered from n on, are n to n + letters r - 1.
 both-apart :

@@ -12,15 +12,15 @@ use borrow.Author.Tests.{eqb-true}
 use Rattle.lists.specs.OrderLaws.{not-both, and-left, and-right, or-either}
 use Rattle.automaton.specs.Automaton.{Walk}
 use Rattle.regex.specs.Tree.{Tree, set, group, times, join, either, Joined}
-use Rattle.regex.specs.Sense.{Sensible}
+use Rattle.regex.specs.SenseLaws.{Sensible}
 use Rattle.positions.specs.Opened.{Opened, letter, joining, alternation, optional, star, plus, empty, never, anyOf, labelsIn, opened, letters}
 use Rattle.positions.specs.OpenedWords.{OpenedWords}
-use Rattle.positions.specs.Letters.{labels-counted}
+use Rattle.positions.specs.LettersLaws.{labels-counted}
 use Rattle.positions.specs.Numbered.{Positions, numbered, assembled, positionAutomaton, automatonOf}
-use Rattle.positions.specs.Equations.{Kept, repeated-kept}
-use Rattle.positions.specs.Inside.{Inside, goes-to}
+use Rattle.positions.specs.EquationsLaws.{Kept, repeated-kept}
+use Rattle.positions.specs.InsideLaws.{Inside, goes-to}
 use Rattle.positions.specs.Exact.{numbered-inside}
-use Rattle.positions.specs.Marked.{marked, self, walks, word-walks}
+use Rattle.positions.specs.MarkedLaws.{marked, self, walks, word-walks}
 
 -- the expression has a word
 abbrev pub Some : Opened → Type 0

@@ -10,8 +10,8 @@ use Rattle.lists.specs.AmongLaws.{among-keep, keep-among}
 use Rattle.lists.specs.Lists.{Among, numbers}
 use Rattle.lists.specs.AscendingLaws.{among-numbers, numbers-among}
 use Rattle.regex.specs.Tree.{Set, Count, between, onward, Tree, set, group, times, join, either, member, Allows, Joined, Words}
-use Rattle.regex.specs.OwnCounts.{InRange}
-use Rattle.regex.specs.Sense.{Sensible}
+use Rattle.regex.specs.OwnCountsLaws.{InRange}
+use Rattle.regex.specs.SenseLaws.{Sensible}
 use Rattle.positions.specs.Opened.{Opened, plus, labelsIn, anyOf, copies, nested, repeated, opened}
 use Rattle.positions.specs.OpenedWords.{OpenedWords}
 

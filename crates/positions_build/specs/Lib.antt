@@ -1,10 +1,10 @@
-pub mod Copies
-pub mod Shown
+pub mod CopiesLaws
+pub mod ShownLaws
 pub mod Places
-pub mod Made
-pub mod Pieces
-pub mod BranchCalls
-pub mod PieceCalls
+pub mod MadeLaws
+pub mod PiecesLaws
+pub mod BranchLaws
+pub mod PieceLaws
 pub mod Whole
 pub mod WholeLaws
 pub mod Examples

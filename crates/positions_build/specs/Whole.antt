@@ -24,7 +24,7 @@ treeOfText A text = treeOf (expressionOf A text)
 -- the text has a tree of at most 127 letters, the arrays have an entry for each, and there is no arc yet
 pub record Buildable (A text marks : List ℕ) (follow : List (List Bool)) : Type 0 where
   pub alphabet : length A ≤ 255
-  pub reads : is-found (expressionOf A text) ≡ true
+  pub parses : is-found (expressionOf A text) ≡ true
   pub few : letterCount A (treeOfText A text) ≤ 127
   pub labelled : 127 ≤ length marks
   pub followers : 127 ≤ length follow

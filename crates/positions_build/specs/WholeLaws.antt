@@ -12,7 +12,7 @@ use Rattle.regex.specs.Letters.{letterCount}
 use Rattle.regex.specs.Parse.{m-alternation, parse, whole, expressionOf}
 use Rattle.positions.specs.Opened.{Opened, labels}
 use Rattle.positions.specs.Numbered.{numbered, positionAutomaton}
-use Rattle.positions.specs.Letters.{opened-letters}
+use Rattle.positions.specs.LettersLaws.{opened-letters}
 use Rattle.text.specs.Places.{place}
 use Rattle.automaton.specs.Arrays.{has, Tells}
 use Rattle.regex_bracket.specs.Answers.{is-found}
@@ -22,7 +22,7 @@ use Rattle.positions_letters.specs.FoundLaws.{not-found, then-first, then-is}
 use Rattle.positions_letters.specs.Shows.{Builds}
 use Rattle.positions_letters.specs.LettersLaws.{none-marked}
 use Rattle.positions_build.specs.Places.{Room, PartAt, treeAt, openedAt, endAt}
-use Rattle.positions_build.specs.Made.{reading}
+use Rattle.positions_build.specs.MadeLaws.{parsed-part}
 use Rattle.positions_build.specs.Whole.{treeOfText, Buildable, BuildsWhole}
 
 -- a new follow relation has no arc
@@ -75,25 +75,25 @@ module _ (A text : List ℕ) where
   module _ {marks : List ℕ} {f : List (List Bool)} (o : Buildable A text marks f) where
     pub text-found : PartAt A text m-alternation 16 0
     unfolding expressionOf
-    text-found = then-first whole (parse A m-alternation 16 text) (o .reads)
+    text-found = then-first whole (parse A m-alternation 16 text) (o .parses)
 
     same-tree : treeOfText A text ≡ treeAt A text m-alternation 16 0
     unfolding expressionOf
     same-tree =
         let x = parse A m-alternation 16 text in
         let e = then-is whole (set (only [])) x text-found in
-        ap treeOf e ∙ whole-tree (treeOf x) (restOf x) (ap is-found (sym e) ∙ o .reads)
+        ap treeOf e ∙ whole-tree (treeOf x) (restOf x) (ap is-found (sym e) ∙ o .parses)
 
     all-parsed : endAt A text m-alternation 16 0 ≡ length text
     unfolding expressionOf
     all-parsed =
         let x = parse A m-alternation 16 text in
         let e = then-is whole (set (only [])) x text-found in
-        whole-end (treeOf x) (restOf x) (ap is-found (sym e) ∙ o .reads)
+        whole-end (treeOf x) (restOf x) (ap is-found (sym e) ∙ o .parses)
 
     all-letters : length (labels (openedAt A text m-alternation 16 0)) ≡ letterCount A (treeOfText A text)
     all-letters =
-        opened-letters A (treeAt A text m-alternation 16 0) (reading A text m-alternation 16 0 text-found .sense)
+        opened-letters A (treeAt A text m-alternation 16 0) (parsed-part A text m-alternation 16 0 text-found .sense)
         ∙ ap (letterCount A) (sym same-tree)
 
     pub text-room : Room A (openedAt A text m-alternation 16 0) 0 marks f

@@ -8,7 +8,7 @@ use Rattle.positions_follow.specs.Sets.{member}
 use Rattle.regex.specs.Tree.{Set}
 use Rattle.regex.specs.Sets.{a-set}
 use Rattle.positions.specs.Opened.{labelsIn, anyOf}
-use Rattle.positions.specs.Equations.{alone}
+use Rattle.positions.specs.EquationsLaws.{alone}
 use Rattle.text.specs.Places.{place}
 use Rattle.regex_set.specs.Answers.{setAt}
 use Rattle.positions_parts.specs.declared.Built.{Built}

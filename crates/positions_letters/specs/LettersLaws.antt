@@ -16,8 +16,8 @@ use Rattle.lists.specs.Stored.{Stored}
 use Rattle.positions_follow.specs.Sets.{member, arc}
 use Rattle.regex.specs.Tree.{Set, member as memberOf}
 use Rattle.positions.specs.Opened.{labelsIn, anyOf}
-use Rattle.positions.specs.Equations.{alone, numbered-any-of}
-use Rattle.positions.specs.Letters.{any-of-labels}
+use Rattle.positions.specs.EquationsLaws.{alone, numbered-any-of}
+use Rattle.positions.specs.LettersLaws.{any-of-labels}
 use Rattle.positions_letters.specs.Shows.{Builds}
 use Rattle.positions_letters.specs.Letters.{Ranged}
 

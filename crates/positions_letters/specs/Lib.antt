@@ -4,4 +4,4 @@ pub mod Copies
 pub mod Shows
 pub mod Letters
 pub mod LettersLaws
-pub mod Tokens
+pub mod SetLaws

@@ -1,3 +1,3 @@
 pub mod Promise
 pub mod ChecksForm
-pub mod Steps
+pub mod StepsLaws

@@ -18,13 +18,13 @@ use Rattle.regex.specs.Sets.{labelled-set}
 use Rattle.regex.specs.Repetition.{repeats, sign, repetition}
 use Rattle.regex.specs.Parse.{Mode, m-alternation, m-branch, m-piece, m-group, ends, grouped, step, rank, parse, whole, expressionOf}
 use Rattle.regex.specs.Grammar.{loose, TextOf, WordsOf}
-use Rattle.regex.specs.Says.{of-found, then-found}
-use Rattle.regex.specs.Own.{of-one, Here}
-use Rattle.regex.specs.OwnSets.{ASet, labelled-set-says}
-use Rattle.regex.specs.OwnCounts.{Repeating, repetition-says}
-use Rattle.regex.specs.Front.{set-starts, text-starts, Front, Stop}
+use Rattle.regex.specs.SaysLaws.{of-found, then-found}
+use Rattle.regex.specs.OwnLaws.{of-one, Here}
+use Rattle.regex.specs.OwnSetsLaws.{ASet, labelled-set-says}
+use Rattle.regex.specs.OwnCountsLaws.{Repeating, repetition-says}
+use Rattle.regex.specs.FrontLaws.{set-starts, text-starts, Front, Stop}
 use Rattle.regex.specs.Sound.{parse-sound}
-use Rattle.regex.specs.Steps.{parse-step}
+use Rattle.regex.specs.StepsLaws.{parse-step}
 
 -- what may follow a part of an expression: after a branch `|`, `)` or the end, after an alternation `)` or the end
 abbrev pub Follows : Mode → List ℕ → Type 0

@@ -10,8 +10,8 @@ use Rattle.regex.specs.Tree.{Tree}
 use Rattle.regex.specs.Parsing.{fault}
 use Rattle.regex.specs.Parse.{m-alternation, parse, whole, expressionOf}
 use Rattle.regex.specs.Grammar.{TextOf}
-use Rattle.regex.specs.Says.{Says, of-fault, then-says}
-use Rattle.regex.specs.Front.{Front, Stop, Begins, stop-behind}
+use Rattle.regex.specs.SaysLaws.{Says, of-fault, then-says}
+use Rattle.regex.specs.FrontLaws.{Front, Stop, Begins, stop-behind}
 use Rattle.regex.specs.Sound.{parse-sound}
 use Rattle.regex.specs.Exact.{exact}
 use Rattle.regex.specs.Places.{Place}

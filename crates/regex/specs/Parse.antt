@@ -57,7 +57,7 @@ go A zero m d s = fault refusal.MisplacedSign s
 go A (suc k) m d s = step A (go A k) m d s
 
 -- Parses the front of a text over the alphabet A, where d more groups may be opened. The depth is always enough: `parse A` is the one
--- function with `parse A m d s ≡ step A (parse A) m d s` (Steps).
+-- function with `parse A m d s ≡ step A (parse A) m d s` (StepsLaws).
 unfoldable pub parse : List ℕ → Mode → ℕ → List ℕ → Parsing Tree
 parse A m d s = go A (suc (measure m s)) m d s
 

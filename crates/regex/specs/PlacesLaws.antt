@@ -20,9 +20,9 @@ use Rattle.lists.specs.Cases.{first-of, provided}
 use Rattle.regex.specs.Sets.{closed, reserved, items, members, inside, bracket, special, escaped, a-set, labelled-set}
 use Rattle.regex.specs.Repetition.{repeats, number, from-to, counts, sign, repetition}
 use Rattle.regex.specs.Parse.{Mode, m-alternation, m-branch, m-piece, m-group, ends, grouped, step, measure, parse, whole, expressionOf}
-use Rattle.regex.specs.Own.{of-one}
-use Rattle.regex.specs.Says.{Says, of-fault, says-found, branch-says, first-says, enclosed-says, then-says}
-use Rattle.regex.specs.Steps.{rest-length, rest-less, parse-forward, parse-step}
+use Rattle.regex.specs.OwnLaws.{of-one}
+use Rattle.regex.specs.SaysLaws.{Says, of-fault, says-found, branch-says, first-says, enclosed-says, then-says}
+use Rattle.regex.specs.StepsLaws.{rest-length, rest-less, parse-forward, parse-step}
 use Rattle.regex.specs.Places.{misplaced, Place, at-sign, at-group, at-braces, at-bracket, at-set}
 
 end-misplaced : (s : List ℕ) → ends s ≡ true → misplaced s ≡ true

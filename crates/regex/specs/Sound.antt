@@ -10,10 +10,10 @@ use Rattle.text.specs.Text.{next, rest}
 use Rattle.regex.specs.Sets.{labelled-set}
 use Rattle.regex.specs.Repetition.{repeats, repetition}
 use Rattle.regex.specs.Parse.{Mode, m-alternation, m-branch, m-piece, m-group, ends, grouped, step, go, measure, parse}
-use Rattle.regex.specs.Says.{Says, branch-says, then-says}
-use Rattle.regex.specs.OwnSets.{labelled-set-says}
-use Rattle.regex.specs.OwnCounts.{repetition-says}
-use Rattle.regex.specs.Front.{Front, Stop, looser, stop-looser, stop-here, stop-behind, either-front, either-stop, join-front, join-stop, times-front, set-front, group-front, group-stop}
+use Rattle.regex.specs.SaysLaws.{Says, branch-says, then-says}
+use Rattle.regex.specs.OwnSetsLaws.{labelled-set-says}
+use Rattle.regex.specs.OwnCountsLaws.{repetition-says}
+use Rattle.regex.specs.FrontLaws.{Front, Stop, looser, stop-looser, stop-here, stop-behind, either-front, either-stop, join-front, join-stop, times-front, set-front, group-front, group-stop}
 
 -- A step is sound if those that it calls are.
 module _ (A : List ℕ) where

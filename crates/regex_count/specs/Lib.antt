@@ -1,3 +1,3 @@
-pub mod Sums
+pub mod SumsLaws
 pub mod Parts
 pub mod PartsLaws

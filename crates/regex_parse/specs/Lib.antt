@@ -1,5 +1,5 @@
-pub mod Parts
-pub mod Cycle
+pub mod PartsLaws
+pub mod CycleLaws
 pub mod Parsed
 pub mod ParsedLaws
 pub mod Examples

@@ -12,7 +12,7 @@ use Rattle.regex.specs.Parsing.{Parsing, found, fault, then}
 use Rattle.regex.specs.Parse.{parse, m-alternation, whole, expressionOf}
 use Rattle.regex_set.specs.declared.Part.the-variants as part
 use Rattle.regex_set.specs.Answers.{partOf}
-use Rattle.regex_parse.specs.Parts.{partAt, Found}
+use Rattle.regex_parse.specs.PartsLaws.{partAt, Found}
 use Rattle.regex_parse.specs.declared.Parsed.the-variants.{Letters, Refused}
 use Rattle.regex_parse.specs.Parsed.{parsedOf, parsed}
 

@@ -20,7 +20,7 @@ use Rattle.text.specs.Text.{next, rest, split}
 use Rattle.text.specs.Places.{until, place}
 use Rattle.lists.specs.Cases.{first-of}
 use Rattle.regex.specs.Repetition.{counts, sign, repetition}
-use Rattle.regex.specs.Says.{Says, first-says, enclosed-says}
+use Rattle.regex.specs.SaysLaws.{Says, first-says, enclosed-says}
 use Rattle.text.specs.TextLaws.{split-found, split-missing, byte-within, next-at, rest-at, place-drop}
 use Rattle.regex_repetition.specs.declared.Repeats.the-variants as repeats
 use Rattle.regex_repetition.specs.Answers.{times, repeatsOf, counted, braced, modified}

@@ -1,3 +1,3 @@
 pub mod Inputs
 pub mod InputsLaws
-pub mod Came
+pub mod Loops

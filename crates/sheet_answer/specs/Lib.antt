@@ -1,4 +1,4 @@
 pub mod Answer
 pub mod AnswerLaws
 pub mod Document
-pub mod Sheets
+pub mod SheetsLaws

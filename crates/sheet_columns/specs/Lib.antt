@@ -1,4 +1,4 @@
-pub mod Rests
+pub mod RestsLaws
 pub mod Loops
 pub mod Storing
 pub mod Matrices

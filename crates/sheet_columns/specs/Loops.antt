@@ -21,7 +21,7 @@ use Rattle.sheet_format.specs.ColumnLines.{columnsIn}
 use Rattle.sheet_number.specs.Digits.{ReadCost}
 use Rattle.sheet_number.specs.DigitsLaws.{cost-begins}
 use Rattle.sheet_number.specs.declared.Cost.the-variants as cost
-use Rattle.sheet_columns.specs.Rests.{cost-columns, no-column}
+use Rattle.sheet_columns.specs.RestsLaws.{cost-columns, no-column}
 use Rattle.sheet_columns.specs.declared.Column.{Column}
 use Rattle.sheet_columns.specs.declared.Column.the-variants as column
 use Rattle.sheet_columns.specs.declared.Columns.{Columns}

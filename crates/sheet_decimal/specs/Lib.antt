@@ -1,4 +1,4 @@
 pub mod Numerals
 pub mod Examples
-pub mod Decimal
-pub mod Pieces
+pub mod NumeralsLaws
+pub mod PiecesLaws

@@ -2,5 +2,5 @@ pub mod Sheet
 pub mod Examples
 pub mod ColumnLines
 pub mod ColumnLinesLaws
-pub mod Limits
-pub mod Parts
+pub mod LimitsLaws
+pub mod PartsLaws

@@ -14,7 +14,7 @@ use Rattle.lists.specs.OrderLaws.{and-left, and-right, and-three, or-either, no
 use Rattle.lists.specs.Cases.{provided}
 use Rattle.text.specs.Digits.{digits, value, digit}
 use Rattle.sheet_format.specs.Sheet.{extra-zero, costOf}
-use Rattle.sheet_format.specs.Parts.{provided-back}
+use Rattle.sheet_format.specs.PartsLaws.{provided-back}
 use Rattle.sheet_number.specs.Places.{part}
 use Rattle.sheet_number.specs.PlacesLaws.{part-none, part-more, part-at, part-length}
 use Rattle.sheet_number.specs.declared.Cost.the-variants.{Is, Not}

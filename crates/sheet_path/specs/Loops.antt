@@ -8,7 +8,7 @@ use lib.ListN.{length, getD, drop, length-append}
 use Rattle.lists.specs.EachLaws.{drop-here, drop-all}
 use Rattle.lists.specs.Each.{Each}
 use Rattle.sheet_decimal.specs.Numerals.{decimal}
-use Rattle.sheet_decimal.specs.Decimal.{decimal-short}
+use Rattle.sheet_decimal.specs.NumeralsLaws.{decimal-short}
 use Rattle.sheet_path.specs.Labels.{following, spaced}
 
 -- the label at place i, and those after it

@@ -2,6 +2,6 @@ pub mod Answer
 pub mod AnswerLaws
 pub mod Promise
 pub mod PromiseLaws
-pub mod Longest
-pub mod Steps
+pub mod LongestLaws
+pub mod StepsLaws
 pub mod Examples

@@ -1,3 +1,3 @@
 pub mod Answers
 pub mod AnswersLaws
-pub mod Whole
+pub mod WholeLaws

@@ -7,11 +7,11 @@ pub mod CostToGoLaws
 pub mod Extended
 pub mod ExtendedLaws
 pub mod Examples
-pub mod Accepted
-pub mod Beginning
+pub mod AcceptedLaws
+pub mod BeginningLaws
 pub mod BestWay
-pub mod Trace
-pub mod Outcome
+pub mod TraceLaws
+pub mod OutcomeLaws
 pub mod Cells
 pub mod CellsLaws
 pub mod Reached

@@ -9,7 +9,7 @@ use Rattle.automaton.specs.Proper.{Proper}
 use Rattle.matrix.specs.Matrix.{Matrix, cost}
 use Rattle.trellis.specs.Impossible.{plus}
 use Rattle.trellis.specs.CostToGo.{CostToGo}
-use Rattle.trellis.specs.Trace.{Shared, Tight, Chosen, some-tight}
+use Rattle.trellis.specs.TraceLaws.{Shared, Tight, Chosen, some-tight}
 use Rattle.trellis.specs.Extended.{OnLetter, InBlanks, Step, stay, pass, arc, rest, leave, extended}
 use Rattle.trellis.specs.ExtendedLaws.{step-within}
 use Rattle.trellis.specs.Reached.{entering, Reached}

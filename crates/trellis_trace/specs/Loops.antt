@@ -18,7 +18,7 @@ use Rattle.automaton.specs.ValidLaws.{valid-proper}
 use Rattle.matrix.specs.Matrix.{Matrix, cost}
 use Rattle.trellis.specs.Impossible.{plus}
 use Rattle.trellis.specs.CostToGo.{CostToGo}
-use Rattle.trellis.specs.Trace.{Tracing, tracing-start, tracing-more, tracing-all}
+use Rattle.trellis.specs.TraceLaws.{Tracing, tracing-start, tracing-more, tracing-all}
 use Rattle.trellis.specs.Extended.{extended}
 use Rattle.trellis.specs.ExtendedLaws.{step-within}
 use Rattle.trellis.specs.Reached.{entering, Reached}

@@ -1,6 +1,6 @@
 pub mod Fields
 pub mod FieldsLaws
-pub mod Cut
+pub mod CutLoops
 pub mod NumbersLoops
-pub mod Narrow
+pub mod NarrowLoops
 pub mod Examples

@@ -3,7 +3,7 @@ use mathlib.Core.Path.{sym, _∙_}
 use borrow.Author.Needs.{needs}
 use borrow.Author.Tests.{not-true, not-false}
 use denote.Ref.{now}
-use Rattle.alphabet.specs.Tests.{refused-alphabet, refused-short, refused-long, refused-byte, text-passed}
+use Rattle.alphabet.specs.AlphabetLaws.{refused-alphabet, refused-short, refused-long, refused-byte, text-passed}
 use Rattle.alphabet.proofs.check_text.Statement.{statement}
 use Rattle.alphabet.proofs.check_text.Tie as tie
 

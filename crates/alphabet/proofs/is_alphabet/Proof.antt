@@ -3,7 +3,7 @@ use mathlib.Core.Path.{sym, _∙_}
 use borrow.Author.Needs.{needs}
 use borrow.Author.Tests.{not-true, not-false}
 use denote.Ref.{now}
-use Rattle.alphabet.specs.Tests.{alphabet-short, alphabet-long, alphabet-bytes, alphabet-distinct}
+use Rattle.alphabet.specs.AlphabetLaws.{alphabet-short, alphabet-long, alphabet-bytes, alphabet-distinct}
 use Rattle.alphabet.proofs.is_alphabet.Statement.{statement}
 use Rattle.alphabet.proofs.is_alphabet.Tie as tie
 

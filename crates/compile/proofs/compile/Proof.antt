@@ -4,9 +4,9 @@ use lib.ListN.{length}
 use denote.Ref.{now}
 use Rattle.refusal.specs.Fills.{reported, Fills}
 use Rattle.refusal.specs.ReportLaws.{fills-refused}
-use Rattle.alphabet.specs.Tests.{text-alphabet}
+use Rattle.alphabet.specs.AlphabetLaws.{text-alphabet}
 use Rattle.compile.specs.Call.{compile-call}
-use Rattle.compile.specs.Steps.{call-refused, call-passed}
+use Rattle.compile.specs.CallLaws.{call-refused, call-passed}
 use borrow.Author.Needs.{needs}
 use Rattle.compile.proofs.compile.Statement.{statement}
 use Rattle.compile.proofs.compile.Tie as tie

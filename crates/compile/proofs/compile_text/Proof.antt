@@ -7,7 +7,7 @@ use Rattle.refusal.specs.Fills.{reported, Fills}
 use Rattle.refusal.specs.ReportLaws.{fills-refused}
 use Rattle.regex.specs.Parse.{expressionOf}
 use Rattle.compile.specs.Call.{parsed-form}
-use Rattle.compile.specs.Steps.{text-refused, text-many, text-compilable, text-form}
+use Rattle.compile.specs.CallLaws.{text-refused, text-many, text-compilable, text-form}
 use borrow.Author.Needs.{needs}
 use Rattle.compile.proofs.compile_text.Statement.{statement}
 use Rattle.compile.proofs.compile_text.Tie as tie

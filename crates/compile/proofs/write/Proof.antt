@@ -4,7 +4,7 @@ use native.Mathlib.Omega.{arith}
 use lib.ListN.{length}
 use denote.Ref.{now}
 use Rattle.refusal.specs.Fills.{reported, Fills}
-use Rattle.compile.specs.Steps.{buildable, told-call}
+use Rattle.compile.specs.CallLaws.{buildable, told-call}
 use borrow.Author.Needs.{needs}
 use Rattle.compile.proofs.write.Statement.{statement}
 use Rattle.compile.proofs.write.Tie as tie

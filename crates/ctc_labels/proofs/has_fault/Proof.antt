@@ -4,7 +4,7 @@ use mathlib.Core.Bool.{not}
 use borrow.Author.Needs.{needs}
 use borrow.Author.Tests.{not-true, not-false}
 use denote.Ref.{now}
-use Rattle.ctc_labels.specs.Faults.{fault-alphabet, fault-long, fault-labels}
+use Rattle.ctc_labels.specs.CallsLaws.{fault-alphabet, fault-long, fault-labels}
 use Rattle.ctc_labels.proofs.has_fault.Statement.{statement}
 use Rattle.ctc_labels.proofs.has_fault.Tie as tie
 

@@ -15,7 +15,7 @@ use Rattle.refusal.specs.ReportLaws.{fills-refused, fills-wrote}
 use Rattle.ctc.specs.Spread.{spread}
 use Rattle.ctc.specs.SpreadLaws.{spread-length}
 use Rattle.ctc_labels.specs.Calls.{label-fault}
-use Rattle.ctc_labels.specs.Faults.{faultless-labels}
+use Rattle.ctc_labels.specs.CallsLaws.{faultless-labels}
 use Rattle.ctc_spread.specs.Calls.{spread-call}
 use Rattle.ctc_spread.specs.Loops.{few-pairs-in}
 use Rattle.ctc_spread.proofs.spread.Statement.{statement}

@@ -6,7 +6,7 @@ use lib.Seq.{length-take-le}
 use borrow.Author.Needs.{needs}
 use denote.Ref.{now}
 use Rattle.decode_valid.specs.Lent.{Lent}
-use Rattle.decode_valid.specs.Phases.{sized, nothing, ready, something}
+use Rattle.decode_valid.specs.PhasesLaws.{sized, nothing, ready, something}
 use Rattle.decode_valid.proofs.decode_valid.Statement.{statement}
 use Rattle.decode_valid.proofs.decode_valid.Tie as tie
 

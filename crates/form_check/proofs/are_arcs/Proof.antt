@@ -9,7 +9,7 @@ use borrow.Author.Needs.{needs}
 use borrow.Author.Tests.{not-true, not-false}
 use Rattle.lists.specs.Each.{all}
 use Rattle.automaton.specs.Form.{isArc, ordered}
-use Rattle.form_check.specs.Checks.{behind, behind-none, behind-more, behind-bad, behind-late, behind-end}
+use Rattle.form_check.specs.ChecksLaws.{behind, behind-none, behind-more, behind-bad, behind-late, behind-end}
 use Rattle.form_check.proofs.are_arcs.Statement.{statement}
 use Rattle.form_check.proofs.are_arcs.Tie as tie
 

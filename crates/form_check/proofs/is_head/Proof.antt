@@ -5,7 +5,7 @@ use lib.Dec.{eqb}
 use borrow.Author.Tests.{eq-eqb, ne-eqb, not-true, not-false}
 use Rattle.lists.specs.Lists.{in-range}
 use Rattle.automaton.specs.Form.{headWord, byte0, byte2, bit8}
-use Rattle.form_check.specs.Checks.{head-sum}
+use Rattle.form_check.specs.ChecksLaws.{head-sum}
 use borrow.Author.Needs.{needs}
 use Rattle.form_check.proofs.is_head.Statement.{statement}
 use Rattle.form_check.proofs.is_head.Tie as tie

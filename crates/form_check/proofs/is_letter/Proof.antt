@@ -4,7 +4,7 @@ use mathlib.Core.Bool.{_&&_}
 use borrow.Author.Tests.{eq-eqb, ne-eqb}
 use Rattle.lists.specs.Lists.{in-range}
 use Rattle.automaton.specs.Form.{letterWord, byte0, bit8, bit9}
-use Rattle.form_check.specs.Checks.{letter-sum}
+use Rattle.form_check.specs.ChecksLaws.{letter-sum}
 use borrow.Author.Needs.{needs}
 use Rattle.form_check.proofs.is_letter.Statement.{statement}
 use Rattle.form_check.proofs.is_letter.Tie as tie

@@ -5,7 +5,7 @@ use denote.Ref.{now}
 use borrow.Author.Tests.{not-true, not-false}
 use Rattle.lists.specs.Each.{all}
 use Rattle.automaton.specs.Form.{isLetter, isArc, ordered, lettersOf, alphabetOf}
-use Rattle.form_check.specs.Checks.{valid-empty, valid-head, valid-short, valid-letters, valid-arcs, letters-part, arcs-part}
+use Rattle.form_check.specs.ChecksLaws.{valid-empty, valid-head, valid-short, valid-letters, valid-arcs, letters-part, arcs-part}
 use borrow.Author.Needs.{needs}
 use Rattle.form_check.proofs.valid.Statement.{statement}
 use Rattle.form_check.proofs.valid.Tie as tie

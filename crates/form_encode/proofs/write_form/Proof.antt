@@ -14,7 +14,7 @@ use Rattle.refusal.specs.ReportLaws.{fills-refused, fills-wrote}
 use Rattle.automaton.specs.Form.{encode}
 use Rattle.form_encode.specs.Call.{form-call}
 use Rattle.automaton.specs.Arrays.{arrayed}
-use Rattle.form_encode.specs.Whole.{length-words}
+use Rattle.form_encode.specs.WholeLaws.{length-words}
 use Rattle.form_encode.proofs.write_form.Statement.{statement}
 use Rattle.form_encode.proofs.write_form.Tie as tie
 

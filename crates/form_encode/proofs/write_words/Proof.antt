@@ -10,7 +10,7 @@ use Rattle.form_encode_arcs.specs.Arcs.{arcsBy}
 use Rattle.automaton.specs.Arrays.{arrayed}
 use Rattle.form_encode.specs.Parts.{lettersBy}
 use Rattle.form_encode.specs.PartsLaws.{arrayed-words}
-use Rattle.form_encode.specs.Whole.{length-words, letters-room, arcs-room, all-written}
+use Rattle.form_encode.specs.WholeLaws.{length-words, letters-room, arcs-room, all-written}
 use Rattle.form_encode.proofs.write_words.Statement.{statement}
 use Rattle.form_encode.proofs.write_words.Tie as tie
 

@@ -1,7 +1,7 @@
 -- `kavurehy::kavurehy_collapse` meets its contract.
 use borrow.Author.Needs.{needs}
 use Rattle.kavurehy.specs.HandedLaws.{fills-counted}
-use Rattle.kavurehy.specs.Bounds.{collapse-fits}
+use Rattle.kavurehy.specs.BoundsLaws.{collapse-fits}
 use Rattle.kavurehy.proofs.kavurehy_collapse.Statement.{statement}
 use Rattle.kavurehy.proofs.kavurehy_collapse.Tie as tie
 

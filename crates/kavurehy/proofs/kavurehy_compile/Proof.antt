@@ -1,7 +1,7 @@
 -- `kavurehy::kavurehy_compile` meets its contract.
 use borrow.Author.Needs.{needs}
 use Rattle.kavurehy.specs.HandedLaws.{fills-counted}
-use Rattle.kavurehy.specs.Bounds.{compile-fits}
+use Rattle.kavurehy.specs.BoundsLaws.{compile-fits}
 use Rattle.kavurehy.proofs.kavurehy_compile.Statement.{statement}
 use Rattle.kavurehy.proofs.kavurehy_compile.Tie as tie
 

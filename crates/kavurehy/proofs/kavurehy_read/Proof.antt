@@ -1,6 +1,6 @@
 -- `kavurehy::kavurehy_read` meets its contract.
 use borrow.Author.Needs.{needs}
-use Rattle.kavurehy.specs.Bounds.{read-fits}
+use Rattle.kavurehy.specs.BoundsLaws.{read-fits}
 use Rattle.kavurehy.proofs.kavurehy_read.Statement.{statement}
 use Rattle.kavurehy.proofs.kavurehy_read.Tie as tie
 

@@ -1,7 +1,7 @@
 -- `kavurehy::kavurehy_spread` meets its contract.
 use borrow.Author.Needs.{needs}
 use Rattle.kavurehy.specs.HandedLaws.{fills-counted}
-use Rattle.kavurehy.specs.Bounds.{spread-fits}
+use Rattle.kavurehy.specs.BoundsLaws.{spread-fits}
 use Rattle.kavurehy.proofs.kavurehy_spread.Statement.{statement}
 use Rattle.kavurehy.proofs.kavurehy_spread.Tie as tie
 

@@ -4,7 +4,7 @@ use denote.Ref.{now}
 use mathlib.Core.Path.{sym, _∙_}
 use lib.ListN.{drop}
 use Rattle.regex.specs.Sets.{a-set}
-use Rattle.positions_letters.specs.Tokens.{end-is, end-refused}
+use Rattle.positions_letters.specs.SetLaws.{end-is, end-refused}
 use Rattle.positions_letters.proofs.after_set.Statement.{statement}
 use Rattle.positions_letters.proofs.after_set.Tie as tie
 

@@ -2,7 +2,7 @@
 use borrow.Author.Needs.{needs}
 use denote.Ref.{now}
 use mathlib.Core.Path.{sym, _∙_}
-use Rattle.positions_letters.specs.Tokens.{copies-one, copies-between, copies-onward, copies-refused}
+use Rattle.positions_letters.specs.SetLaws.{copies-one, copies-between, copies-onward, copies-refused}
 use Rattle.positions_letters.proofs.copies_at.Statement.{statement}
 use Rattle.positions_letters.proofs.copies_at.Tie as tie
 

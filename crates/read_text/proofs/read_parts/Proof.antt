@@ -10,7 +10,7 @@ use Rattle.automaton.specs.ValidLaws.{valid-at}
 use Rattle.matrix.specs.Matrix.{Matrix, matrix}
 use Rattle.compile.specs.Call.{compile-call}
 use Rattle.decode_valid.specs.Lent.{Lent}
-use Rattle.read_text.specs.Steps.{Compiled, compiled, compiled-fits, compiled-form, compiled-text, reads-refused, reads-form}
+use Rattle.read_text.specs.StepsLaws.{Compiled, compiled, compiled-fits, compiled-form, compiled-text, reads-refused, reads-form}
 use borrow.Author.Needs.{needs}
 use Rattle.read_text.proofs.read_parts.Statement.{statement}
 use Rattle.read_text.proofs.read_parts.Tie as tie

@@ -6,7 +6,7 @@ use Rattle.answers.specs.Decoded.{reported as decoded}
 use Rattle.matrix.specs.Matrix.{Matrix, matrix}
 use Rattle.decode_valid.specs.Answers.{DecodeAnswers}
 use Rattle.decode_valid.specs.Lent.{Lent}
-use Rattle.read_valid.specs.Words.{read-none, read-labels, read-characters}
+use Rattle.read_valid.specs.WordsLaws.{read-none, read-labels, read-characters}
 use borrow.Author.Needs.{needs}
 use Rattle.read_valid.proofs.read_valid.Statement.{statement}
 use Rattle.read_valid.proofs.read_valid.Tie as tie

@@ -1,5 +1,5 @@
 -- `regex_count::copies` meets its contract.
-use Rattle.regex_count.specs.Sums.{copies-none, copies-some}
+use Rattle.regex_count.specs.SumsLaws.{copies-none, copies-some}
 use Rattle.regex_count.proofs.copies.Statement.{statement}
 use Rattle.regex_count.proofs.copies.Tie as tie
 

@@ -3,7 +3,7 @@ use borrow.Author.Needs.{needs}
 use denote.Ref.{now}
 use mathlib.Core.Path.{sym, _∙_}
 use Rattle.regex.specs.Parse.{m-alternation}
-use Rattle.regex_parse.specs.Parts.{part-found}
+use Rattle.regex_parse.specs.PartsLaws.{part-found}
 use Rattle.regex_parse.specs.ParsedLaws.{parsed-refused, parsed-stray, parsed-letters}
 use Rattle.regex_parse.proofs.expression.Statement.{statement}
 use Rattle.regex_parse.proofs.expression.Tie as tie

@@ -6,7 +6,7 @@ use mathlib.Core.Path.{_≡_}
 use lib.ListN.{length, drop}
 use Rattle.regex.specs.Letters.{labelsOf}
 use Rattle.regex_set.specs.Answers.{setAt}
-use Rattle.regex_set.specs.Sets.{labels-none, labels-more, labels-end}
+use Rattle.regex_set.specs.SetsLaws.{labels-none, labels-more, labels-end}
 use Rattle.regex_set.proofs.count_labels.Statement.{statement}
 use Rattle.regex_set.proofs.count_labels.Tie as tie
 

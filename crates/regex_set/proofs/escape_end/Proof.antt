@@ -4,7 +4,7 @@ use denote.Ref.{now}
 use mathlib.Core.Path.{sym, ap, _∙_}
 use lib.ListN.{drop}
 use Rattle.regex.specs.Sets.{special}
-use Rattle.regex_set.specs.Sets.{escape-ends, escape-refused}
+use Rattle.regex_set.specs.SetsLaws.{escape-ends, escape-refused}
 use Rattle.regex_set.proofs.escape_end.Statement.{statement}
 use Rattle.regex_set.proofs.escape_end.Tie as tie
 

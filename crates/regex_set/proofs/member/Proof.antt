@@ -4,7 +4,7 @@ use native.Mathlib.Omega.{arith}
 use denote.Ref.{now}
 use mathlib.Core.Path.{sym, ap, _∙_}
 use lib.Dec.{eqb}
-use Rattle.regex_set.specs.Sets.{set-within, member-escape, member-dot, bracket-found, member-bracket, member-byte}
+use Rattle.regex_set.specs.SetsLaws.{set-within, member-escape, member-dot, bracket-found, member-bracket, member-byte}
 use Rattle.regex_set.proofs.member.Statement.{statement}
 use Rattle.regex_set.proofs.member.Tie as tie
 

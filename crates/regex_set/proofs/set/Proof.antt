@@ -4,7 +4,7 @@ use denote.Ref.{now}
 use mathlib.Core.Path.{sym, ap, _∙_}
 use lib.ListN.{drop}
 use Rattle.regex_set.specs.declared.Part.the-variants as part
-use Rattle.regex_set.specs.Sets.{ends-set, part-refused, part-foreign, part-labels}
+use Rattle.regex_set.specs.SetsLaws.{ends-set, part-refused, part-foreign, part-labels}
 use Rattle.regex_set.proofs.set.Statement.{statement}
 use Rattle.regex_set.proofs.set.Tie as tie
 

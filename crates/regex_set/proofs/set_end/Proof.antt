@@ -2,7 +2,7 @@
 use borrow.Author.Needs.{needs}
 use denote.Ref.{now}
 use mathlib.Core.Path.{sym, _∙_}
-use Rattle.regex_set.specs.Sets.{end-none, end-escape, end-dot, end-bracket, end-special, end-alone}
+use Rattle.regex_set.specs.SetsLaws.{end-none, end-escape, end-dot, end-bracket, end-special, end-alone}
 use Rattle.regex_set.proofs.set_end.Statement.{statement}
 use Rattle.regex_set.proofs.set_end.Tie as tie
 

@@ -7,7 +7,7 @@ use lib.Seq.{length-take-le}
 use mir.Syntax.{w64}
 use mir.Val.{toZ, ofZ}
 use borrow.Author.Needs.{needs, sfits-of}
-use Rattle.sheet.specs.Came.{Came, came}
+use Rattle.sheet.specs.Loops.{Came, came}
 use Rattle.sheet.proofs.read_input.Statement.{statement}
 use Rattle.sheet.proofs.read_input.Tie as tie
 

@@ -11,11 +11,11 @@ use Rattle.refusal.specs.declared.Refusal.the-variants.{Sheet}
 use Rattle.matrix.specs.Matrix.{matrix}
 use Rattle.sheet_scan.specs.Answers.{Scans}
 use Rattle.sheet_lines.specs.Lines.{refusal-line}
-use Rattle.sheet_lines.specs.Lengths.{refusal-short}
+use Rattle.sheet_lines.specs.LengthsLaws.{refusal-short}
 use Rattle.sheet_read.specs.Answer.{PrintsReading}
 use Rattle.sheet_read.specs.PromiseLaws.{answers, answers-as}
 use Rattle.sheet_answer.specs.Answer.{Prints}
-use Rattle.sheet_answer.specs.Sheets.{Laid, laid-out, no-sheet}
+use Rattle.sheet_answer.specs.SheetsLaws.{Laid, laid-out, no-sheet}
 use Rattle.sheet_answer.proofs.answer.Statement.{statement}
 use Rattle.sheet_answer.proofs.answer.Tie as tie
 

@@ -9,8 +9,8 @@ use borrow.Author.Needs.{needs}
 use borrow.Fn.Kinds.{In}
 use borrow.Fn.PlainCycle.{Measures, is, falls, and}
 use Rattle.sheet_decimal.specs.Numerals.{digit, decimal}
-use Rattle.sheet_decimal.specs.Decimal.{decimal-one, decimal-more}
-use Rattle.sheet_decimal.specs.Pieces.{front-room, back-room, both-stored}
+use Rattle.sheet_decimal.specs.NumeralsLaws.{decimal-one, decimal-more}
+use Rattle.sheet_decimal.specs.PiecesLaws.{front-room, back-room, both-stored}
 use Rattle.sheet_decimal.proofs.put_decimal.Reads as put-decimal
 use Rattle.sheet_decimal.proofs.put_decimal.Kinds as put-decimal-kinds
 use Rattle.sheet_decimal.proofs.+put_decimal.Lts-put_decimal as lts

@@ -7,10 +7,10 @@ use lib.ListN.{length}
 use denote.Ref.{now}
 use borrow.Author.Needs.{needs}
 use Rattle.sheet_decimal.specs.Numerals.{decimal}
-use Rattle.sheet_decimal.specs.Pieces.{front-room, back-room, both-stored}
+use Rattle.sheet_decimal.specs.PiecesLaws.{front-room, back-room, both-stored}
 use Rattle.sheet_path.specs.Labels.{spaced}
 use Rattle.sheet_lines.specs.Lines.{line, reading-lines}
-use Rattle.sheet_lines.specs.Lengths.{stored-wrote}
+use Rattle.sheet_lines.specs.LengthsLaws.{stored-wrote}
 use Rattle.sheet_lines.proofs.print_reading.Statement.{statement}
 use Rattle.sheet_lines.proofs.print_reading.Tie as tie
 

@@ -9,9 +9,9 @@ use borrow.Author.Needs.{needs}
 use Rattle.text.specs.Bytes.{bytes}
 use Rattle.refusal.specs.Number.{numberOf}
 use Rattle.sheet_decimal.specs.Numerals.{decimal}
-use Rattle.sheet_decimal.specs.Pieces.{back-room, both-stored}
+use Rattle.sheet_decimal.specs.PiecesLaws.{back-room, both-stored}
 use Rattle.sheet_lines.specs.Lines.{line, refusal-line}
-use Rattle.sheet_lines.specs.Lengths.{stored-wrote}
+use Rattle.sheet_lines.specs.LengthsLaws.{stored-wrote}
 use Rattle.sheet_lines.proofs.print_refusal.Statement.{statement}
 use Rattle.sheet_lines.proofs.print_refusal.Tie as tie
 

@@ -5,7 +5,7 @@ use native.Mathlib.Omega.{arith}
 use denote.Ref.{now}
 use borrow.Author.Needs.{needs}
 use Rattle.sheet_decimal.specs.Numerals.{decimal}
-use Rattle.sheet_decimal.specs.Pieces.{front-room, back-room, both-stored}
+use Rattle.sheet_decimal.specs.PiecesLaws.{front-room, back-room, both-stored}
 use Rattle.sheet_lines.specs.Lines.{line}
 use Rattle.sheet_lines.proofs.put_number_line.Statement.{statement}
 use Rattle.sheet_lines.proofs.put_number_line.Tie as tie

@@ -6,7 +6,7 @@ use lib.ListN.{getD, drop}
 use denote.Ref.{now}
 use borrow.Author.Needs.{needs}
 use Rattle.sheet_decimal.specs.Numerals.{decimal}
-use Rattle.sheet_decimal.specs.Pieces.{front-room, back-room, both-stored}
+use Rattle.sheet_decimal.specs.PiecesLaws.{front-room, back-room, both-stored}
 use Rattle.sheet_path.specs.Labels.{following, spaced}
 use Rattle.sheet_path.specs.Loops.{spaced-none, spaced-some}
 use Rattle.sheet_path.proofs.put_labels.Statement.{statement}

@@ -3,7 +3,7 @@ use mathlib.Core.Path.{refl}
 use mathlib.Core.List.{[], _∷_}
 use denote.Ref.{now}
 use Rattle.sheet_decimal.specs.Numerals.{decimal}
-use Rattle.sheet_decimal.specs.Pieces.{back-room, both-stored}
+use Rattle.sheet_decimal.specs.PiecesLaws.{back-room, both-stored}
 use borrow.Author.Needs.{needs}
 use Rattle.sheet_path.proofs.put_next.Statement.{statement}
 use Rattle.sheet_path.proofs.put_next.Tie as tie

@@ -12,8 +12,8 @@ use Rattle.decode_valid.specs.Lent.{Lent}
 use Rattle.sheet_print.specs.Printed.{answer-lines}
 use Rattle.sheet_read.specs.Answer.{PrintsReading}
 use Rattle.sheet_read.specs.PromiseLaws.{answers}
-use Rattle.sheet_read.specs.Longest.{reading-bound}
-use Rattle.sheet_read.specs.Steps.{Sized, Said, said, said-shown, said-lines}
+use Rattle.sheet_read.specs.LongestLaws.{reading-bound}
+use Rattle.sheet_read.specs.StepsLaws.{Sized, Said, said, said-shown, said-lines}
 use Rattle.sheet_read.proofs.answer_reading.Statement.{statement}
 use Rattle.sheet_read.proofs.answer_reading.Tie as tie
 

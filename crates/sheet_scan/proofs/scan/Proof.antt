@@ -5,7 +5,7 @@ use borrow.Author.Needs.{needs}
 use denote.Ref.{now}
 use Prim.Native.Nat.{_+_}
 use Rattle.sheet_columns.specs.Matrices.{StoredMatrix}
-use Rattle.sheet_scan.specs.Whole.{scans-bad, sheet-long, sheet-no-line, sheet-one-line, sheet-unfit, scans-sheet}
+use Rattle.sheet_scan.specs.WholeLaws.{scans-bad, sheet-long, sheet-no-line, sheet-one-line, sheet-unfit, scans-sheet}
 use Rattle.sheet_scan.proofs.scan.Statement.{statement}
 use Rattle.sheet_scan.proofs.scan.Tie as tie
 

@@ -6,7 +6,7 @@ use native.Mathlib.Omega.{arith}
 use denote.Ref.{now}
 use lib.ListN.{take, drop}
 use Rattle.text.specs.Places.{until}
-use Rattle.vectors_fields.specs.Cut.{next-within, pieces-first}
+use Rattle.vectors_fields.specs.CutLoops.{next-within, pieces-first}
 use Rattle.vectors_fields.proofs.field.Statement.{statement}
 use Rattle.vectors_fields.proofs.field.Tie as tie
 

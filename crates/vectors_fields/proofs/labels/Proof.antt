@@ -1,7 +1,7 @@
 -- `vectors_fields::labels` meets its contract.
 use borrow.Author.Needs.{needs}
 use Rattle.vectors_fields.specs.FieldsLaws.{counts}
-use Rattle.vectors_fields.specs.Narrow.{wrote-front}
+use Rattle.vectors_fields.specs.NarrowLoops.{wrote-front}
 use Rattle.vectors_fields.proofs.labels.Statement.{statement}
 use Rattle.vectors_fields.proofs.labels.Tie as tie
 

@@ -4,7 +4,7 @@ use native.Mathlib.Omega.{arith}
 use denote.Ref.{now}
 use lib.ListN.{length, length-set}
 use borrow.Author.Needs.{needs}
-use Rattle.vectors_fields.specs.Narrow.{Narrowed, narrowed-none, narrowed-length, narrowed-more, narrowed-all}
+use Rattle.vectors_fields.specs.NarrowLoops.{Narrowed, narrowed-none, narrowed-length, narrowed-more, narrowed-all}
 use Rattle.vectors_fields.proofs.narrow.Statement.{statement}
 use Rattle.vectors_fields.proofs.narrow.Tie as tie
 

@@ -5,7 +5,7 @@ use native.Mathlib.Omega.{arith}
 use lib.ListN.{length, drop}
 use denote.Ref.{now}
 use Rattle.vectors_fields.specs.Fields.{fieldOf}
-use Rattle.vectors_fields.specs.Cut.{next-within, cut-further, cut-ends}
+use Rattle.vectors_fields.specs.CutLoops.{next-within, cut-further, cut-ends}
 use Rattle.vectors_fields.proofs.start.Statement.{statement}
 use Rattle.vectors_fields.proofs.start.Tie as tie
 

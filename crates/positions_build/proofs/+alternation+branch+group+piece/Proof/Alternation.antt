@@ -6,8 +6,8 @@ use denote.Ref.{now}
 use borrow.Author.Needs.{needs}
 use Rattle.regex.specs.Parse.{m-branch}
 use Rattle.text.specs.TextLaws.{byte-is}
-use Rattle.positions_build.specs.Made.{reading, branch-found}
-use Rattle.positions_build.specs.BranchCalls.{branch-room, alternation-found, alternation-room, alternation-returns-branch, alternation-returns-choice}
+use Rattle.positions_build.specs.MadeLaws.{parsed-part, branch-found}
+use Rattle.positions_build.specs.BranchLaws.{branch-room, alternation-found, alternation-room, alternation-returns-branch, alternation-returns-choice}
 use Prim.Native.Nat.{ℕ}
 use Rattle.positions_build.proofs.alternation.Reads as alternation
 use Rattle.positions_build.proofs.+alternation+branch+group+piece.Lts-alternation as alternation-lts
@@ -72,7 +72,7 @@ alternation-alternation-requires t c κs =
     let e = b .result .end in
     let k : getD text e 0 ≡ 124 = sym (c .before .before .before .peek .ensures) ∙ c .before .before .if1 .left in
     let l = byte-is text e 123 k in
-    let r = reading A text m-branch d at (branch-found A text d at p) .ahead in
+    let r = parsed-part A text m-branch d at (branch-found A text d at p) .ahead in
     let q = b .ensures .ends in
     (omega arith, (alternation-found A text d at p o (b .ensures) k, alternation-room A text d at p o (b .ensures) k))
 

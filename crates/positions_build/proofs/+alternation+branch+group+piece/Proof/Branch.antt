@@ -4,8 +4,8 @@ use native.Mathlib.Omega.{arith}
 use denote.Ref.{now}
 use borrow.Author.Needs.{needs}
 use Rattle.regex.specs.Parse.{m-piece}
-use Rattle.positions_build.specs.Made.{reading, piece-found}
-use Rattle.positions_build.specs.BranchCalls.{first-copy, piece-room, next-found, next-room, branch-returns-piece, branch-returns-joint}
+use Rattle.positions_build.specs.MadeLaws.{parsed-part, piece-found}
+use Rattle.positions_build.specs.BranchLaws.{first-copy, piece-room, next-found, next-room, branch-returns-piece, branch-returns-joint}
 use Prim.Native.Nat.{ℕ}
 use Rattle.positions_build.proofs.branch.Reads as branch
 use Rattle.positions_build.proofs.+alternation+branch+group+piece.Lts-branch as branch-lts
@@ -54,7 +54,7 @@ branch-branch-requires t c κs =
     let o = s .pre .1 .1 in
     let b = c .before .before .before .before .before .before .before .piece in
     let k = sym (c .before .before .before .is-end .ensures) ∙ c .before .before .if1 .left in
-    let r = reading A text m-piece d at (piece-found A text d at p) in
+    let r = parsed-part A text m-piece d at (piece-found A text d at p) in
     let l = r .ahead in
     let w = r .within in
     let q = b .ensures .ends in

@@ -5,7 +5,7 @@ use lib.ListN.{getD}
 use denote.Ref.{now}
 use borrow.Author.Needs.{needs}
 use Rattle.text.specs.TextLaws.{byte-is}
-use Rattle.positions_build.specs.PieceCalls.{set-found, set-room, deep, content-found, content-within, content-room, group-returns-set, group-returns-content}
+use Rattle.positions_build.specs.PieceLaws.{set-found, set-room, deep, content-found, content-within, content-room, group-returns-set, group-returns-content}
 use Prim.Native.Nat.{ℕ}
 use Rattle.positions_build.proofs.group.Reads as group
 use Rattle.positions_build.proofs.+alternation+branch+group+piece.Lts-group as group-lts

@@ -4,8 +4,8 @@ use native.Mathlib.Omega.{arith}
 use denote.Ref.{now}
 use borrow.Author.Needs.{needs}
 use Rattle.lists.specs.WrittenLaws.{stored-size}
-use Rattle.positions_build.specs.Pieces.{group-found}
-use Rattle.positions_build.specs.PieceCalls.{few-copies, group-room, count-found, more-left, left-room, piece-returns-last, piece-returns-more}
+use Rattle.positions_build.specs.PiecesLaws.{group-found}
+use Rattle.positions_build.specs.PieceLaws.{few-copies, group-room, count-found, more-left, left-room, piece-returns-last, piece-returns-more}
 use Prim.Native.Nat.{ℕ}
 use Rattle.positions_build.proofs.piece.Reads as piece
 use Rattle.positions_build.proofs.+alternation+branch+group+piece.Lts-piece as piece-lts

@@ -7,8 +7,8 @@ use borrow.Author.Needs.{needs}
 use Rattle.regex.specs.Parse.{m-branch}
 use Rattle.text.specs.TextLaws.{byte-is}
 use Rattle.regex_count.specs.Parts.{add}
-use Rattle.regex_parse.specs.Parts.{Found, part-found}
-use Rattle.regex_parse.specs.Cycle.{alternation-refused, alternation-alone, alternation-more}
+use Rattle.regex_parse.specs.PartsLaws.{Found, part-found}
+use Rattle.regex_parse.specs.CycleLaws.{alternation-refused, alternation-alone, alternation-more}
 use Rattle.regex_parse.proofs.alternation.Reads as alternation
 use Rattle.regex_parse.proofs.+alternation+branch+group+piece.Lts-alternation as alternation-lts
 use Rattle.regex_parse.proofs.+alternation+branch+group+piece.Proof.Measure.{alternation-at, alternation-calls}

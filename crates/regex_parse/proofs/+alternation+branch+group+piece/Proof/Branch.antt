@@ -6,8 +6,8 @@ use denote.Ref.{now}
 use borrow.Author.Needs.{needs}
 use Rattle.regex.specs.Parse.{m-piece}
 use Rattle.regex_count.specs.Parts.{add}
-use Rattle.regex_parse.specs.Parts.{Found, part-found}
-use Rattle.regex_parse.specs.Cycle.{branch-refused, branch-last, branch-more}
+use Rattle.regex_parse.specs.PartsLaws.{Found, part-found}
+use Rattle.regex_parse.specs.CycleLaws.{branch-refused, branch-last, branch-more}
 use Rattle.regex_parse.proofs.branch.Reads as branch
 use Rattle.regex_parse.proofs.+alternation+branch+group+piece.Lts-branch as branch-lts
 use Rattle.regex_parse.proofs.+alternation+branch+group+piece.Proof.Measure.{branch-at, branch-calls}

@@ -6,7 +6,7 @@ use denote.Ref.{now}
 use borrow.Author.Needs.{needs}
 use Rattle.text.specs.TextLaws.{byte-is}
 use Rattle.regex_count.specs.Parts.{closed}
-use Rattle.regex_parse.specs.Cycle.{group-set, group-deep, group-closed}
+use Rattle.regex_parse.specs.CycleLaws.{group-set, group-deep, group-closed}
 use Rattle.regex_parse.proofs.group.Reads as group
 use Rattle.regex_parse.proofs.+alternation+branch+group+piece.Lts-group as group-lts
 use Rattle.regex_parse.proofs.+alternation+branch+group+piece.Proof.Measure.{group-at, group-calls}

@@ -5,8 +5,8 @@ use denote.Ref.{now}
 use borrow.Author.Needs.{needs}
 use Rattle.regex.specs.Parse.{m-group}
 use Rattle.regex_count.specs.Parts.{repeated}
-use Rattle.regex_parse.specs.Parts.{Found, part-found}
-use Rattle.regex_parse.specs.Cycle.{piece-refused, piece-plain, piece-repeated}
+use Rattle.regex_parse.specs.PartsLaws.{Found, part-found}
+use Rattle.regex_parse.specs.CycleLaws.{piece-refused, piece-plain, piece-repeated}
 use Rattle.regex_parse.proofs.piece.Reads as piece
 use Rattle.regex_parse.proofs.+alternation+branch+group+piece.Lts-piece as piece-lts
 use Rattle.regex_parse.proofs.+alternation+branch+group+piece.Proof.Measure.{piece-at, piece-calls}

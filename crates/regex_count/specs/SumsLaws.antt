@@ -5,7 +5,7 @@ use native.Mathlib.Omega.{arith}
 use native.Mathlib.Nat.{mul-le-mul-right, mul-le-mul-left}
 use Rattle.regex.specs.Tree.{onward}
 use Rattle.regex.specs.Letters.{copiesOf}
-use Rattle.regex.specs.Sense.{few-mul}
+use Rattle.regex.specs.SenseLaws.{few-mul}
 use Rattle.regex.specs.Few.{few}
 
 pub few-times : (k n : ℕ) → few (k * few n) ≡ few (k * n)

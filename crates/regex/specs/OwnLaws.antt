@@ -15,7 +15,7 @@ use Rattle.lists.specs.Each.{Each}
 use Rattle.refusal.specs.declared.Refusal.{Refusal}
 use Rattle.regex.specs.Parsing.{Parsing, found, enclosed}
 use Rattle.text.specs.Text.{one-of, next, rest, in-front, split}
-use Rattle.regex.specs.Says.{Says, enclosed-says}
+use Rattle.regex.specs.SaysLaws.{Says, enclosed-says}
 
 -- a text that begins with a sign is that sign and the rest
 pub next-is : (c : Char) (s : List ℕ) → next c s ≡ true → s ≡ code c ∷ rest s

@@ -11,8 +11,8 @@ use Rattle.automaton.specs.Automaton.{Walk}
 use Rattle.positions.specs.Opened.{Opened, letter, joining, alternation, optional, star, plus, empty, never, labels, letters}
 use Rattle.positions.specs.OpenedWords.{OpenedWords}
 use Rattle.positions.specs.Numbered.{numbered, joint, choice, perhaps, again, assembled}
-use Rattle.positions.specs.Equations.{letters-joining, letters-alternation}
-use Rattle.positions.specs.Walks.{Exact}
+use Rattle.positions.specs.EquationsLaws.{letters-joining, letters-alternation}
+use Rattle.positions.specs.WalksLaws.{Exact}
 use Rattle.positions.specs.Exact.{Labelled, opened-exact}
 
 -- the numbers of the letters in place of their labels

@@ -12,7 +12,7 @@ use Rattle.refusal.specs.declared.Refusal.{Refusal}
 use Rattle.refusal.specs.Number.{numberOf}
 use Rattle.refusal.specs.NumberLaws.{number-between}
 use Rattle.sheet_decimal.specs.Numerals.{decimal}
-use Rattle.sheet_decimal.specs.Decimal.{decimal-short}
+use Rattle.sheet_decimal.specs.NumeralsLaws.{decimal-short}
 use Rattle.sheet_path.specs.Labels.{spaced}
 use Rattle.sheet_path.specs.Loops.{spaced-short}
 use Rattle.sheet_lines.specs.Lines.{line, reading-lines, refusal-line}

@@ -18,8 +18,8 @@ use Rattle.text.specs.Text.{next, rest, split}
 use Rattle.lists.specs.Cases.{first-of, provided}
 use Rattle.regex.specs.Repetition.{number, from-on, from-to, comma, counts, sign, repetition}
 use Rattle.text.specs.Digits.{digits, value}
-use Rattle.regex.specs.Says.{Says, of-found, branch-says, first-says, then-says, says-map}
-use Rattle.regex.specs.Own.{next-is, Here, own-one, own-more, split-ends, enclosed-own, OwnAs}
+use Rattle.regex.specs.SaysLaws.{Says, of-found, branch-says, first-says, then-says, says-map}
+use Rattle.regex.specs.OwnLaws.{next-is, Here, own-one, own-more, split-ends, enclosed-own, OwnAs}
 
 -- "each is at most 255, n ≤ m, and m (or the n of `{n}`) is at least 1"
 abbrev pub InRange : Count → Type 0

@@ -12,10 +12,10 @@ use Rattle.regex.specs.Letters.{labelsOf, copiesOf, letterCount}
 use Rattle.regex.specs.Sets.{labelled-set}
 use Rattle.regex.specs.Repetition.{repetition}
 use Rattle.regex.specs.Grammar.{TextOf}
-use Rattle.regex.specs.Says.{of-found}
-use Rattle.regex.specs.Own.{Here}
-use Rattle.regex.specs.OwnSets.{ASet, labelled-set-says}
-use Rattle.regex.specs.OwnCounts.{InRange, Repeating, repetition-says}
+use Rattle.regex.specs.SaysLaws.{of-found}
+use Rattle.regex.specs.OwnLaws.{Here}
+use Rattle.regex.specs.OwnSetsLaws.{ASet, labelled-set-says}
+use Rattle.regex.specs.OwnCountsLaws.{InRange, Repeating, repetition-says}
 use Rattle.regex.specs.Few.{few}
 
 abbrev pub Sensible : List ℕ → Tree → Type 0

@@ -11,11 +11,11 @@ use Rattle.lists.specs.Stored.{Stored}
 use Rattle.positions_follow.specs.Sets.{member, arc, Linked}
 use Rattle.positions.specs.Opened.{Opened, joining, alternation, labels}
 use Rattle.positions.specs.Numbered.{Positions, joint, choice, again, numbered}
-use Rattle.positions.specs.Equations.{Same}
+use Rattle.positions.specs.EquationsLaws.{Same}
 use Rattle.positions_parts.specs.Together.{United, Chosen, Joined, Looped, Spared}
 use Rattle.positions_parts.specs.declared.Built.{Built}
 use Rattle.positions_letters.specs.Shows.{Shows, Builds}
-use Rattle.positions_build.specs.Copies.{spared, looped, Alike}
+use Rattle.positions_build.specs.CopiesLaws.{spared, looped, Alike}
 use Rattle.positions_build.specs.Places.{Room}
 
 -- Parts put together show the positions of the whole.

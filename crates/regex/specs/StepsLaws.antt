@@ -10,9 +10,9 @@ use Rattle.regex.specs.Tree.{Tree}
 use Rattle.regex.specs.Parsing.{Parsing, found}
 use Rattle.text.specs.Text.{next, rest}
 use Rattle.regex.specs.Parse.{Mode, m-alternation, m-branch, m-piece, m-group, ends, grouped, step, go, measure, parse}
-use Rattle.regex.specs.Says.{of-found, then-same, branch-same}
-use Rattle.regex.specs.Own.{next-is}
-use Rattle.regex.specs.Front.{text-some, Front, Stop}
+use Rattle.regex.specs.SaysLaws.{of-found, then-same, branch-same}
+use Rattle.regex.specs.OwnLaws.{next-is}
+use Rattle.regex.specs.FrontLaws.{text-some, Front, Stop}
 use Rattle.regex.specs.Sound.{Sound, go-sound, parse-sound}
 
 pub rest-length : (s : List ℕ) → length (rest s) ≤ length s

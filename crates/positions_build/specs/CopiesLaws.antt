@@ -11,10 +11,10 @@ use borrow.Author.Tests.{le-leb, lt-leb}
 use Rattle.lists.specs.OrderLaws.{lt-or-le}
 use Rattle.regex.specs.Tree.{Count, between, onward}
 use Rattle.regex.specs.Letters.{copiesOf}
-use Rattle.regex.specs.OwnCounts.{InRange}
+use Rattle.regex.specs.OwnCountsLaws.{InRange}
 use Rattle.positions.specs.Opened.{Opened, joining, optional, plus, star, empty, labels, repeated}
 use Rattle.positions.specs.Numbered.{numbered}
-use Rattle.positions.specs.Equations.{Same, between-none, between-needed, between-spare, onward-more, onward-one, onward-none, joined-empty}
+use Rattle.positions.specs.EquationsLaws.{Same, between-none, between-needed, between-spare, onward-more, onward-one, onward-none, joined-empty}
 use Rattle.positions_letters.specs.Copies.{leastOf, isOnward}
 use Rattle.positions_build.specs.Places.{fewer}
 

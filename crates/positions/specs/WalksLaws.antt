@@ -11,7 +11,7 @@ use Rattle.lists.specs.OrderLaws.{not-both, and-left, and-right, and-both, or-e
 use Rattle.automaton.specs.Automaton.{Walk, Accepts}
 use Rattle.regex.specs.Tree.{Joined}
 use Rattle.positions.specs.Numbered.{Positions, bare, single, joint, choice, perhaps, again, behind, ending, assembled}
-use Rattle.positions.specs.Inside.{Inside, goes-to, inside-perhaps, inside-again, again-ends, again-arcs, Agree, Apart, joint-ends, joint-arcs, joint-back, choice-front, choice-back}
+use Rattle.positions.specs.InsideLaws.{Inside, goes-to, inside-perhaps, inside-again, again-ends, again-arcs, Agree, Apart, joint-ends, joint-arcs, joint-back, choice-front, choice-back}
 
 module _ (c : ℕ) (label : ℕ → ℕ) where
   abbrev Through : Positions → ℕ → List ℕ → Type 0

@@ -13,7 +13,7 @@ use Rattle.regex.specs.Parsing.{found}
 use Rattle.regex.specs.Repetition.{repeats, sign}
 use Rattle.regex.specs.Parse.{Mode, m-piece, parse, expressionOf}
 use Rattle.regex.specs.Grammar.{loose, TextOf, WordsOf}
-use Rattle.regex.specs.OwnCounts.{repetition-with, repetition-without}
+use Rattle.regex.specs.OwnCountsLaws.{repetition-with, repetition-without}
 use Rattle.regex.specs.Exact.{Follows, parse-text, parse-whole, exact, words-of-text}
 
 module _ (A : List ℕ) where

@@ -15,7 +15,7 @@ use Rattle.refusal.specs.declared.Checked.the-variants as checks
 use Rattle.regex.specs.Tree.{Tree}
 use Rattle.regex.specs.Parsing.{Parsing, found, fault}
 use Rattle.regex.specs.Letters.{letterCount}
-use Rattle.regex.specs.Sense.{sensible}
+use Rattle.regex.specs.SenseLaws.{sensible}
 use Rattle.regex.specs.Few.{few}
 use Rattle.regex.specs.Exact.{exact, expression-whole}
 use Rattle.regex.specs.Parse.{expressionOf}
@@ -68,12 +68,12 @@ module _ (A s : List ℕ) (room : ℕ) where
       by (found t r) g e =
           let q : n ≡ few (letterCount A t) = cc in
           let same : letterCount A (treeOfText A s) ≡ letterCount A t = ap (λ y. letterCount A (treeOf y)) g in
-          record { reads = ap is-found g; within = omega arith }
+          record { parses = ap is-found g; within = omega arith }
 
   -- and then the form
   pub text-form : Compilable A s → parsed-form A room (expressionOf A s) ≡ form-call (length A) (automatonOf A (treeOfText A s)) room
   unfolding form-call
-  text-form c = by (expressionOf A s) (c .reads) (c .within)
+  text-form c = by (expressionOf A s) (c .parses) (c .within)
     where
       by : (y : Parsing Tree) → is-found y ≡ true → letterCount A (treeOf y) ≤ 127 → parsed-form A room y ≡ form-call (length A) (automatonOf A (treeOf y)) room
       by (fault m r) e h = let z : _≡_ {A = ℕ} 0 1 = cc in absurd (omega arith)
@@ -94,7 +94,7 @@ pub buildable : (A s : List ℕ) → length A ≤ 95 → Compilable A s → Buil
 buildable A s h c =
     record {
       alphabet = omega arith;
-      reads = c .reads;
+      parses = c .parses;
       few = c .within;
       labelled = omega (arith, length-replicate {A = ℕ} 127 0);
       followers = omega (arith, length-replicate 127 (replicate 127 false));
@@ -104,7 +104,7 @@ buildable A s h c =
 module _ (A s : List ℕ) (c : Compilable A s) where
   -- the text's tree
   tree : (r : List ℕ) × (expressionOf A s ≡ found (treeOfText A s) r)
-  tree = by (expressionOf A s) (c .reads) refl
+  tree = by (expressionOf A s) (c .parses) refl
     where
       by : (y : Parsing Tree) → is-found y ≡ true → expressionOf A s ≡ y → (r : List ℕ) × (expressionOf A s ≡ found (treeOfText A s) r)
       by (fault n r) e g = let z : _≡_ {A = ℕ} 0 1 = cc in absurd (omega arith)

@@ -12,20 +12,20 @@ use Rattle.lists.specs.OrderLaws.{eq-or-ne, true-or-false}
 use Rattle.regex.specs.Tree.{Tree, join, either}
 use Rattle.regex.specs.Parsing.{Parsing}
 use Rattle.regex.specs.Letters.{copiesOf}
-use Rattle.regex.specs.Sense.{copies-some}
+use Rattle.regex.specs.SenseLaws.{copies-some}
 use Rattle.regex.specs.Parse.{m-alternation, m-branch, m-piece, m-group, ends, parse}
 use Rattle.positions.specs.Opened.{opened, repeated, labels}
-use Rattle.positions.specs.Equations.{letters-joining, letters-alternation}
+use Rattle.positions.specs.EquationsLaws.{letters-joining, letters-alternation}
 use Rattle.text.specs.Places.{place}
 use Rattle.positions_parts.specs.Together.{Chosen, Joined}
 use Rattle.positions_parts.specs.declared.Built.{Built}
 use Rattle.positions_letters.specs.Found.{restOf, treeOf}
 use Rattle.positions_letters.specs.Shows.{Builds}
-use Rattle.positions_build.specs.Copies.{fewer-none, Alike, alike-by, alike-then}
-use Rattle.positions_build.specs.Shown.{builds-alike, builds-alternation, builds-joining, room-first, room-next}
+use Rattle.positions_build.specs.CopiesLaws.{fewer-none, Alike, alike-by, alike-then}
+use Rattle.positions_build.specs.ShownLaws.{builds-alike, builds-alternation, builds-joining, room-first, room-next}
 use Rattle.positions_build.specs.Places.{Room, PartAt, openedAt, endAt, countAt, leftAt}
-use Rattle.positions_build.specs.Made.{Two, alternation-alone, alternation-more, piece-found, branch-last, branch-more}
-use Rattle.positions_build.specs.Pieces.{piece-counted}
+use Rattle.positions_build.specs.MadeLaws.{Two, alternation-alone, alternation-more, piece-found, branch-last, branch-more}
+use Rattle.positions_build.specs.PiecesLaws.{piece-counted}
 
 module _ (A text : List ℕ) where
   -- the number of letters of a part that was parsed

@@ -20,7 +20,7 @@ use Rattle.trellis.specs.CostToGo.{CostToGo}
 use Rattle.trellis.specs.BestWay.{WayFrom, BestFrom}
 use Rattle.trellis.specs.Extended.{extended}
 use Rattle.trellis.specs.ExtendedLaws.{way-labels}
-use Rattle.trellis.specs.Accepted.{collapse-way}
+use Rattle.trellis.specs.AcceptedLaws.{collapse-way}
 
 module _ {k : ℕ} {A : Automaton} (proper : Proper k A) (M : Matrix) (wide : M .width ≡ k + 1) (few : M .count ≤ 255) (pass : CostsPass M) where
   -- A rival is a way from state 0, one label for each column, with a price below TOP.

@@ -15,19 +15,19 @@ use Rattle.regex.specs.Parsing.{Parsing, found, fault, then}
 use Rattle.text.specs.Text.{next, rest}
 use Rattle.text.specs.Places.{place}
 use Rattle.regex.specs.Letters.{copiesOf, letterCount}
-use Rattle.regex.specs.Sense.{few-add}
+use Rattle.regex.specs.SenseLaws.{few-add}
 use Rattle.regex.specs.Few.{few}
 use Rattle.regex.specs.Repetition.{repeats, repetition}
 use Rattle.regex.specs.Parse.{Mode, m-alternation, m-branch, m-piece, m-group, ends, grouped, step, parse}
-use Rattle.regex.specs.Steps.{parse-step}
+use Rattle.regex.specs.StepsLaws.{parse-step}
 use Rattle.regex_set.specs.declared.Part.{Part}
 use Rattle.regex_set.specs.declared.Part.the-variants as part
 use Rattle.text.specs.TextLaws.{place-drop, next-at, rest-at, byte-is}
 use Rattle.regex_set.specs.Answers.{partOf, set-tree}
 use Rattle.regex_repetition.specs.Answers.{repeatsOf}
-use Rattle.regex_count.specs.Sums.{few-times}
+use Rattle.regex_count.specs.SumsLaws.{few-times}
 use Rattle.regex_count.specs.Parts.{add, repeated, closed}
-use Rattle.regex_parse.specs.Parts.{partAt, Found, part-found}
+use Rattle.regex_parse.specs.PartsLaws.{partAt, Found, part-found}
 
 module _ (A text : List ℕ) where
   -- a parsed tree as part of a larger one, whose letters are known from its own

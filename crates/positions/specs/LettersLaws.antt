@@ -11,8 +11,8 @@ use Rattle.lists.specs.Lists.{keep, numbers}
 use Rattle.lists.specs.AscendingLaws.{numbers-among}
 use Rattle.regex.specs.Tree.{Set, Count, between, onward, Tree, set, group, times, join, either, member}
 use Rattle.regex.specs.Letters.{labelsOf, copiesOf, letterCount}
-use Rattle.regex.specs.OwnCounts.{InRange}
-use Rattle.regex.specs.Sense.{Sensible}
+use Rattle.regex.specs.OwnCountsLaws.{InRange}
+use Rattle.regex.specs.SenseLaws.{Sensible}
 use Rattle.positions.specs.Opened.{Opened, plus, labelsIn, anyOf, copies, nested, repeated, opened, labels, letters}
 
 -- the labels of a set are counted, where the first character has label y

@@ -19,7 +19,7 @@ use Rattle.automaton.specs.Automaton.{Automaton, Accepts}
 use Rattle.automaton.specs.Proper.{Proper}
 use Rattle.automaton.specs.AcceptedLaws.{Agree, agree-accepts}
 use Rattle.automaton.specs.Form.{headWord, letterWord, arcWord, byte0, bit8, bit9, source, target, validForm, lettersOf, alphabetOf, labelOf, letterWords, arcWords, followOf, endsOf, leads, view, letterOf, arcsFrom, encode}
-use Rattle.automaton.specs.Words.{Head, Letter, Arc, head-fields, letter-fields, arc-fields}
+use Rattle.automaton.specs.WordsLaws.{Head, Letter, Arc, head-fields, letter-fields, arc-fields}
 use Rattle.automaton.specs.Valid.{Valid}
 use Rattle.automaton.specs.ValidLaws.{Parts, valid-parts, parts-valid, valid-at, view-proper, may-be-first, may-be-last, letter-at, length-letterWords, follow-arc, arc-among, among-follow}
 

@@ -26,7 +26,7 @@ use Rattle.decode_checks.specs.Checks.{matrix-checks}
 use Rattle.decode_checks.specs.PassingLaws.{fits}
 use Rattle.read_spelling.specs.Spelling.{characters}
 use Rattle.sheet_lines.specs.Lines.{reading-lines, refusal-line}
-use Rattle.sheet_lines.specs.Lengths.{reading-short, refusal-short}
+use Rattle.sheet_lines.specs.LengthsLaws.{reading-short, refusal-short}
 use Rattle.sheet_read.specs.Answer.{form-room, lent-rooms, longest, outcome-lines, PrintsOutcome, PrintsChecked, PrintsCompiled, PrintsReading}
 
 price-most : (M : Matrix) (t : ℕ) (p : List ℕ) → PathFrom M t p → priceFrom M t p ≤ 1000000 * length p

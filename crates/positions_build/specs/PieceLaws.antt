@@ -13,8 +13,8 @@ use Rattle.lists.specs.OrderLaws.{lt-or-le}
 use Rattle.regex.specs.Letters.{copiesOf}
 use Rattle.regex.specs.Parse.{m-alternation, m-piece, m-group, parse}
 use Rattle.positions.specs.Opened.{Opened, joining, opened, labels, labelsIn, anyOf}
-use Rattle.positions.specs.Equations.{letters-joining}
-use Rattle.positions.specs.Letters.{any-of-labels}
+use Rattle.positions.specs.EquationsLaws.{letters-joining}
+use Rattle.positions.specs.LettersLaws.{any-of-labels}
 use Rattle.text.specs.Places.{place}
 use Rattle.regex_bracket.specs.Answers.{is-found}
 use Rattle.regex_set.specs.Answers.{SetAt, setAt}
@@ -25,11 +25,11 @@ use Rattle.positions_letters.specs.Copies.{leastOf, isOnward, copiesBy}
 use Rattle.positions_letters.specs.Shows.{Builds}
 use Rattle.positions_letters.specs.Letters.{SetRoom, SetBuilds}
 use Rattle.positions_letters.specs.declared.Copies.{Copies}
-use Rattle.positions_build.specs.Copies.{spared, looped, last-copy, next-copy, copies-few}
-use Rattle.positions_build.specs.Shown.{builds-alike, builds-joining, builds-spared, builds-looped, room-first, room-next}
+use Rattle.positions_build.specs.CopiesLaws.{spared, looped, last-copy, next-copy, copies-few}
+use Rattle.positions_build.specs.ShownLaws.{builds-alike, builds-joining, builds-spared, builds-looped, room-first, room-next}
 use Rattle.positions_build.specs.Places.{Room, PartAt, openedAt, endAt, countAt, leftAt}
-use Rattle.positions_build.specs.Made.{reading}
-use Rattle.positions_build.specs.Pieces.{group-found, piece-counted, group-set, Enclosed, group-enclosed}
+use Rattle.positions_build.specs.MadeLaws.{parsed-part}
+use Rattle.positions_build.specs.PiecesLaws.{group-found, piece-counted, group-set, Enclosed, group-enclosed}
 
 spared-letters : (b : Bool) (r : Opened) → length (labels (spared b r)) ≡ length (labels r)
 unfolding spared labels
@@ -75,7 +75,7 @@ module _ (A text : List ℕ) where
       module _ {g : List (List Bool)} {mid : List ℕ} {a : Built} (u : Builds n (openedAt A text m-group d at) (endAt A text m-group d at) f g old mid a) where
         pub count-found : (a .end ≤ length text) × (is-found (counted (drop (a .end) text)) ≡ true)
         count-found =
-            let w = reading A text m-group d at (group-found A text d at p) .within in
+            let w = parsed-part A text m-group d at (group-found A text d at p) .within in
             let e = u .ends in
             (omega arith, rw e (piece-counted A text d at p .counts))
 

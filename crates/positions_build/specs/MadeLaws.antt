@@ -13,11 +13,11 @@ use Rattle.regex.specs.Parsing.{Parsing, found, fault, then}
 use Rattle.text.specs.Text.{next, rest}
 use Rattle.text.specs.Places.{place}
 use Rattle.regex.specs.Parse.{Mode, m-alternation, m-branch, m-piece, ends, step, parse}
-use Rattle.regex.specs.Says.{of-found}
-use Rattle.regex.specs.Sense.{Sensible, sensible}
-use Rattle.regex.specs.Front.{Front, Stop}
+use Rattle.regex.specs.SaysLaws.{of-found}
+use Rattle.regex.specs.SenseLaws.{Sensible, sensible}
+use Rattle.regex.specs.FrontLaws.{Front, Stop}
 use Rattle.regex.specs.Sound.{parse-sound}
-use Rattle.regex.specs.Steps.{parse-step, parse-forward}
+use Rattle.regex.specs.StepsLaws.{parse-step, parse-forward}
 use Rattle.text.specs.TextLaws.{behind, next-at, rest-at}
 use Rattle.regex_bracket.specs.Answers.{is-found}
 use Rattle.positions_letters.specs.Found.{restOf, treeOf}
@@ -40,17 +40,17 @@ two g a b x e h = subst (Two g a b) (sym e) (by b (ap is-found (sym e) ∙ h))
 
 module _ (A text : List ℕ) where
   -- a part was found from a place on: where it ends, and that its tree makes sense
-  pub record Reading (at : ℕ) (x : Parsing Tree) : Type 0 where
+  pub record ParsedPart (at : ℕ) (x : Parsing Tree) : Type 0 where
     pub is : x ≡ found (treeOf x) (drop (place text (restOf x)) text)
     pub rests : restOf x ≡ drop (place text (restOf x)) text
     pub ahead : at < place text (restOf x)
     pub within : place text (restOf x) ≤ length text
     pub sense : Sensible A (treeOf x)
 
-  pub reading : (m : Mode) (d at : ℕ) → PartAt A text m d at → Reading at (parse A m d (drop at text))
-  reading m d at h = by (parse A m d (drop at text)) refl h
+  pub parsed-part : (m : Mode) (d at : ℕ) → PartAt A text m d at → ParsedPart at (parse A m d (drop at text))
+  parsed-part m d at h = by (parse A m d (drop at text)) refl h
     where
-      by : (x : Parsing Tree) → parse A m d (drop at text) ≡ x → is-found x ≡ true → Reading at x
+      by : (x : Parsing Tree) → parse A m d (drop at text) ≡ x → is-found x ≡ true → ParsedPart at x
       by (found t r) k h =
           let s = drop at text in
           let f : Front A m d s t r = of-found (Front A m d s) (Stop A m d s) (parse A m d s) t r (parse-sound A m d s) k in
@@ -74,10 +74,10 @@ module _ (A text : List ℕ) where
     pub goes-on : (e : ℕ) → e ≡ endAt A text m d at → x ≡ f (treeAt A text m d at) (drop e text)
     goes-on e q =
         s ∙ then-is f (set (only [])) (parse A m d (drop at text)) first-found
-        ∙ ap (f (treeAt A text m d at)) (reading m d at first-found .rests ∙ ap (λ i. drop i text) (sym q))
+        ∙ ap (f (treeAt A text m d at)) (parsed-part m d at first-found .rests ∙ ap (λ i. drop i text) (sym q))
 
     ends-there : (e : ℕ) → e ≡ endAt A text m d at → x ≡ found (treeAt A text m d at) (drop e text) → x ≡ parse A m d (drop at text)
-    ends-there e q k = k ∙ ap (λ i. found (treeAt A text m d at) (drop i text)) q ∙ sym (reading m d at first-found .is)
+    ends-there e q k = k ∙ ap (λ i. found (treeAt A text m d at) (drop i text)) q ∙ sym (parsed-part m d at first-found .is)
 
   module _ (d at : ℕ) where
     -- branches with `|` between them

@@ -18,7 +18,7 @@ use Rattle.matrix.specs.Matrix.{Matrix}
 use Rattle.trellis.specs.Impossible.{TOP}
 use Rattle.trellis.specs.CostToGo.{CostToGo}
 use Rattle.trellis.specs.Extended.{extended}
-use Rattle.trellis.specs.Outcome.{outcome-none, outcome-price, outcome-best}
+use Rattle.trellis.specs.OutcomeLaws.{outcome-none, outcome-price, outcome-best}
 use Rattle.trellis_table.specs.Fill.{Sized, Filled, states}
 use Rattle.trellis_trace.specs.Traced.{Ready, Traced}
 use Rattle.trellis_trace.specs.Loops.{traced-front}

@@ -9,10 +9,10 @@ use Rattle.regex.specs.Parsing.{Parsing, found, fault}
 use Rattle.regex.specs.Letters.{letterCount}
 use Rattle.regex.specs.Few.{few}
 use Rattle.regex.specs.Parse.{Mode, parse}
-use Rattle.regex.specs.Says.{of-found}
-use Rattle.regex.specs.Front.{Front, Stop}
+use Rattle.regex.specs.SaysLaws.{of-found}
+use Rattle.regex.specs.FrontLaws.{Front, Stop}
 use Rattle.regex.specs.Sound.{parse-sound}
-use Rattle.regex.specs.Steps.{parse-forward}
+use Rattle.regex.specs.StepsLaws.{parse-forward}
 use Rattle.regex_set.specs.declared.Part.{Part}
 use Rattle.regex_set.specs.declared.Part.the-variants as part
 use Rattle.text.specs.TextLaws.{behind}

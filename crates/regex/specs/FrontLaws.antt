@@ -22,9 +22,9 @@ use Rattle.regex.specs.Sets.{a-set, labelled-set}
 use Rattle.regex.specs.Repetition.{repeats, repetition}
 use Rattle.regex.specs.Parse.{Mode, m-alternation, m-branch, m-piece, m-group, ends, rank}
 use Rattle.regex.specs.Grammar.{loose, TextOf}
-use Rattle.regex.specs.Own.{next-is, Here}
-use Rattle.regex.specs.OwnSets.{ASet}
-use Rattle.regex.specs.OwnCounts.{Repeating}
+use Rattle.regex.specs.OwnLaws.{next-is, Here}
+use Rattle.regex.specs.OwnSetsLaws.{ASet}
+use Rattle.regex.specs.OwnCountsLaws.{Repeating}
 
 -- the text begins neither with the end of a branch nor with a repetition
 abbrev pub Starts : List ℕ → Type 0

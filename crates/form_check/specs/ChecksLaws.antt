@@ -15,7 +15,7 @@ use Rattle.lists.specs.OrderLaws.{eq-or-ne}
 use Rattle.lists.specs.EachLaws.{drop-here, drop-all}
 use Rattle.lists.specs.Each.{all}
 use Rattle.automaton.specs.Form.{bit, bit8, bit9, byte0, byte2, headWord, letterWord, isHead, isLetter, isArc, before, ordered, validForm, lettersOf, alphabetOf, letterWords, arcWords}
-use Rattle.automaton.specs.Words.{Arc, arc-true, before-less}
+use Rattle.automaton.specs.WordsLaws.{Arc, arc-true, before-less}
 
 -- the test of a bit, as a number, is the bit
 parity : (n : ℕ) → bit (eqb (n % 2) 1) ≡ n % 2

@@ -10,7 +10,7 @@ use Rattle.refusal.specs.declared.Refusal.the-variants as refusal
 use Rattle.refusal.specs.Number.{numberOf}
 use Rattle.matrix.specs.Matrix.{matrix}
 use Rattle.sheet_format.specs.Sheet.{Sheet, sheetOf, matrixOf}
-use Rattle.sheet_format.specs.Parts.{sheet-within, sheet-alphabet, sheet-text, sheet-costs, sheet-area}
+use Rattle.sheet_format.specs.PartsLaws.{sheet-within, sheet-alphabet, sheet-text, sheet-costs, sheet-area}
 use Rattle.sheet_scan.specs.Answers.{answerOf, Scans}
 use Rattle.sheet_scan.specs.AnswersLaws.{answered}
 use Rattle.sheet_scan.specs.declared.Scanned.the-variants as scanned

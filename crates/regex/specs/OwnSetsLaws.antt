@@ -15,8 +15,8 @@ use Rattle.regex.specs.Parsing.{found, fault, then, enclosed}
 use Rattle.text.specs.Text.{in-front, split}
 use Rattle.lists.specs.Cases.{first-of}
 use Rattle.regex.specs.Sets.{closed, members, inside, bracket, special, escaped, a-set, labelled-set}
-use Rattle.regex.specs.Says.{Says, branch-says, first-says, then-says, says-map}
-use Rattle.regex.specs.Own.{Here, own-one, own-more, own-map, own-same, Ends, ends-more, split-ends, enclosed-own, OwnAs, Alone}
+use Rattle.regex.specs.SaysLaws.{Says, branch-says, first-says, then-says, says-map}
+use Rattle.regex.specs.OwnLaws.{Here, own-one, own-more, own-map, own-same, Ends, ends-more, split-ends, enclosed-own, OwnAs, Alone}
 
 closed-ends : (s : List ℕ) → Ends closed s (closed s)
 unfolding closed split

@@ -17,18 +17,18 @@ use Rattle.regex.specs.Letters.{labelsOf}
 use Rattle.regex.specs.Sets.{a-set, labelled-set}
 use Rattle.regex.specs.Repetition.{repeats, repetition}
 use Rattle.regex.specs.Parse.{m-alternation, m-piece, m-group, grouped, step, parse}
-use Rattle.regex.specs.Says.{Says}
-use Rattle.regex.specs.Own.{Here}
-use Rattle.regex.specs.OwnCounts.{InRange, Repeating, repetition-says}
-use Rattle.regex.specs.Steps.{parse-step}
+use Rattle.regex.specs.SaysLaws.{Says}
+use Rattle.regex.specs.OwnLaws.{Here}
+use Rattle.regex.specs.OwnCountsLaws.{InRange, Repeating, repetition-says}
+use Rattle.regex.specs.StepsLaws.{parse-step}
 use Rattle.positions.specs.Opened.{opened, repeated}
 use Rattle.text.specs.TextLaws.{place-drop, behind, next-at, rest-at, byte-is}
 use Rattle.regex_bracket.specs.Answers.{is-found, setOf}
 use Rattle.positions_letters.specs.Found.{restOf, treeOf, countOf, counted}
 use Rattle.positions_letters.specs.FoundLaws.{counted-repeated, counted-plain, not-found}
-use Rattle.positions_build.specs.Copies.{Alike, alike-by, one-copy}
+use Rattle.positions_build.specs.CopiesLaws.{Alike, alike-by, one-copy}
 use Rattle.positions_build.specs.Places.{PartAt, treeAt, endAt}
-use Rattle.positions_build.specs.Made.{first-found, goes-on}
+use Rattle.positions_build.specs.MadeLaws.{first-found, goes-on}
 
 module _ (A text : List ℕ) where
   -- a group, repeated or not

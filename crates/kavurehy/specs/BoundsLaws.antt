@@ -33,7 +33,7 @@ use Rattle.ctc_spread.specs.Loops.{few-pairs-in}
 use Rattle.automaton.specs.Automaton.{Accepts}
 use Rattle.automaton.specs.Form.{validForm, view, lettersOf, alphabetOf, arcWord, letterOf, arcsFrom, encode}
 use Rattle.automaton.specs.ValidLaws.{valid-parts}
-use Rattle.automaton.specs.Encode.{encode-view}
+use Rattle.automaton.specs.EncodeLaws.{encode-view}
 use Rattle.matrix.specs.Matrix.{Matrix}
 use Rattle.outcome.specs.Outcome.{Outcome}
 use Rattle.regex.specs.Grammar.{WordsOf}
