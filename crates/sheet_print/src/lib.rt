@@ -14,7 +14,8 @@ pub fn print_answer(
     word: &[u8],
     out: &mut [u8],
 ) -> usize
-    requires { ⌜ Shown answer count (now path) (now word) × (length (answer-lines answer count (now path) (now word)) ≤ length (now out)) ⌝ }
+    requires { ⌜ Shown answer count (now path) (now word)
+        × (length (answer-lines answer count (now path) (now word)) ≤ length (now out)) ⌝ }
     ensures { λ r. ⌜ Wrote (answer-lines answer count (old path) (old word)) (old out) (new out) r ⌝ }
 {
     match answer {

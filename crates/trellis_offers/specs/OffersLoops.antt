@@ -65,7 +65,7 @@ module _ {f cs : List ℕ} {i b e : ℕ} (arcs : Arcs f cs i b e) where
       record { low = omega arith; high = ascend; along-all = least-start b (Along f cs 0); along-other = least-start b (Along f cs own) }
 
   module _ {own all other k : ℕ} (sofar : Sofar f cs own b e all other k) where
-    module _ (turn : k < e) where
+    module _ (inside : k < e) where
       pub arc-inside : k < length f
       arc-inside = let h = arcs .next .inside in omega arith
 

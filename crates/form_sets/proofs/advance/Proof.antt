@@ -71,12 +71,12 @@ loop-again c =
     let a = c .before .before .before .before .before .before .args in
     let l = c .before .before .loop in
     let f = now (a .form) in
-    let turn : Marks (Left f (a .x) (a .t3) (l .i)) (l .next) (c .if1 .next) =
+    let marks : Marks (Left f (a .x) (a .t3) (l .i)) (l .next) (c .if1 .next) =
     ⊎-elim
     (λ w. subst (Marks (Left f (a .x) (a .t3) (l .i)) (l .next)) (sym (w .5)) (left-behind f (a .x) (a .t3) (l .next) (w .4 .last .1 .1 .1 .1 .1 .0) (l .i) (w .0 .taken) (w .4 .ensures)))
     (λ w. subst (Marks (Left f (a .x) (a .t3) (l .i)) (l .next)) (sym (w .1)) (left-out f (a .x) (a .t3) (l .next) (l .i) (w .0 .left)))
     (c .if1 .came) in
-    (l .inv .0, omega arith, iterations-more (Left f (a .x) (a .t3)) 0 (l .i) (replicate 128 false) (l .next) (c .if1 .next) (omega arith) (l .inv .2) turn)
+    (l .inv .0, omega arith, iterations-more (Left f (a .x) (a .t3)) 0 (l .i) (replicate 128 false) (l .next) (c .if1 .next) (omega arith) (l .inv .2) marks)
 
 returns : tie.Need-returns Inv-loop μ-loop
 returns c =

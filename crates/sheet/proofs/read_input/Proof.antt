@@ -52,9 +52,9 @@ came-here :
     (toZ w64 (ofZ w64 (c .before .before .before .before .read .result)))
 came-here c =
     let call = c .before .before .before .before in
-    let turn = call .before .before .before .loop in
+    let here = call .before .before .before .loop in
     let fits = sfits-of (call .read .ok) in
-    came (turn .buffer) (turn .done) (turn .inv .1) (call .read .result) fits (call .read .ensures) (c .before .if1 .left) (c .if2 .left)
+    came (here .buffer) (here .done) (here .inv .1) (call .read .result) fits (call .read .ensures) (c .before .if1 .left) (c .if2 .left)
 
 cast-done : tie.Need-cast-done Inv-loop μ-loop
 cast-done c = let h = came-here c in (h .sign, omega arith)
