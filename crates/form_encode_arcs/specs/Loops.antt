@@ -35,15 +35,15 @@ module _ (l : ℕ) (follow : List (List Bool)) where
   unfolding arcsBy
   arcs-first = ap (flatMap (letterArcsAt l follow)) (sym (from-first l))
 
-  pub count-letter-here :
+  pub count-letter-arcs-here :
       (i : ℕ) → i ≤ l
       → length (flatMap (letterArcsAt l follow) (from l i))
       ≡ length (keep (has (getD follow (i - 1) [])) (numbers 1 l)) + length (flatMap (letterArcsAt l follow) (from l (i + 1)))
   unfolding letterArcs
-  count-letter-here i h =
+  count-letter-arcs-here i h =
       ap length (flat-here l (letterArcsAt l follow) i h)
       ∙ length-append (letterArcsAt l follow i) (flatMap (letterArcsAt l follow) (from l (i + 1)))
       ∙ ap (λ n. n + length (flatMap (letterArcsAt l follow) (from l (i + 1)))) (length-map (keep (has (getD follow (i - 1) [])) (numbers 1 l)) (arcWord i))
 
-  pub count-letter-past : (i : ℕ) → l < i → length (flatMap (letterArcsAt l follow) (from l i)) ≡ 0
-  count-letter-past i h = ap length (flat-past l (letterArcsAt l follow) i h)
+  pub count-letter-arcs-past : (i : ℕ) → l < i → length (flatMap (letterArcsAt l follow) (from l i)) ≡ 0
+  count-letter-arcs-past i h = ap length (flat-past l (letterArcsAt l follow) i h)

@@ -22,7 +22,7 @@ fn arc_word(source: usize, target: usize) -> u32
 }
 
 // How many of the letters are in the set `targets`.
-fn count_letter(letters: usize, targets: &[bool]) -> usize
+fn count_letter_arcs(letters: usize, targets: &[bool]) -> usize
     requires { ⌜ (letters ≤ 127) × (letters ≤ length (now targets)) ⌝ }
     ensures { λ r. ⌜ (r ≡ length (keep (has (old targets)) (numbers 1 letters))) × (r ≤ 127) ⌝ }
 {
@@ -43,7 +43,7 @@ pub fn count_arcs(letters: usize, follow: &[[bool; 127]]) -> usize
     let mut n: usize = 0;
     let mut i: usize = 1;
     while i <= letters {
-        n += count_letter(letters, &follow[i - 1]);
+        n += count_letter_arcs(letters, &follow[i - 1]);
         i += 1;
     }
     n
@@ -62,7 +62,7 @@ fn put_arc(form: &mut [u32], n: usize, source: usize, target: usize, there: bool
 }
 
 // Writes the arcs of one letter from place n on and returns the next place.
-fn write_letter(
+fn write_letter_arcs(
     letters: usize,
     targets: &[bool],
     source: usize,
@@ -90,7 +90,7 @@ pub fn write_arcs(letters: usize, follow: &[[bool; 127]], form: &mut [u32], n: u
     let mut m = n;
     let mut source: usize = 1;
     while source <= letters {
-        m = write_letter(letters, &follow[source - 1], source, form, m);
+        m = write_letter_arcs(letters, &follow[source - 1], source, form, m);
         source += 1;
     }
     m

@@ -25,6 +25,7 @@ use Rattle.regex.specs.Grammar.{loose, TextOf}
 use Rattle.regex.specs.OwnLaws.{next-is, Here}
 use Rattle.regex.specs.OwnSetsLaws.{ASet}
 use Rattle.regex.specs.OwnCountsLaws.{Repeating}
+use Rattle.regex.specs.Places.{Begins}
 
 -- the text begins neither with the end of a branch nor with a repetition
 abbrev pub Starts : List ℕ → Type 0
@@ -87,10 +88,6 @@ pub record Front (A : List ℕ) (m : Mode) (d : ℕ) (s : List ℕ) (t : Tree) (
   pub splits : s ≡ front ++ r
   pub text : TextOf A d t front
   pub close : loose t ≤ rank m
-
--- the text u can be continued to a text of a tree
-abbrev pub Begins : List ℕ → Mode → ℕ → List ℕ → Type 0
-Begins A m d u = (v : List ℕ) × (t : Tree) × TextOf A d t (u ++ v) × (loose t ≤ rank m)
 
 -- not every text can be: none that begins with `)`
 stray : (A : List ℕ) (d : ℕ) (s : List ℕ) → Begins A m-alternation d (code ")" ∷ s) → ⊥

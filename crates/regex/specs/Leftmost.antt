@@ -1,7 +1,7 @@
 -- A refusal is at the leftmost fault (document 01, "What is turned away": "among 4 to 8 the one leftmost in the text").
 -- For the reader: nothing uses it.
 use mathlib.Core.Path.{_≡_, refl}
-use mathlib.Core.List.{List, [], _∷_, _++_}
+use mathlib.Core.List.{List, [], _∷_}
 use Prim.Native.Nat.{ℕ, _≤_}
 use native.Mathlib.Omega.{arith}
 use lib.ListN.{length}
@@ -9,22 +9,12 @@ use Rattle.refusal.specs.declared.Refusal.{Refusal}
 use Rattle.regex.specs.Tree.{Tree}
 use Rattle.regex.specs.Parsing.{fault}
 use Rattle.regex.specs.Parse.{m-alternation, parse, whole, expressionOf}
-use Rattle.regex.specs.Grammar.{TextOf}
 use Rattle.regex.specs.SaysLaws.{Says, of-fault, then-says}
-use Rattle.regex.specs.FrontLaws.{Front, Stop, Begins, stop-behind}
+use Rattle.regex.specs.FrontLaws.{Front, Stop, stop-behind}
 use Rattle.regex.specs.Sound.{parse-sound}
 use Rattle.regex.specs.Exact.{exact}
-use Rattle.regex.specs.Places.{Place}
 use Rattle.regex.specs.PlacesLaws.{refused-at}
-
--- One of refusals 4 to 8 at the leftmost fault: the text from the fault on begins as the refusal says, the text is no expression, and the
--- text before the fault begins one, so that no fault is further left.
-pub record Leftmost (A s : List ℕ) (n : Refusal) (r : List ℕ) : Type 0 where
-  pub place : Place A n r
-  pub none : (t : Tree) → TextOf A 16 t s → ⊥
-  pub front : List ℕ
-  pub splits : s ≡ front ++ r
-  pub begins : Begins A m-alternation 16 front
+use Rattle.regex.specs.Places.{Leftmost}
 
 pub leftmost : (A : List ℕ) → 1 ≤ length A → (s : List ℕ) (n : Refusal) (r : List ℕ) → expressionOf A s ≡ fault n r → Leftmost A s n r
 unfolding expressionOf whole

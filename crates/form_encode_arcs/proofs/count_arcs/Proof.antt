@@ -7,7 +7,7 @@ use lib.ListN.{length}
 use denote.Ref.{now}
 use Rattle.form_encode_arcs.specs.Arcs.{letterArcsAt, arcsBy}
 use Rattle.lists.specs.RemainingLoops.{from}
-use Rattle.form_encode_arcs.specs.Loops.{arcs-first, count-letter-here, count-letter-past}
+use Rattle.form_encode_arcs.specs.Loops.{arcs-first, count-letter-arcs-here, count-letter-arcs-past}
 use Rattle.form_encode_arcs.proofs.count_arcs.Statement.{statement}
 use Rattle.form_encode_arcs.proofs.count_arcs.Tie as tie
 
@@ -24,17 +24,17 @@ loop-holds c =
     let e = ap length (arcs-first (s .letters) (now (s .follow))) in
     (omega arith, omega arith, omega arith, omega arith)
 
-sub-count-letter : tie.Need-sub-count-letter Inv-loop μ-loop
-sub-count-letter c = omega arith
+sub-count-letter-arcs : tie.Need-sub-count-letter-arcs Inv-loop μ-loop
+sub-count-letter-arcs c = omega arith
 
-mul-count-letter : tie.Need-mul-count-letter Inv-loop μ-loop
-mul-count-letter c = omega arith
+mul-count-letter-arcs : tie.Need-mul-count-letter-arcs Inv-loop μ-loop
+mul-count-letter-arcs c = omega arith
 
-shared-slice-element-count-letter : tie.Need-shared-slice-element-count-letter Inv-loop μ-loop
-shared-slice-element-count-letter c = omega arith
+shared-slice-element-count-letter-arcs : tie.Need-shared-slice-element-count-letter-arcs Inv-loop μ-loop
+shared-slice-element-count-letter-arcs c = omega arith
 
-count-letter-requires : tie.Need-count-letter-requires Inv-loop μ-loop
-count-letter-requires c κs = omega arith
+count-letter-arcs-requires : tie.Need-count-letter-arcs-requires Inv-loop μ-loop
+count-letter-arcs-requires c κs = omega arith
 
 add-n : tie.Need-add-n Inv-loop μ-loop
 add-n c = omega arith
@@ -49,14 +49,14 @@ loop-again : tie.Need-loop-again Inv-loop μ-loop
 loop-again c =
     let s = c .before .before .before .before .before .args in
     let l = c .before .before .before .before .loop in
-    let t = count-letter-here (s .letters) (now (s .follow)) (l .i) (omega arith) in
+    let t = count-letter-arcs-here (s .letters) (now (s .follow)) (l .i) (omega arith) in
     (omega arith, omega arith, omega arith, omega arith)
 
 returns : tie.Need-returns Inv-loop μ-loop
 returns c =
     let s = c .before .before .args in
     let l = c .before .loop in
-    let z = count-letter-past (s .letters) (now (s .follow)) (l .i) (omega arith) in
+    let z = count-letter-arcs-past (s .letters) (now (s .follow)) (l .i) (omega arith) in
     (omega arith, omega arith)
 
 pub count-arcs-spec : {M : Type 1} → statement M
@@ -66,10 +66,10 @@ count-arcs-spec =
     Inv-loop
     μ-loop
     loop-holds
-    sub-count-letter
-    mul-count-letter
-    shared-slice-element-count-letter
-    count-letter-requires
+    sub-count-letter-arcs
+    mul-count-letter-arcs
+    shared-slice-element-count-letter-arcs
+    count-letter-arcs-requires
     add-n
     add-i
     loop-less

@@ -29,17 +29,17 @@ loop-holds c =
       subst (λ t. Filling (take (s .n) f ++ whole) f f t (s .n)) (arcs-first (s .letters) (now (s .follow))) (filling-from whole f (s .n) (c .before .pre .2)),
     )
 
-sub-write-letter : tie.Need-sub-write-letter Inv-loop μ-loop
-sub-write-letter c = omega arith
+sub-write-letter-arcs : tie.Need-sub-write-letter-arcs Inv-loop μ-loop
+sub-write-letter-arcs c = omega arith
 
-mul-write-letter : tie.Need-mul-write-letter Inv-loop μ-loop
-mul-write-letter c = omega arith
+mul-write-letter-arcs : tie.Need-mul-write-letter-arcs Inv-loop μ-loop
+mul-write-letter-arcs c = omega arith
 
-shared-slice-element-write-letter : tie.Need-shared-slice-element-write-letter Inv-loop μ-loop
-shared-slice-element-write-letter c = omega arith
+shared-slice-element-write-letter-arcs : tie.Need-shared-slice-element-write-letter-arcs Inv-loop μ-loop
+shared-slice-element-write-letter-arcs c = omega arith
 
-write-letter-requires : tie.Need-write-letter-requires Inv-loop μ-loop
-write-letter-requires c κs =
+write-letter-arcs-requires : tie.Need-write-letter-arcs-requires Inv-loop μ-loop
+write-letter-arcs-requires c κs =
     let s = c .before .before .before .before .before .before .args in
     let l = c .before .before .before .before .loop in
     let arcs = letterArcsAt (s .letters) (now (s .follow)) in (
@@ -61,7 +61,7 @@ loop-again c =
     let s = c .before .before .before .before .before .before .before .before .before .args in
     let l = c .before .before .before .before .before .before .before .loop in
     let arcs = letterArcsAt (s .letters) (now (s .follow)) in
-    let wrote = c .before .before .write-letter in (
+    let wrote = c .before .before .write-letter-arcs in (
       omega arith,
       omega arith,
       filling-stored (take (s .n) (now (s .form)) ++ arcsBy (s .letters) (now (s .follow))) (now (s .form)) (arcs (l .source)) (l .form) (wrote .last .1 .1 .1 .0)
@@ -89,10 +89,10 @@ write-arcs-spec =
     Inv-loop
     μ-loop
     loop-holds
-    sub-write-letter
-    mul-write-letter
-    shared-slice-element-write-letter
-    write-letter-requires
+    sub-write-letter-arcs
+    mul-write-letter-arcs
+    shared-slice-element-write-letter-arcs
+    write-letter-arcs-requires
     add-source
     loop-less
     loop-again

@@ -1,4 +1,4 @@
--- `form_encode_arcs::count_letter` meets its contract: the letters counted and those still to come make the whole.
+-- `form_encode_arcs::count_letter_arcs` meets its contract: the letters counted and those still to come make the whole.
 use Prim.Native.Nat.{_+_, _-_, _<_, _≤_}
 use mathlib.Core.Path.{_≡_, ap}
 use native.Mathlib.Omega.{arith}
@@ -9,8 +9,8 @@ use Rattle.lists.specs.Lists.{keep, numbers}
 use Rattle.automaton.specs.Arrays.{has}
 use Rattle.lists.specs.RemainingLoops.{from, from-first}
 use Rattle.form_encode_arcs.specs.Loops.{count-here, count-past}
-use Rattle.form_encode_arcs.proofs.count_letter.Statement.{statement}
-use Rattle.form_encode_arcs.proofs.count_letter.Tie as tie
+use Rattle.form_encode_arcs.proofs.count_letter_arcs.Statement.{statement}
+use Rattle.form_encode_arcs.proofs.count_letter_arcs.Tie as tie
 
 abbrev Inv-loop : tie.InvT-loop
 Inv-loop letters targets n₀ j₀ n j =
@@ -57,8 +57,8 @@ returns c =
     let z = count-past (s .letters) (now (s .targets)) (l .j) (omega arith) in
     (omega arith, omega arith)
 
-pub count-letter-spec : {M : Type 1} → statement M
-count-letter-spec =
+pub count-letter-arcs-spec : {M : Type 1} → statement M
+count-letter-arcs-spec =
     tie.close
     (tie.spec
     Inv-loop

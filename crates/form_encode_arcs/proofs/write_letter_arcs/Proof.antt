@@ -1,4 +1,4 @@
--- `form_encode_arcs::write_letter` meets its contract: what is before n, what is written and the arcs still to come make the whole.
+-- `form_encode_arcs::write_letter_arcs` meets its contract: what is before n, what is written and the arcs still to come make the whole.
 use Prim.Native.Nat.{_+_, _-_, _≤_}
 use mathlib.Core.Path.{subst}
 use mathlib.Core.List.{[], _++_, map}
@@ -12,8 +12,8 @@ use Rattle.form_encode_arcs.specs.Arcs.{letterArcs}
 use Rattle.automaton.specs.Arrays.{has}
 use Rattle.lists.specs.RemainingLoops.{from}
 use Rattle.form_encode_arcs.specs.Loops.{letter-first, letter-here, letter-past}
-use Rattle.form_encode_arcs.proofs.write_letter.Statement.{statement}
-use Rattle.form_encode_arcs.proofs.write_letter.Tie as tie
+use Rattle.form_encode_arcs.proofs.write_letter_arcs.Statement.{statement}
+use Rattle.form_encode_arcs.proofs.write_letter_arcs.Tie as tie
 
 abbrev Inv-loop : tie.InvT-loop
 Inv-loop letters targets source form₀ n m₀ target₀ form m target =
@@ -89,8 +89,8 @@ returns c =
     filling-stored-all (letterArcs (s .letters) r (s .source)) f (s .n) (c .before .before .before .before .pre .3) (l .form) (l .m)
     (rw (letter-past (s .letters) r (s .source) (l .target) (omega arith)) at (l .inv .2))
 
-pub write-letter-spec : {M : Type 1} → statement M
-write-letter-spec =
+pub write-letter-arcs-spec : {M : Type 1} → statement M
+write-letter-arcs-spec =
     tie.close
     (tie.spec
     Inv-loop
