@@ -1,4 +1,5 @@
 -- What is printed for document 01's sheet after it was read to its end, and after a read that failed.
+-- For the reader: nothing uses it.
 use mathlib.Core.Path.{_≡_}
 use mathlib.Core.List.{List, []}
 use Prim.Native.Nat.{ℕ}
