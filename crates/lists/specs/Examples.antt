@@ -1,11 +1,13 @@
--- The words on lists that promises use, on small lists.
+-- The words on lists, memory and cases that promises use, on small lists.
 use Prim.Native.Nat.{ℕ}
 use mathlib.Core.Path.{_≡_, refl}
 use mathlib.Core.Bool.{true, false}
 use mathlib.Core.List.{[], _∷_, map}
+use mathlib.Core.Option.{Option, some as just, none}
 use Rattle.lists.specs.Lists.{in-range, any, keep, numbers}
 use Rattle.lists.specs.Each.{all}
 use Rattle.lists.specs.Memory.{written}
+use Rattle.lists.specs.Cases.{Case, when, first-of, provided}
 
 record Examples : Type 0 where
   -- two elements written into memory of three
@@ -16,7 +18,23 @@ record Examples : Type 0 where
   kept : keep {A = ℕ} (in-range 1 3) (0 ∷ 3 ∷ 4 ∷ 1 ∷ []) ≡ 3 ∷ 1 ∷ []
   some : map (any (in-range 1 3)) ([] ∷ (0 ∷ 4 ∷ []) ∷ (0 ∷ 1 ∷ []) ∷ []) ≡ false ∷ false ∷ true ∷ []
   every : map (all (in-range 1 3)) ([] ∷ (1 ∷ 4 ∷ []) ∷ (1 ∷ 3 ∷ []) ∷ []) ≡ true ∷ false ∷ true ∷ []
+  -- the first case that holds, and what is given where none does
+  first-case : first-of {R = ℕ} (when false 1 ∷ when true 2 ∷ when true 3 ∷ []) 4 ≡ 2
+  no-case : first-of {R = ℕ} (when false 1 ∷ []) 4 ≡ 4
+  held : provided {X = ℕ} true (just 1) ≡ just 1
+  not-held : provided {X = ℕ} false (just 1) ≡ none
 
 examples : Examples
-unfolding written numbers all any keep
-examples = record { memory = refl; from-on = refl; ends = refl; kept = refl; some = refl; every = refl }
+unfolding written numbers all any keep first-of provided
+examples = record {
+  memory = refl;
+  from-on = refl;
+  ends = refl;
+  kept = refl;
+  some = refl;
+  every = refl;
+  first-case = refl;
+  no-case = refl;
+  held = refl;
+  not-held = refl;
+}

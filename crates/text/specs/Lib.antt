@@ -4,3 +4,4 @@ pub mod Places
 pub mod Digits
 pub mod TextLaws
 pub mod DigitsLaws
+pub mod Examples
