@@ -30,16 +30,16 @@ unfoldable pub spread-after : ℕ → List ℕ → List ℕ
 spread-after a [] = []
 spread-after a (x ∷ w) = parted (eqb a x) (x ∷ spread-after x w)
 
-spread-behind : (x : ℕ) (w : List ℕ) → spread (x ∷ w) ≡ x ∷ spread-after x w
+spread-beyond : (x : ℕ) (w : List ℕ) → spread (x ∷ w) ≡ x ∷ spread-after x w
 unfolding spread spread-after
-spread-behind x [] = refl
-spread-behind x (y ∷ w) = ap (λ p. x ∷ parted (eqb x y) p) (spread-behind y w)
+spread-beyond x [] = refl
+spread-beyond x (y ∷ w) = ap (λ p. x ∷ parted (eqb x y) p) (spread-beyond y w)
 
 -- the spread of a word without blanks is what the word adds after a blank
 pub spread-from : (w : List ℕ) → Each (λ x. 0 < x) w → spread w ≡ spread-after 0 w
 unfolding spread spread-after
 spread-from [] h = refl
-spread-from (x ∷ w) h = let z : 0 < x = h .0 in spread-behind x w ∙ sym (ap (λ t. parted t (x ∷ spread-after x w)) (ne-eqb 0 x (λ e. omega arith)))
+spread-from (x ∷ w) h = let z : 0 < x = h .0 in spread-beyond x w ∙ sym (ap (λ t. parted t (x ∷ spread-after x w)) (ne-eqb 0 x (λ e. omega arith)))
 
 -- Collapse undoes spread.
 

@@ -41,7 +41,7 @@ module _ {f : List ℕ} (valid : Valid f) {M : Matrix} (before : Lent) (fits : F
           answered = refl;
           path = sym (written-none (before .path));
           word = sym (written-none (before .word));
-          work = filled .behind;
+          work = filled .beyond;
           size = l;
         }
 
@@ -84,6 +84,6 @@ module _ {f : List ℕ} (valid : Valid f) {M : Matrix} (before : Lent) (fits : F
                   (wrote .count ∙ ap length same);
               path = traced .memory;
               word = wrote .memory ∙ ap (λ w. written w (before .word)) same;
-              work = filled .behind;
+              work = filled .beyond;
               size = l;
             }

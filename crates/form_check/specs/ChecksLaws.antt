@@ -32,9 +32,9 @@ pub letter-sum : (w : ℕ) → letterWord (byte0 w) (bit8 w) (bit9 w) ≡ 0x2000
 letter-sum w = omega (arith, parity (w / 0x100), parity (w / 0x200))
 
 -- arcs, each above the one before
-unfoldable pub behind : ℕ → ℕ → List ℕ → Bool
-behind l last [] = true
-behind l last (w ∷ ws) = isArc l w && ltb last w && behind l w ws
+unfoldable pub beyond : ℕ → ℕ → List ℕ → Bool
+beyond l last [] = true
+beyond l last (w ∷ ws) = isArc l w && ltb last w && beyond l w ws
 
 -- one pass that makes two tests gives what two passes of one test give
 both : (a b t x y z : Bool) → (a ≡ true → b ≡ t) → (a ≡ true → x ≡ (y && z)) → (a && t && x) ≡ ((a && y) && (b && z))
@@ -46,42 +46,42 @@ both true false false x true z f g = refl
 both true false false x false z f g = refl
 
 module _ (l : ℕ) where
-  behind-arc : (p : ℕ) (ws : List ℕ) → Arc l p → behind l p ws ≡ (all (isArc l) ws && ordered (p ∷ ws))
-  unfolding behind all ordered
-  behind-arc p [] a = refl
-  behind-arc p (w ∷ ws) a =
-      both (isArc l w) (before p w) (ltb p w) (behind l w ws) (all (isArc l) ws) (ordered (w ∷ ws))
+  beyond-arc : (p : ℕ) (ws : List ℕ) → Arc l p → beyond l p ws ≡ (all (isArc l) ws && ordered (p ∷ ws))
+  unfolding beyond all ordered
+  beyond-arc p [] a = refl
+  beyond-arc p (w ∷ ws) a =
+      both (isArc l w) (before p w) (ltb p w) (beyond l w ws) (all (isArc l) ws) (ordered (w ∷ ws))
       (λ e. before-less l p w a (arc-true l w e))
-      (λ e. behind-arc w ws (arc-true l w e))
+      (λ e. beyond-arc w ws (arc-true l w e))
 
   -- 0 is below every arc
-  pub behind-none : (ws : List ℕ) → behind l 0 ws ≡ (all (isArc l) ws && ordered ws)
-  unfolding behind all ordered
-  behind-none [] = refl
-  behind-none (w ∷ ws) =
-      both (isArc l w) true (ltb 0 w) (behind l w ws) (all (isArc l) ws) (ordered (w ∷ ws))
+  pub beyond-none : (ws : List ℕ) → beyond l 0 ws ≡ (all (isArc l) ws && ordered ws)
+  unfolding beyond all ordered
+  beyond-none [] = refl
+  beyond-none (w ∷ ws) =
+      both (isArc l w) true (ltb 0 w) (beyond l w ws) (all (isArc l) ws) (ordered (w ∷ ws))
       (λ e. let a = arc-true l w e in let s = a .same in sym (lt-ltb 0 w (omega arith)))
-      (λ e. behind-arc w ws (arc-true l w e))
+      (λ e. beyond-arc w ws (arc-true l w e))
 
   -- the loop over the arcs: what is left decides
-  module _ (ws : List ℕ) (last n : ℕ) (whole : Bool) (left : behind l last (drop n ws) ≡ whole) where
-    pub behind-end : length ws ≤ n → whole ≡ true
-    unfolding behind
-    behind-end h = sym left ∙ ap (behind l last) (drop-all ws n h)
+  module _ (ws : List ℕ) (last n : ℕ) (whole : Bool) (left : beyond l last (drop n ws) ≡ whole) where
+    pub beyond-end : length ws ≤ n → whole ≡ true
+    unfolding beyond
+    beyond-end h = sym left ∙ ap (beyond l last) (drop-all ws n h)
 
     module _ (inside : n < length ws) where
-      here : (isArc l (getD ws n 0) && ltb last (getD ws n 0) && behind l (getD ws n 0) (drop (n + 1) ws)) ≡ whole
-      unfolding behind
-      here = sym (ap (behind l last) (drop-here 0 ws n inside)) ∙ left
+      here : (isArc l (getD ws n 0) && ltb last (getD ws n 0) && beyond l (getD ws n 0) (drop (n + 1) ws)) ≡ whole
+      unfolding beyond
+      here = sym (ap (beyond l last) (drop-here 0 ws n inside)) ∙ left
 
-      pub behind-more : isArc l (getD ws n 0) ≡ true → last < getD ws n 0 → behind l (getD ws n 0) (drop (n + 1) ws) ≡ whole
-      behind-more e h = sym (ap₂ (λ a b. a && b && behind l (getD ws n 0) (drop (n + 1) ws)) e (lt-ltb last (getD ws n 0) h)) ∙ here
+      pub beyond-more : isArc l (getD ws n 0) ≡ true → last < getD ws n 0 → beyond l (getD ws n 0) (drop (n + 1) ws) ≡ whole
+      beyond-more e h = sym (ap₂ (λ a b. a && b && beyond l (getD ws n 0) (drop (n + 1) ws)) e (lt-ltb last (getD ws n 0) h)) ∙ here
 
-      pub behind-bad : isArc l (getD ws n 0) ≡ false → whole ≡ false
-      behind-bad e = sym here ∙ ap (λ a. a && ltb last (getD ws n 0) && behind l (getD ws n 0) (drop (n + 1) ws)) e
+      pub beyond-bad : isArc l (getD ws n 0) ≡ false → whole ≡ false
+      beyond-bad e = sym here ∙ ap (λ a. a && ltb last (getD ws n 0) && beyond l (getD ws n 0) (drop (n + 1) ws)) e
 
-      pub behind-late : isArc l (getD ws n 0) ≡ true → getD ws n 0 ≤ last → whole ≡ false
-      behind-late e h = sym here ∙ ap₂ (λ a b. a && b && behind l (getD ws n 0) (drop (n + 1) ws)) e (le-ltb last (getD ws n 0) h)
+      pub beyond-late : isArc l (getD ws n 0) ≡ true → getD ws n 0 ≤ last → whole ≡ false
+      beyond-late e h = sym here ∙ ap₂ (λ a b. a && b && beyond l (getD ws n 0) (drop (n + 1) ws)) e (le-ltb last (getD ws n 0) h)
 
 -- the five tests, in their order
 module _ (f : List ℕ) where

@@ -121,8 +121,8 @@ module _ (f : List ℕ) (x : ℕ) where
       by j (inr q) = (q .0, q .3 .0, q .3 .1)
 
   -- what the iteration at i marks, if i is in the set, and if it is not
-  pub left-behind : (s u t : List Bool) (i : ℕ) → Has s i → Marks (Enters (view f) x i) u t → Marks (Left f x s i) u t
-  left-behind s u t i h m = marks-same (Enters (view f) x i) (Left f x s i) u t (λ k q. (h, q)) (λ k q. q .1) m
+  pub left-beyond : (s u t : List Bool) (i : ℕ) → Has s i → Marks (Enters (view f) x i) u t → Marks (Left f x s i) u t
+  left-beyond s u t i h m = marks-same (Enters (view f) x i) (Left f x s i) u t (λ k q. (h, q)) (λ k q. q .1) m
 
   pub left-out : (s u : List Bool) (i : ℕ) → getD s i false ≡ false → Marks (Left f x s i) u u
   left-out s u i h = marks-none (Left f x s i) u (λ k q. not-both (getD s i false) (q .0) h)

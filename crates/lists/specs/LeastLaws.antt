@@ -36,18 +36,18 @@ module _ {top : ℕ} where
   pub least-through :
       {K : Type 0} (c r : K → ℕ) (P : K → ℕ → Type 0) → ((k : K) → Least top (P k) (r k)) → {v : ℕ}
       → Least top (λ n. (k : K) × (n ≡ min top (c k + r k))) v → Least top (λ n. (k : K) × (m : ℕ) × P k m × (n ≡ c k + m)) v
-  least-through {K} c r P behind {v} l =
+  least-through {K} c r P beyond {v} l =
       record {
         within = l .within;
         met = λ h.
             let k = l .met h .0 in
             let e = l .met h .1 in
-            let i = behind k .within in
-            (k, r k, behind k .met (omega arith), omega arith);
+            let i = beyond k .within in
+            (k, r k, beyond k .met (omega arith), omega arith);
         least = λ n o.
             let k = o .0 in
             let e = o .3 in
-            let i = behind k .least (o .1) (o .2) in
+            let i = beyond k .least (o .1) (o .2) in
             let j = l .least (min top (c k + r k)) (k, refl) in
             omega arith;
       }

@@ -15,4 +15,4 @@ module _ {A : Type 0} where
   pub record Outside (a b : ℕ) (before after : List A) : Type 0 where
     pub size : length after ≡ length before
     pub front : take a after ≡ take a before
-    pub behind : drop b after ≡ drop b before
+    pub beyond : drop b after ≡ drop b before

@@ -28,9 +28,9 @@ module _ {A : Type 0} where
       ∙ ap (λ k. (w ++ (a ∷ [])) ++ drop k m) size
 
   -- after what is written the memory is as it was
-  pub written-behind : (d : A) (w m : List A) (k : ℕ) → length w ≤ k → getD (written w m) k d ≡ getD m k d
+  pub written-beyond : (d : A) (w m : List A) (k : ℕ) → length w ≤ k → getD (written w m) k d ≡ getD m k d
   unfolding written
-  written-behind d w m k h =
+  written-beyond d w m k h =
       let e : length w + (k - length w) ≡ k = omega arith in
       ap (λ n. getD (w ++ drop (length w) m) n d) (sym e) ∙ getD-append-add w (drop (length w) m) (k - length w) d
       ∙ getD-drop (length w) m (k - length w) d ∙ ap (λ n. getD m n d) e

@@ -24,11 +24,11 @@ pub record Raised (column amount : ℕ) (M N : Matrix) : Type 0 where
 
 module _ (column amount : ℕ) (M N : Matrix) (r : Raised column amount M N) where
   -- after that column the price is the same
-  behind : (t : ℕ) (p : List ℕ) → column < t → PathFrom M t p → priceFrom N t p ≡ priceFrom M t p
-  behind t [] l h = refl
-  behind t (x ∷ p) l h =
+  beyond : (t : ℕ) (p : List ℕ) → column < t → PathFrom M t p → priceFrom N t p ≡ priceFrom M t p
+  beyond t [] l h = refl
+  beyond t (x ∷ p) l h =
       let e : cost N t x ≡ cost M t x = r .elsewhere t x (λ q. omega arith) (h .0) in
-      let i = behind (t + 1) p (omega arith) (h .2) in
+      let i = beyond (t + 1) p (omega arith) (h .2) in
       omega arith
 
   price-raised : (t : ℕ) (p : List ℕ) → t ≤ column → column < t + length p → PathFrom M t p → priceFrom N t p ≡ priceFrom M t p + amount
@@ -40,7 +40,7 @@ module _ (column amount : ℕ) (M N : Matrix) (r : Raised column amount M N) whe
           → priceFrom N t (x ∷ p) ≡ priceFrom M t (x ∷ p) + amount
       by (inl e) f =
           let c : cost N t x ≡ cost M t x + amount = rw e (r .here x (h .0) (rw e at (h .1))) in
-          let i = behind (t + 1) p (omega arith) (h .2) in
+          let i = beyond (t + 1) p (omega arith) (h .2) in
           omega arith
       by (inr n) f =
           let c : cost N t x ≡ cost M t x = r .elsewhere t x n (h .0) in

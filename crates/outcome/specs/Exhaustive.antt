@@ -43,14 +43,14 @@ pub record Passes (test : List ℕ → Bool) (width n : ℕ) (p : List ℕ) : Ty
   pub passes : test p ≡ true
 
 -- x, and after it a list that qualifies
-pub record Behind (x : ℕ) (P : List ℕ → Type 0) (p : List ℕ) : Type 0 where
+pub record Beyond (x : ℕ) (P : List ℕ → Type 0) (p : List ℕ) : Type 0 where
   pub rest : List ℕ
   pub is : p ≡ x ∷ rest
   pub qualifies : P rest
 
 outcome-prefixed :
     (cost : List ℕ → ℕ) (x : ℕ) (P : List ℕ → Type 0) (o : Option (List ℕ)) → OutcomeOf P (λ p. cost (x ∷ p)) o
-    → OutcomeOf (Behind x P) cost (prefixed x o)
+    → OutcomeOf (Beyond x P) cost (prefixed x o)
 outcome-prefixed cost x P none h = λ p b. h (b .rest) (b .qualifies)
 outcome-prefixed cost x P (some p) h =
     record {
@@ -63,7 +63,7 @@ outcome-prefixed cost x P (some p) h =
 pub record Begins (k : ℕ) (P : ℕ → List ℕ → Type 0) (p : List ℕ) : Type 0 where
   pub label : ℕ
   pub below : label < k
-  pub behind : Behind label (P label) p
+  pub beyond : Beyond label (P label) p
 
 outcome-over :
     (cost : List ℕ → ℕ) (P : ℕ → List ℕ → Type 0) (rest : ℕ → Option (List ℕ)) → ((x : ℕ) → OutcomeOf (P x) (λ p. cost (x ∷ p)) (rest x))
@@ -72,17 +72,17 @@ unfolding over
 outcome-over cost P rest h zero = λ p b. let l = b .below in omega arith
 outcome-over cost P rest h (suc k) =
     outcome-of-same cost to from (better cost (over cost rest k) (prefixed k (rest k)))
-    (outcome-either cost (Begins k P) (Behind k (P k)) (over cost rest k) (prefixed k (rest k)) (outcome-over cost P rest h k)
+    (outcome-either cost (Begins k P) (Beyond k (P k)) (over cost rest k) (prefixed k (rest k)) (outcome-over cost P rest h k)
     (outcome-prefixed cost k (P k) (rest k) (h k)))
   where
-    to : (p : List ℕ) → Begins k P p ⊎ Behind k (P k) p → Begins (suc k) P p
-    to p (inl b) = let l = b .below in record { label = b .label; below = omega arith; behind = b .behind }
-    to p (inr b) = record { label = k; below = omega arith; behind = b }
+    to : (p : List ℕ) → Begins k P p ⊎ Beyond k (P k) p → Begins (suc k) P p
+    to p (inl b) = let l = b .below in record { label = b .label; below = omega arith; beyond = b .beyond }
+    to p (inr b) = record { label = k; below = omega arith; beyond = b }
 
-    from : (p : List ℕ) → Begins (suc k) P p → Begins k P p ⊎ Behind k (P k) p
+    from : (p : List ℕ) → Begins (suc k) P p → Begins k P p ⊎ Beyond k (P k) p
     from p b =
-        ⊎-elim (λ e. inr (rw e at (b .behind)))
-        (λ n. let l = b .below in inl (record { label = b .label; below = omega arith; behind = b .behind })) (eq-or-ne (b .label) k)
+        ⊎-elim (λ e. inr (rw e at (b .beyond)))
+        (λ n. let l = b .below in inl (record { label = b .label; below = omega arith; beyond = b .beyond })) (eq-or-ne (b .label) k)
 
 pub exhaustive-outcome :
     (cost : List ℕ → ℕ) (test : List ℕ → Bool) (width n : ℕ) → OutcomeOf (Passes test width n) cost (exhaustive cost test width n)
@@ -108,8 +108,8 @@ exhaustive-outcome cost test width (suc n) =
   where
     to : (p : List ℕ) → Begins width (λ x. Passes (λ p. test (x ∷ p)) width n) p → Passes test width (suc n) p
     to p b =
-        let q = b .behind .qualifies in
-        rw (b .behind .is) (record { size = ap suc (q .size); labels = (b .below, q .labels); passes = q .passes })
+        let q = b .beyond .qualifies in
+        rw (b .beyond .is) (record { size = ap suc (q .size); labels = (b .below, q .labels); passes = q .passes })
 
     from : (p : List ℕ) → Passes test width (suc n) p → Begins width (λ x. Passes (λ p. test (x ∷ p)) width n) p
     from [] h = absurd (let e = h .size in omega arith)
@@ -117,7 +117,7 @@ exhaustive-outcome cost test width (suc n) =
         record {
           label = x;
           below = h .labels .0;
-          behind =
+          beyond =
               record {
                 rest = p;
                 is = refl;

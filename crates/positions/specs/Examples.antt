@@ -53,7 +53,7 @@ abc = code "a" ∷ code "b" ∷ code "c" ∷ []
 record Examples : Type 0 where
   -- document 01's `ab*`, compiled and part by part
   compiled : formOf ab (join a (any b)) ≡ 0x10020002 ∷ 0x20000301 ∷ 0x20000202 ∷ 0x30000102 ∷ 0x30000202 ∷ []
-  star-behind : over ab (join a (any b)) ≡ letters (1 ∷ 2 ∷ []) false (1 ∷ []) (1 ∷ 2 ∷ []) ((2 ∷ []) ∷ (2 ∷ []) ∷ [])
+  star-beyond : over ab (join a (any b)) ≡ letters (1 ∷ 2 ∷ []) false (1 ∷ []) (1 ∷ 2 ∷ []) ((2 ∷ []) ∷ (2 ∷ []) ∷ [])
   -- `(ab)*` accepts the empty word; `(a|b)*`: arcs in the order of source, then target
   compiled-nullable : formOf ab (any (group (join a b))) ≡ 0x10020102 ∷ 0x20000101 ∷ 0x20000202 ∷ 0x30000102 ∷ 0x30000201 ∷ []
   compiled-either :
@@ -85,7 +85,7 @@ examples : Examples
 unfolding opened keep numbers anyOf repeated copies nested labels numbered positionAutomaton letterCount labelsOf encode flatMap
 examples = record {
   compiled = refl;
-  star-behind = refl;
+  star-beyond = refl;
   compiled-nullable = refl;
   compiled-either = refl;
   star = refl;

@@ -7,7 +7,7 @@ use mathlib.Core.Bool.{Bool, true, false, _&&_, _||_, or-false, and-false, and-c
 use native.Mathlib.Omega.{arith}
 use borrow.Author.Tests.{eqb-true}
 use Rattle.lists.specs.OrderLaws.{not-both, never-true, and-left, and-right, or-either}
-use Rattle.positions.specs.Numbered.{Positions, bare, single, joint, choice, perhaps, again, behind, ending}
+use Rattle.positions.specs.Numbered.{Positions, bare, single, joint, choice, perhaps, again, follows, ending}
 
 -- each letter is one of n to m - 1
 pub record Inside (n m : ℕ) (p : Positions) : Type 0 where
@@ -19,11 +19,11 @@ pub record Inside (n m : ℕ) (p : Positions) : Type 0 where
 -- p and q agree on the states in D, which no arc leaves: so they have the same walks from there.
 pub record Agree (D : ℕ → Type 0) (p q : Positions) : Type 0 where
   pub ends : (i : ℕ) → D i → ending p i ≡ ending q i
-  pub arcs : (i j : ℕ) → D i → behind p i j ≡ behind q i j
-  pub closed : (i j : ℕ) → D i → behind p i j ≡ true → D j
+  pub arcs : (i j : ℕ) → D i → follows p i j ≡ follows q i j
+  pub closed : (i j : ℕ) → D i → follows p i j ≡ true → D j
 
 -- where an arc leads
-pub goes-to : {n m : ℕ} {p : Positions} → Inside n m p → (i j : ℕ) → behind p i j ≡ true → (n ≤ j) × (j < m)
+pub goes-to : {n m : ℕ} {p : Positions} → Inside n m p → (i j : ℕ) → follows p i j ≡ true → (n ≤ j) × (j < m)
 goes-to x zero j h = x .first j h
 goes-to x (suc i) j h = x .target (suc i) j h
 
@@ -64,7 +64,7 @@ absorbed : (a b : Bool) → a ≡ (a || b && a)
 absorbed true b = refl
 absorbed false b = sym (and-false b)
 
-pub again-arcs : (p : Positions) (i j : ℕ) → behind (again p) i j ≡ (behind p i j || ending p i && p .first j)
+pub again-arcs : (p : Positions) (i j : ℕ) → follows (again p) i j ≡ (follows p i j || ending p i && p .first j)
 again-arcs p zero j = absorbed (p .first j) (p .nullable)
 again-arcs p (suc i) j = refl
 
@@ -126,7 +126,7 @@ module _ {n m k : ℕ} {p q : Positions} (a : Apart n m k p q) where
   joint-ends zero l = refl
   joint-ends (suc i) l = rw (last-not (suc i) l) (and-comm (q .nullable) (p .last (suc i)))
 
-  pub joint-arcs : (i j : ℕ) → i < m → behind (joint p q) i j ≡ (behind p i j || ending p i && q .first j)
+  pub joint-arcs : (i j : ℕ) → i < m → follows (joint p q) i j ≡ (follows p i j || ending p i && q .first j)
   joint-arcs zero j l = refl
   joint-arcs (suc i) j l = rw (arc-not (suc i) j l, or-false (p .follow (suc i) j))
 
@@ -138,7 +138,7 @@ module _ {n m k : ℕ} {p q : Positions} (a : Apart n m k p q) where
       ends zero d = absurd (above-zero d)
       ends (suc i) d = rw (no-last (suc i) d, and-false (q .nullable), or-false (q .last (suc i)))
 
-      arcs : (i j : ℕ) → m ≤ i → behind (joint p q) i j ≡ behind q i j
+      arcs : (i j : ℕ) → m ≤ i → follows (joint p q) i j ≡ follows q i j
       arcs zero j d = absurd (above-zero d)
       arcs (suc i) j d = rw (no-arc (suc i) j d, no-last (suc i) d, or-false (q .follow (suc i) j))
 
@@ -150,7 +150,7 @@ module _ {n m k : ℕ} {p q : Positions} (a : Apart n m k p q) where
       ends zero d = absurd (omega arith)
       ends (suc i) d = rw (last-not (suc i) (d .1), or-false (p .last (suc i)))
 
-      arcs : (i j : ℕ) → (1 ≤ i) × (i < m) → behind (choice p q) i j ≡ behind p i j
+      arcs : (i j : ℕ) → (1 ≤ i) × (i < m) → follows (choice p q) i j ≡ follows p i j
       arcs zero j d = absurd (omega arith)
       arcs (suc i) j d = rw (arc-not (suc i) j (d .1), or-false (p .follow (suc i) j))
 
@@ -161,6 +161,6 @@ module _ {n m k : ℕ} {p q : Positions} (a : Apart n m k p q) where
       ends zero d = absurd (above-zero d)
       ends (suc i) d = rw (no-last (suc i) d)
 
-      arcs : (i j : ℕ) → m ≤ i → behind (choice p q) i j ≡ behind q i j
+      arcs : (i j : ℕ) → m ≤ i → follows (choice p q) i j ≡ follows q i j
       arcs zero j d = absurd (above-zero d)
       arcs (suc i) j d = rw (no-arc (suc i) j d)

@@ -63,9 +63,9 @@ numbered n empty = bare true
 numbered n never = bare false
 
 -- Whether letter j may follow letter i, or be first if i is 0; and whether a word may end after letter i, or be empty if i is 0.
-abbrev pub behind : Positions → ℕ → ℕ → Bool
-behind p zero j = p .first j
-behind p (suc i) j = p .follow (suc i) j
+abbrev pub follows : Positions → ℕ → ℕ → Bool
+follows p zero j = p .first j
+follows p (suc i) j = p .follow (suc i) j
 
 abbrev pub ending : Positions → ℕ → Bool
 ending p zero = p .nullable
@@ -73,7 +73,7 @@ ending p (suc i) = p .last (suc i)
 
 -- the automaton with k letters, their labels, and their positions
 abbrev pub assembled : ℕ → (ℕ → ℕ) → Positions → Automaton
-assembled k label p = record { letters = k; label = label; follow = behind p; ends = ending p }
+assembled k label p = record { letters = k; label = label; follow = follows p; ends = ending p }
 
 abbrev pub labelAt : Opened → ℕ → ℕ
 labelAt r i = getD (labels r) (i - 1) 0

@@ -10,7 +10,7 @@ use borrow.Author.Tests.{eqb-true, eq-eqb}
 use Rattle.lists.specs.OrderLaws.{not-both, and-left, and-right, and-both, or-either, or-left, or-right}
 use Rattle.automaton.specs.Automaton.{Walk, Accepts}
 use Rattle.regex.specs.Tree.{Joined}
-use Rattle.positions.specs.Numbered.{Positions, bare, single, joint, choice, perhaps, again, behind, ending, assembled}
+use Rattle.positions.specs.Numbered.{Positions, bare, single, joint, choice, perhaps, again, follows, ending, assembled}
 use Rattle.positions.specs.InsideLaws.{Inside, goes-to, inside-perhaps, inside-again, again-ends, again-arcs, Agree, Apart, joint-ends, joint-arcs, joint-back, choice-front, choice-back}
 
 module _ (c : ℕ) (label : ℕ → ℕ) where
@@ -32,7 +32,7 @@ module _ (c : ℕ) (label : ℕ → ℕ) where
     walk-back : (js : List ℕ) (i : ℕ) → D i → Through q i js → Through p i js
     walk-back [] i d h = a .ends i d ∙ h
     walk-back (j ∷ js) i d h =
-        let e : behind p i j ≡ true = a .arcs i j d ∙ h .0 in
+        let e : follows p i j ≡ true = a .arcs i j d ∙ h .0 in
         (e, walk-back js j (a .closed i j d e) (h .1))
 
   -- One letter, and none.
@@ -73,11 +73,11 @@ module _ (c : ℕ) (label : ℕ → ℕ) where
     joint-walk : (us vs : List ℕ) (i : ℕ) → i < m → Through p i us → Through q 0 vs → Through (joint p q) i (us ++ vs)
     joint-walk [] [] i l h g = joint-ends a i l ∙ and-both (ending p i) (q .nullable) h g
     joint-walk [] (j ∷ vs) i l h g = (
-      joint-arcs a i j l ∙ or-right (behind p i j) (ending p i && q .first j) (and-both (ending p i) (q .first j) h (g .0)),
+      joint-arcs a i j l ∙ or-right (follows p i j) (ending p i && q .first j) (and-both (ending p i) (q .first j) h (g .0)),
       walk-back (joint-back a) vs j (a .back .first j (g .0) .0) (g .1),
     )
     joint-walk (j ∷ us) vs i l h g = (
-      joint-arcs a i j l ∙ or-left (behind p i j) (ending p i && q .first j) (h .0),
+      joint-arcs a i j l ∙ or-left (follows p i j) (ending p i && q .first j) (h .0),
       joint-walk us vs j (goes-to (a .front) i j (h .0) .1) (h .1) g,
     )
 
@@ -93,9 +93,9 @@ module _ (c : ℕ) (label : ℕ → ℕ) where
     joint-cut [] i l h =
         let e : (ending p i && q .nullable) ≡ true = sym (joint-ends a i l) ∙ h in
         record { left = []; right = []; whole = refl; front = and-left (ending p i) (q .nullable) e; back = and-right (ending p i) (q .nullable) e }
-    joint-cut (j ∷ js) i l h = by (or-either (behind p i j) (ending p i && q .first j) (sym (joint-arcs a i j l) ∙ h .0)) (λ d. joint-cut js j d (h .1))
+    joint-cut (j ∷ js) i l h = by (or-either (follows p i j) (ending p i && q .first j) (sym (joint-arcs a i j l) ∙ h .0)) (λ d. joint-cut js j d (h .1))
       where
-        by : (behind p i j ≡ true) ⊎ ((ending p i && q .first j) ≡ true) → (j < m → Cut j js) → Cut i (j ∷ js)
+        by : (follows p i j ≡ true) ⊎ ((ending p i && q .first j) ≡ true) → (j < m → Cut j js) → Cut i (j ∷ js)
         by (inl e) more =
             let x = more (goes-to (a .front) i j e .1) in
             record { left = j ∷ x .left; right = x .right; whole = ap (λ l. j ∷ l) (x .whole); front = (e, x .front); back = x .back }
@@ -168,7 +168,7 @@ module _ (c : ℕ) (label : ℕ → ℕ) where
         ends zero d = absurd (omega arith)
         ends (suc i) d = refl
 
-        arcs : (i j : ℕ) → n ≤ i → behind (perhaps p) i j ≡ behind p i j
+        arcs : (i j : ℕ) → n ≤ i → follows (perhaps p) i j ≡ follows p i j
         arcs zero j d = refl
         arcs (suc i) j d = refl
 
@@ -190,10 +190,10 @@ module _ (c : ℕ) (label : ℕ → ℕ) where
     again-walk : (us vs : List ℕ) (i : ℕ) → Through p i us → Through (perhaps (again p)) 0 vs → Through (again p) i (us ++ vs)
     again-walk [] [] i h g = again-ends p i ∙ h
     again-walk [] (j ∷ vs) i h g = (
-      again-arcs p i j ∙ or-right (behind p i j) (ending p i && p .first j) (and-both (ending p i) (p .first j) h (g .0)),
+      again-arcs p i j ∙ or-right (follows p i j) (ending p i && p .first j) (and-both (ending p i) (p .first j) h (g .0)),
       walk-over (perhaps-same one (inside-again x)) vs j (x .first j (g .0) .0) (g .1),
     )
-    again-walk (j ∷ us) vs i h g = (again-arcs p i j ∙ or-left (behind p i j) (ending p i && p .first j) (h .0), again-walk us vs j (h .1) g)
+    again-walk (j ∷ us) vs i h g = (again-arcs p i j ∙ or-left (follows p i j) (ending p i && p .first j) (h .0), again-walk us vs j (h .1) g)
 
     again-more : (w u v : List ℕ) → w ≡ u ++ v → Says p u → Says (perhaps (again p)) v → Says (again p) w
     again-more w u v e h g = (h .0 ++ g .0, again-walk (h .0) (g .0) 0 (h .1) (g .1), map-append label (h .0) (g .0) ∙ rw (h .2, g .2) (sym e))
@@ -216,9 +216,9 @@ module _ (c : ℕ) (label : ℕ → ℕ) where
 
       again-cut : (js : List ℕ) (i : ℕ) → Through (again p) i js → Round i js
       again-cut [] i h = record { left = []; right = []; whole = refl; front = sym (again-ends p i) ∙ h; rounds = 0; back = refl }
-      again-cut (j ∷ js) i h = by (or-either (behind p i j) (ending p i && p .first j) (sym (again-arcs p i j) ∙ h .0)) (again-cut js j (h .1))
+      again-cut (j ∷ js) i h = by (or-either (follows p i j) (ending p i && p .first j) (sym (again-arcs p i j) ∙ h .0)) (again-cut js j (h .1))
         where
-          by : (behind p i j ≡ true) ⊎ ((ending p i && p .first j) ≡ true) → Round j js → Round i (j ∷ js)
+          by : (follows p i j ≡ true) ⊎ ((ending p i && p .first j) ≡ true) → Round j js → Round i (j ∷ js)
           by (inl e) y = record { left = j ∷ y .left; right = y .right; whole = ap (λ l. j ∷ l) (y .whole); front = (e, y .front); rounds = y .rounds; back = y .back }
           by (inr e) y = record {
             left = [];

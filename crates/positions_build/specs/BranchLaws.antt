@@ -49,13 +49,13 @@ module _ (A text : List ℕ) where
         {h : List (List Bool)} {new : List ℕ} {b c : Built} → Two either x y z → BuildsParsed (a .letters) y g h mid new b → Chosen a b c
         → BuildsParsed n z f h old new c
     unfolding opened
-    either-builds w v o = rw (w .tree, w .behind) (builds-alternation u v o)
+    either-builds w v o = rw (w .tree, w .beyond) (builds-alternation u v o)
 
     join-builds :
         {h k : List (List Bool)} {new : List ℕ} {b c : Built} → Two join x y z → BuildsParsed (a .letters) y g h mid new b → Joined a b c h k
         → BuildsParsed n z f k old new c
     unfolding opened
-    join-builds w v o = rw (w .tree, w .behind) (builds-joining u v o)
+    join-builds w v o = rw (w .tree, w .beyond) (builds-joining u v o)
 
   -- Branches with `|` between them.
   module _ (d at : ℕ) (p : PartAt A text m-alternation d at) where

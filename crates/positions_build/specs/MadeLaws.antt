@@ -18,7 +18,7 @@ use Rattle.regex.specs.SenseLaws.{Sensible, sensible}
 use Rattle.regex.specs.FrontLaws.{Front, Stop}
 use Rattle.regex.specs.Sound.{parse-sound}
 use Rattle.regex.specs.StepsLaws.{parse-step, parse-forward}
-use Rattle.text.specs.TextLaws.{behind, next-at, rest-at}
+use Rattle.text.specs.TextLaws.{beyond, next-at, rest-at}
 use Rattle.regex_bracket.specs.Answers.{is-found}
 use Rattle.positions_letters.specs.Found.{restOf, treeOf}
 use Rattle.positions_letters.specs.FoundLaws.{not-found, then-first, then-is}
@@ -28,14 +28,14 @@ use Rattle.positions_build.specs.Places.{PartAt, treeAt, endAt}
 pub record Two (g : Tree → Tree → Tree) (a b x : Parsing Tree) : Type 0 where
   pub second : is-found b ≡ true
   pub tree : treeOf x ≡ g (treeOf a) (treeOf b)
-  pub behind : restOf x ≡ restOf b
+  pub beyond : restOf x ≡ restOf b
 
 two : (g : Tree → Tree → Tree) (a b x : Parsing Tree) → x ≡ then b (λ u r. found (g (treeOf a) u) r) → is-found x ≡ true → Two g a b x
 unfolding then
 two g a b x e h = subst (Two g a b) (sym e) (by b (ap is-found (sym e) ∙ h))
   where
     by : (b : Parsing Tree) → is-found (then b (λ u r. found (g (treeOf a) u) r)) ≡ true → Two g a b (then b (λ u r. found (g (treeOf a) u) r))
-    by (found u r) h = record { second = refl; tree = refl; behind = refl }
+    by (found u r) h = record { second = refl; tree = refl; beyond = refl }
     by (fault n r) h = not-found h
 
 module _ (A text : List ℕ) where
@@ -56,7 +56,7 @@ module _ (A text : List ℕ) where
           let f : Front A m d s t r = of-found (Front A m d s) (Stop A m d s) (parse A m d s) t r (parse-sound A m d s) k in
           let l = parse-forward A m d s t r k in
           let n = length-drop at text in
-          let b = behind text at (f .front) r (omega arith) (f .splits) in
+          let b = beyond text at (f .front) r (omega arith) (f .splits) in
           record {
             is = ap (found t) (sym (b .rests));
             rests = sym (b .rests);
@@ -84,26 +84,26 @@ module _ (A text : List ℕ) where
     abbrev bar : Bool → Tree → List ℕ → Parsing Tree
     bar b t s = elim b [ true ↦ then (parse A m-alternation d (rest s)) (λ u r. found (either t u) r) | false ↦ found t s ]
 
-    abbrev behind-branch : Tree → List ℕ → Parsing Tree
-    behind-branch t s = bar (next "|" s) t s
+    abbrev beyond-branch : Tree → List ℕ → Parsing Tree
+    beyond-branch t s = bar (next "|" s) t s
 
     module _ (h : PartAt A text m-alternation d at) where
-      alternation-step : parse A m-alternation d (drop at text) ≡ then (parse A m-branch d (drop at text)) behind-branch
+      alternation-step : parse A m-alternation d (drop at text) ≡ then (parse A m-branch d (drop at text)) beyond-branch
       unfolding step
       alternation-step = parse-step A m-alternation d (drop at text)
 
       pub branch-found : PartAt A text m-branch d at
-      branch-found = first-found m-branch d at behind-branch (parse A m-alternation d (drop at text)) alternation-step h
+      branch-found = first-found m-branch d at beyond-branch (parse A m-alternation d (drop at text)) alternation-step h
 
       module _ (e : ℕ) (q : e ≡ endAt A text m-branch d at) where
         by-bar : (b : Bool) → eqb (getD text e 0) (code "|") ≡ b → parse A m-alternation d (drop at text) ≡ bar b (treeAt A text m-branch d at) (drop e text)
         by-bar b k =
-            goes-on m-branch d at behind-branch (parse A m-alternation d (drop at text)) alternation-step h e q
+            goes-on m-branch d at beyond-branch (parse A m-alternation d (drop at text)) alternation-step h e q
             ∙ ap (λ b. bar b (treeAt A text m-branch d at) (drop e text)) (next-at "|" text e refl ∙ k)
 
         pub alternation-alone : (getD text e 0 ≡ code "|" → ⊥) → parse A m-alternation d (drop at text) ≡ parse A m-branch d (drop at text)
         alternation-alone k =
-            ends-there m-branch d at behind-branch (parse A m-alternation d (drop at text)) alternation-step h e q
+            ends-there m-branch d at beyond-branch (parse A m-alternation d (drop at text)) alternation-step h e q
             (by-bar false (ne-eqb (getD text e 0) (code "|") k))
 
         pub alternation-more :
@@ -120,25 +120,25 @@ module _ (A text : List ℕ) where
     abbrev last : Bool → Tree → List ℕ → Parsing Tree
     last b t s = elim b [ true ↦ found t s | false ↦ then (parse A m-branch d s) (λ u r. found (join t u) r) ]
 
-    abbrev behind-piece : Tree → List ℕ → Parsing Tree
-    behind-piece t s = last (ends s) t s
+    abbrev beyond-piece : Tree → List ℕ → Parsing Tree
+    beyond-piece t s = last (ends s) t s
 
     module _ (h : PartAt A text m-branch d at) where
-      branch-step : parse A m-branch d (drop at text) ≡ then (parse A m-piece d (drop at text)) behind-piece
+      branch-step : parse A m-branch d (drop at text) ≡ then (parse A m-piece d (drop at text)) beyond-piece
       unfolding step
       branch-step = parse-step A m-branch d (drop at text)
 
       pub piece-found : PartAt A text m-piece d at
-      piece-found = first-found m-piece d at behind-piece (parse A m-branch d (drop at text)) branch-step h
+      piece-found = first-found m-piece d at beyond-piece (parse A m-branch d (drop at text)) branch-step h
 
       module _ (e : ℕ) (q : e ≡ endAt A text m-piece d at) where
         by-end : (b : Bool) → ends (drop e text) ≡ b → parse A m-branch d (drop at text) ≡ last b (treeAt A text m-piece d at) (drop e text)
         by-end b k =
-            goes-on m-piece d at behind-piece (parse A m-branch d (drop at text)) branch-step h e q
+            goes-on m-piece d at beyond-piece (parse A m-branch d (drop at text)) branch-step h e q
             ∙ ap (λ b. last b (treeAt A text m-piece d at) (drop e text)) k
 
         pub branch-last : ends (drop e text) ≡ true → parse A m-branch d (drop at text) ≡ parse A m-piece d (drop at text)
-        branch-last k = ends-there m-piece d at behind-piece (parse A m-branch d (drop at text)) branch-step h e q (by-end true k)
+        branch-last k = ends-there m-piece d at beyond-piece (parse A m-branch d (drop at text)) branch-step h e q (by-end true k)
 
         pub branch-more :
             ends (drop e text) ≡ false

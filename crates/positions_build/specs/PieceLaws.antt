@@ -87,12 +87,12 @@ module _ (A text : List ℕ) where
           pub most-is : c .most ≡ copiesOf (countAt A text d at)
           most-is = ap (λ (x : Copies). x .most) is
 
-          ends-behind : c .end ≡ endAt A text m-piece d at
-          ends-behind = ap (λ (x : Copies). x .end) is ∙ ap (place text) (sym (piece-counted A text d at p .behind))
+          ends-beyond : c .end ≡ endAt A text m-piece d at
+          ends-beyond = ap (λ (x : Copies). x .end) is ∙ ap (place text) (sym (piece-counted A text d at p .beyond))
 
           spared-by : {b x : Built} → Spared b (leb (c .least) k) (c .end) x → Spared b (leb (leastOf (countAt A text d at)) k) (endAt A text m-piece d at) x
           spared-by {b} {x} s =
-              subst (λ e. Spared b (leb (leastOf (countAt A text d at)) k) e x) ends-behind
+              subst (λ e. Spared b (leb (leastOf (countAt A text d at)) k) e x) ends-beyond
               (subst (λ m. Spared b (leb m k) (c .end) x) (ap (λ (x : Copies). x .least) is) s)
 
           pub piece-returns-last :

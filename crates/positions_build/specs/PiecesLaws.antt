@@ -22,7 +22,7 @@ use Rattle.regex.specs.OwnLaws.{Here}
 use Rattle.regex.specs.OwnCountsLaws.{InRange, Repeating, repetition-says}
 use Rattle.regex.specs.StepsLaws.{parse-step}
 use Rattle.positions.specs.Opened.{opened, repeated}
-use Rattle.text.specs.TextLaws.{place-drop, behind, next-at, rest-at, byte-is}
+use Rattle.text.specs.TextLaws.{place-drop, beyond, next-at, rest-at, byte-is}
 use Rattle.regex_bracket.specs.Answers.{is-found, setOf}
 use Rattle.positions_letters.specs.Found.{restOf, treeOf, countOf, counted}
 use Rattle.positions_letters.specs.FoundLaws.{counted-repeated, counted-plain, not-found}
@@ -39,7 +39,7 @@ module _ (A text : List ℕ) where
   pub record Counted (t : Tree) (y : Parsing Count) (x : Parsing Tree) : Type 0 where
     pub counts : is-found y ≡ true
     pub range : InRange (countOf y)
-    pub behind : restOf x ≡ restOf y
+    pub beyond : restOf x ≡ restOf y
     pub opens : Alike (repeated (opened A t) (countOf y)) (opened A (treeOf x))
 
   counted-of : (t : Tree) (s : List ℕ) (x : Parsing Tree) (b : Bool) → repeats s ≡ b → x ≡ repeating b t s → is-found x ≡ true → Counted t (counted s) x
@@ -49,30 +49,30 @@ module _ (A text : List ℕ) where
       by : (y : Parsing Count) → Says (Repeating s) (Here s) y → x ≡ then y (λ c r. found (times t c) r) → Counted t y x
       by (found c r) says e =
           subst (Counted t (found c r)) (sym e)
-          (record { counts = refl; range = says .in-range; behind = refl; opens = alike-by (repeated (opened A t) c) (repeated (opened A t) c) refl })
+          (record { counts = refl; range = says .in-range; beyond = refl; opens = alike-by (repeated (opened A t) c) (repeated (opened A t) c) refl })
       by (fault n r) says e = not-found (ap is-found (sym e) ∙ h)
   counted-of t s x false k e h =
       rw (counted-plain s k)
       (subst (Counted t (found (between 1 1) s)) (sym e)
-      (record { counts = refl; range = (omega arith, omega arith, omega arith); behind = refl; opens = one-copy (opened A t) }))
+      (record { counts = refl; range = (omega arith, omega arith, omega arith); beyond = refl; opens = one-copy (opened A t) }))
 
-  abbrev behind-group : Tree → List ℕ → Parsing Tree
-  behind-group t s = repeating (repeats s) t s
+  abbrev beyond-group : Tree → List ℕ → Parsing Tree
+  beyond-group t s = repeating (repeats s) t s
 
   module _ (d at : ℕ) where
     module _ (h : PartAt A text m-piece d at) where
-      piece-step : parse A m-piece d (drop at text) ≡ then (parse A m-group d (drop at text)) behind-group
+      piece-step : parse A m-piece d (drop at text) ≡ then (parse A m-group d (drop at text)) beyond-group
       unfolding step
       piece-step = parse-step A m-piece d (drop at text)
 
       pub group-found : PartAt A text m-group d at
-      group-found = first-found A text m-group d at behind-group (parse A m-piece d (drop at text)) piece-step h
+      group-found = first-found A text m-group d at beyond-group (parse A m-piece d (drop at text)) piece-step h
 
       pub piece-counted : Counted (treeAt A text m-group d at) (counted (drop (endAt A text m-group d at) text)) (parse A m-piece d (drop at text))
       piece-counted =
           let s = drop (endAt A text m-group d at) text in
           counted-of (treeAt A text m-group d at) s (parse A m-piece d (drop at text)) (repeats s) refl
-          (goes-on A text m-group d at behind-group (parse A m-piece d (drop at text)) piece-step h (endAt A text m-group d at) refl)
+          (goes-on A text m-group d at beyond-group (parse A m-piece d (drop at text)) piece-step h (endAt A text m-group d at) refl)
           h
 
     -- a set, or an alternation in parentheses
@@ -124,24 +124,24 @@ module _ (A text : List ℕ) where
     pub end : place text (restOf x) ≡ place text (restOf y) + 1
     pub within : place text (restOf y) < length text
 
-  behind-content : Tree → List ℕ → Parsing Tree
-  behind-content t s = closing (next ")" s) t s
+  beyond-content : Tree → List ℕ → Parsing Tree
+  beyond-content t s = closing (next ")" s) t s
 
-  module _ (d at : ℕ) (x : Parsing Tree) (step-is : x ≡ then (parse A m-alternation d (drop at text)) behind-content) (h : is-found x ≡ true) where
+  module _ (d at : ℕ) (x : Parsing Tree) (step-is : x ≡ then (parse A m-alternation d (drop at text)) beyond-content) (h : is-found x ≡ true) where
     enclosed-at : (i : ℕ) → i ≡ endAt A text m-alternation d at → Enclosed (parse A m-alternation d (drop at text)) x
-    unfolding behind-content
+    unfolding beyond-content
     enclosed-at i q = by (eqb (getD text i 0) (code ")")) refl
       where
         here : (b : Bool) → eqb (getD text i 0) (code ")") ≡ b → x ≡ closing b (treeAt A text m-alternation d at) (drop i text)
         here b k =
-            goes-on A text m-alternation d at behind-content x step-is h i q
+            goes-on A text m-alternation d at beyond-content x step-is h i q
             ∙ ap (λ b. closing b (treeAt A text m-alternation d at) (drop i text)) (next-at ")" text i refl ∙ k)
 
         by : (b : Bool) → eqb (getD text i 0) (code ")") ≡ b → Enclosed (parse A m-alternation d (drop at text)) x
         by true k =
             let l : i < length text = byte-is text i 40 (eqb-true (getD text i 0) (code ")") k) in
             record {
-              inner = first-found A text m-alternation d at behind-content x step-is h;
+              inner = first-found A text m-alternation d at beyond-content x step-is h;
               tree = ap treeOf (here true k);
               end =
                   ap (λ z. place text (restOf z)) (here true k) ∙ ap (place text) (rest-at text i) ∙ place-drop text (i + 1) (omega arith)
@@ -153,10 +153,10 @@ module _ (A text : List ℕ) where
   pub group-enclosed :
       (d at : ℕ) → PartAt A text m-group d at → getD text at 0 ≡ code "("
       → (1 ≤ d) × Enclosed (parse A m-alternation (d - 1) (drop (at + 1) text)) (parse A m-group d (drop at text))
-  unfolding grouped behind-content
+  unfolding grouped beyond-content
   group-enclosed zero at h k = not-found (ap is-found (sym (by-open zero at true (eq-eqb (getD text at 0) (code "(") k))) ∙ h)
   group-enclosed (suc d) at h k =
       let less : suc d - 1 ≡ d = omega arith in
-      let e : parse A m-group (suc d) (drop at text) ≡ then (parse A m-alternation d (drop (at + 1) text)) behind-content =
-      by-open (suc d) at true (eq-eqb (getD text at 0) (code "(") k) ∙ ap (λ s. then (parse A m-alternation d s) behind-content) (rest-at text at) in
+      let e : parse A m-group (suc d) (drop at text) ≡ then (parse A m-alternation d (drop (at + 1) text)) beyond-content =
+      by-open (suc d) at true (eq-eqb (getD text at 0) (code "(") k) ∙ ap (λ s. then (parse A m-alternation d s) beyond-content) (rest-at text at) in
       (omega arith, rw less (enclosed-at d (at + 1) (parse A m-group (suc d) (drop at text)) e h (endAt A text m-alternation d (at + 1)) refl))

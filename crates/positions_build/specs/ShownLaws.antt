@@ -99,8 +99,8 @@ builds-alike {n} {r} {s} {e} {f} {g} {old} {new} {x} h b =
 
 module _ {n : ℕ} {r : Opened} {e : ℕ} {f g : List (List Bool)} {old mid : List ℕ} {a : Built} (u : Builds n r e f g old mid a) where
   module _ {s : Opened} {e₁ : ℕ} {h : List (List Bool)} {new : List ℕ} {b : Built} (v : Builds (a .letters) s e₁ g h mid new b) where
-    behind : Shows (numbered (suc n + length (labels r)) s) b g h
-    behind =
+    beyond : Shows (numbered (suc n + length (labels r)) s) b g h
+    beyond =
         let k = u .stored .next in
         let z : suc (a .letters) ≡ suc n + length (labels r) = omega arith in
         subst (λ i. Shows (numbered i s) b g h) z (v .shows)
@@ -111,7 +111,7 @@ module _ {n : ℕ} {r : Opened} {e : ℕ} {f g : List (List Bool)} {old mid : Li
         record {
           ends = o .ends ∙ v .ends;
           stored = rw (o .counts) (stored-then (u .stored) (v .stored));
-          shows = shows-choice f g (numbered (suc n) r) a (u .shows) (numbered (suc n + length (labels r)) s) b x h behind o;
+          shows = shows-choice f g (numbered (suc n) r) a (u .shows) (numbered (suc n + length (labels r)) s) b x h beyond o;
         }
 
     pub builds-joining : {x : Built} {k : List (List Bool)} → Joined a b x h k → Builds n (joining r s) e₁ f k old new x
@@ -120,7 +120,7 @@ module _ {n : ℕ} {r : Opened} {e : ℕ} {f g : List (List Bool)} {old mid : Li
         record {
           ends = o .ends ∙ v .ends;
           stored = rw (o .counts) (stored-then (u .stored) (v .stored));
-          shows = shows-joint f g (numbered (suc n) r) a (u .shows) (numbered (suc n + length (labels r)) s) b x h behind k o;
+          shows = shows-joint f g (numbered (suc n) r) a (u .shows) (numbered (suc n + length (labels r)) s) b x h beyond k o;
         }
 
   pub builds-spared : (s : Bool) {x : Built} {e₁ : ℕ} → Spared a s e₁ x → Builds n (spared s r) e₁ f g old mid x

@@ -6,7 +6,7 @@ use native.Mathlib.Omega.{arith}
 use lib.ListN.{length, getD, take, drop, set, length-map}
 use lib.Seq.{getD-take, length-take-le}
 use Rattle.lists.specs.EachLaws.{each-at, drop-here, drop-all}
-use Rattle.lists.specs.WrittenLaws.{written-behind}
+use Rattle.lists.specs.WrittenLaws.{written-beyond}
 use Rattle.lists.specs.FillingLoops.{Filling, filling-none, filling-more, filling-all, filling-length}
 use Rattle.read_spelling.specs.Spelling.{characters}
 use Rattle.read_spelling.specs.InPlace.{Labels, Spelt}
@@ -33,7 +33,7 @@ module _ (A before : List ℕ) (n : ℕ) (labels : Labels A before n) where
           let s = size in
           let w = f .within in
           let l = length-take-le i (characters A (take n before)) w in
-          ap (λ m. getD m i 0) (f .so-far) ∙ written-behind 0 (take i (characters A (take n before))) before i (omega arith)
+          ap (λ m. getD m i 0) (f .so-far) ∙ written-beyond 0 (take i (characters A (take n before))) before i (omega arith)
 
       pub label-fits : (1 ≤ getD before i 0) × (getD before i 0 ≤ length A)
       label-fits =

@@ -157,8 +157,8 @@ module _ (A : List ℕ) (d : ℕ) where
         }
 
     -- the fault is right after the tree: a bad repetition, a missing `)`, or anything else that may not be there
-    pub stop-behind : (m : Mode) → Front A m d s t s₁ → Here s₁ n r → Stop A m d s n r
-    stop-behind m f h =
+    pub stop-beyond : (m : Mode) → Front A m d s t s₁ → Here s₁ n r → Stop A m d s n r
+    stop-beyond m f h =
         record {
           front = f .front;
           splits = f .splits ∙ ap (λ (l : List ℕ). f .front ++ l) (sym h);

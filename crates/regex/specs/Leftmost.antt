@@ -10,7 +10,7 @@ use Rattle.regex.specs.Tree.{Tree}
 use Rattle.regex.specs.Parsing.{fault}
 use Rattle.regex.specs.Parse.{m-alternation, parse, whole, expressionOf}
 use Rattle.regex.specs.SaysLaws.{Says, of-fault, then-says}
-use Rattle.regex.specs.FrontLaws.{Front, Stop, stop-behind}
+use Rattle.regex.specs.FrontLaws.{Front, Stop, stop-beyond}
 use Rattle.regex.specs.Sound.{parse-sound}
 use Rattle.regex.specs.Exact.{exact}
 use Rattle.regex.specs.PlacesLaws.{refused-at}
@@ -28,11 +28,11 @@ leftmost A l s n r e =
       begins = stop .begins l;
     }
   where
-    behind : (t : Tree) (r : List ℕ) → Front A m-alternation 16 s t r → Says (λ t r. Unit {0}) (Stop A m-alternation 16 s) (whole t r)
-    behind t [] f = tt
-    behind t (b ∷ r) f = stop-behind A 16 s t (b ∷ r) _ (b ∷ r) m-alternation f refl
+    beyond : (t : Tree) (r : List ℕ) → Front A m-alternation 16 s t r → Says (λ t r. Unit {0}) (Stop A m-alternation 16 s) (whole t r)
+    beyond t [] f = tt
+    beyond t (b ∷ r) f = stop-beyond A 16 s t (b ∷ r) _ (b ∷ r) m-alternation f refl
 
     expression-stops : Says (λ t r. Unit {0}) (Stop A m-alternation 16 s) (expressionOf A s)
     expression-stops =
         then-says (Front A m-alternation 16 s) _ (Stop A m-alternation 16 s) _ (parse A m-alternation 16 s) whole
-        (parse-sound A m-alternation 16 s) (λ n r h. h) behind
+        (parse-sound A m-alternation 16 s) (λ n r h. h) beyond

@@ -13,7 +13,7 @@ use Rattle.regex.specs.Parse.{Mode, m-alternation, m-branch, m-piece, m-
 use Rattle.regex.specs.SaysLaws.{Says, branch-says, then-says}
 use Rattle.regex.specs.OwnSetsLaws.{labelled-set-says}
 use Rattle.regex.specs.OwnCountsLaws.{repetition-says}
-use Rattle.regex.specs.FrontLaws.{Front, Stop, looser, stop-looser, stop-here, stop-behind, either-front, either-stop, join-front, join-stop, times-front, set-front, group-front, group-stop}
+use Rattle.regex.specs.FrontLaws.{Front, Stop, looser, stop-looser, stop-here, stop-beyond, either-front, either-stop, join-front, join-stop, times-front, set-front, group-front, group-stop}
 
 -- A step is sound if those that it calls are.
 module _ (A : List ℕ) where
@@ -28,7 +28,7 @@ module _ (A : List ℕ) where
         then-says _ _ _ (Stop A m-group (suc d) s) (f m-alternation d (rest s)) _ (h m-alternation d (rest s)) (λ n r g. group-stop A d s n r k g)
         (λ t s₁ g. branch-says (Front A m-group (suc d) s) (Stop A m-group (suc d) s) (next ")" s₁) _ _
         (λ e. group-front A d s t s₁ k g e)
-        (λ e. group-stop A d s _ s₁ k (stop-behind A d (rest s) t s₁ _ s₁ m-alternation g refl)))
+        (λ e. group-stop A d s _ s₁ k (stop-beyond A d (rest s) t s₁ _ s₁ m-alternation g refl)))
 
     step-sound : Sound (step A f)
     unfolding step
@@ -48,7 +48,7 @@ module _ (A : List ℕ) where
         then-says _ _ _ (Stop A m-piece d s) (f m-group d s) _ (h m-group d s) (stop-looser A d m-group m-piece s (omega arith))
         (λ t s₁ g. branch-says (Front A m-piece d s) (Stop A m-piece d s) (repeats s₁) _ _
         (λ k. then-says _ _ _ (Stop A m-piece d s) (repetition s₁) _ (repetition-says s₁)
-        (λ n r e. stop-behind A d s t s₁ n r m-piece (looser A d m-group m-piece s (omega arith) t s₁ g) e) (λ c r e. times-front A d s t s₁ c r g e))
+        (λ n r e. stop-beyond A d s t s₁ n r m-piece (looser A d m-group m-piece s (omega arith) t s₁ g) e) (λ c r e. times-front A d s t s₁ c r g e))
         (λ k. looser A d m-group m-piece s (omega arith) t s₁ g))
     step-sound m-group d s =
         branch-says (Front A m-group d s) (Stop A m-group d s) (next "(" s) _ _ (grouped-sound d s)

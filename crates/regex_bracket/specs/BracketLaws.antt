@@ -51,9 +51,9 @@ module _ (text : List ℕ) (first : ℕ) where
   unfolding closing
   closing-other e = rw (ne-eqb (getD text first 0) (code "]") e)
 
-  closing-behind : first ≤ closing text first
+  closing-beyond : first ≤ closing text first
   unfolding closing
-  closing-behind = by (eqb (getD text first 0) (code "]"))
+  closing-beyond = by (eqb (getD text first 0) (code "]"))
     where
       by : (t : Bool) → first ≤ cond t (first + 1 + until (code "]") (drop (first + 1) text)) (first + until (code "]") (drop first text))
       by true = omega arith
@@ -140,7 +140,7 @@ between text first e = take (e - first) (drop first text)
 
 module _ {text : List ℕ} {at first e : ℕ} (b : Bracket text at first e) where
   pub bracket-order : first ≤ e
-  bracket-order = rw (b .closes) (closing-behind text first)
+  bracket-order = rw (b .closes) (closing-beyond text first)
 
   unclosed : length text ≤ e → bracketAt text at ≡ fault refusal.Bracket (drop at text)
   unfolding inside enclosed then

@@ -115,8 +115,8 @@ module _ (inside : List ℕ) (i : ℕ) where
 
 -- What is left of a bracket's inside at index i.
 module _ (inside : List ℕ) (i : ℕ) where
-  abbrev pub behind : ℕ
-  behind = i + width (drop i inside)
+  abbrev pub beyond : ℕ
+  beyond = i + width (drop i inside)
 
   width-some : 1 ≤ width (drop i inside)
   unfolding width
@@ -126,7 +126,7 @@ module _ (inside : List ℕ) (i : ℕ) where
       by true = omega arith
       by false = omega arith
 
-  width-within : i < length inside → behind ≤ length inside
+  width-within : i < length inside → beyond ≤ length inside
   unfolding width
   width-within l = by (ranges (drop i inside)) refl
     where
@@ -140,9 +140,9 @@ module _ (inside : List ℕ) (i : ℕ) where
   -- the item at i and the items after it
   left-item :
       i < length inside →
-      left inside i ≡ provided (fits (eqb i 0) (drop i inside)) (with (range (getD inside i 0) (upto (drop i inside))) (left inside behind))
+      left inside i ≡ provided (fits (eqb i 0) (drop i inside)) (with (range (getD inside i 0) (upto (drop i inside))) (left inside beyond))
   left-item l =
-      let n : eqb behind 0 ≡ false = ne-eqb behind 0 (λ z. omega (arith, width-some)) in
+      let n : eqb beyond 0 ≡ false = ne-eqb beyond 0 (λ z. omega (arith, width-some)) in
       items-of (eqb i 0) (drop i inside) (getD inside i 0) (drop (i + 1) inside) (drop-here 0 inside i l)
       ∙ rw (n, drop-drop (width (drop i inside)) i inside)
 
@@ -152,9 +152,9 @@ module _ (inside : List ℕ) (i : ℕ) where
     unfolding provided
     left-spoilt e = ap is-some (left-item l) ∙ rw e
 
-    pub left-more : fits (eqb i 0) (drop i inside) ≡ true → is-some (left inside i) ≡ is-some (left inside behind)
+    pub left-more : fits (eqb i 0) (drop i inside) ≡ true → is-some (left inside i) ≡ is-some (left inside beyond)
     unfolding provided
-    left-more e = ap is-some (left-item l) ∙ rw e (by (left inside behind))
+    left-more e = ap is-some (left-item l) ∙ rw e (by (left inside beyond))
       where
         by : (x : Option (List Range)) → is-some (with (range (getD inside i 0) (upto (drop i inside))) x) ≡ is-some x
         by none = refl
@@ -168,14 +168,14 @@ module _ (inside : List ℕ) (i : ℕ) where
         by false e = let z : _≡_ {A = Bool} true false = sym h ∙ left-spoilt e in sym z
 
     -- where all are well formed, so are the later ones, and a member is in this item's range or in one of theirs
-    pub some-more : is-some (left inside i) ≡ true → is-some (left inside behind) ≡ true
+    pub some-more : is-some (left inside i) ≡ true → is-some (left inside beyond) ≡ true
     some-more h = sym (left-more (fits-some h)) ∙ h
 
     among-more :
         (b : ℕ) → is-some (left inside i) ≡ true →
-        among (listed (left inside i)) b ≡ (within (range (getD inside i 0) (upto (drop i inside))) b || among (listed (left inside behind)) b)
+        among (listed (left inside i)) b ≡ (within (range (getD inside i 0) (upto (drop i inside))) b || among (listed (left inside beyond)) b)
     unfolding provided
-    among-more b h = ap (λ x. among (listed x) b) (left-item l) ∙ rw (fits-some h) (by (left inside behind) (some-more h))
+    among-more b h = ap (λ x. among (listed x) b) (left-item l) ∙ rw (fits-some h) (by (left inside beyond) (some-more h))
       where
         by :
             (x : Option (List Range)) → is-some x ≡ true →
@@ -190,7 +190,7 @@ module _ (inside : List ℕ) (i : ℕ) where
 
       pub among-past :
           within (range (getD inside i 0) (upto (drop i inside))) b ≡ false →
-          among (listed (left inside i)) b ≡ among (listed (left inside behind)) b
+          among (listed (left inside i)) b ≡ among (listed (left inside beyond)) b
       among-past e = among-more b h ∙ rw e
 
   module _ (l : length inside ≤ i) where

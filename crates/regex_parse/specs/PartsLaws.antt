@@ -15,7 +15,7 @@ use Rattle.regex.specs.Sound.{parse-sound}
 use Rattle.regex.specs.StepsLaws.{parse-forward}
 use Rattle.regex_set.specs.declared.Part.{Part}
 use Rattle.regex_set.specs.declared.Part.the-variants as part
-use Rattle.text.specs.TextLaws.{behind}
+use Rattle.text.specs.TextLaws.{beyond}
 use Rattle.text.specs.Places.{place}
 use Rattle.regex_set.specs.Answers.{partOf}
 
@@ -41,7 +41,7 @@ module _ (A text : List ℕ) where
           let f : Front A m d s t r = of-found (Front A m d s) (Stop A m d s) (parse A m d s) t r (parse-sound A m d s) k in
           let l = parse-forward A m d (drop at text) t r k in
           let n₁ = length-drop at text in
-          let b = behind text at (f .front) r (omega arith) (f .splits) in
+          let b = beyond text at (f .front) r (omega arith) (f .splits) in
           let q : e ≡ place text r = cc in
           record {
             tree = t;

@@ -71,8 +71,8 @@ fn counts(inside: &[u8], end: usize) -> Repeats
         return range(n, n, end);
     }
     let n = number(&inside[..comma]);
-    let behind = comma + 1;
-    let m = &inside[behind..];
+    let beyond = comma + 1;
+    let m = &inside[beyond..];
     if m.len() != 0 {
         return range(n, number(m), end);
     }

@@ -33,7 +33,7 @@ drop-sets n [] m i l = refl
 drop-sets n (v ∷ c) m i l = drop-sets n c (set m i v) (suc i) (omega arith) ∙ drop-set-lt n m i v (omega arith)
 
 pub spoilt-none : (m : List ℕ) → Spoilt m m
-spoilt-none m = record { size = refl; behind = refl }
+spoilt-none m = record { size = refl; beyond = refl }
 
 -- what was stored before place 16,384 is spoilt too
 pub spoilt-stored :
@@ -42,7 +42,7 @@ spoilt-stored c n f before middle after s l h =
     let e = s .next in
     record {
       size = h .size ∙ stored-size s;
-      behind = h .behind ∙ ap (drop 16384) (s .memory) ∙ drop-sets 16384 c before n (omega arith);
+      beyond = h .beyond ∙ ap (drop 16384) (s .memory) ∙ drop-sets 16384 c before n (omega arith);
     }
 
 beside-some : (v : ℕ) (c : List ℕ) (o : Option (List (List ℕ))) → beside (some v) (both (some c) o) ≡ both (some (v ∷ c)) o

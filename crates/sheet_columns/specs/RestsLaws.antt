@@ -53,13 +53,13 @@ cost-columns input at v e h =
 first-cost : (input : List ℕ) (at : ℕ) (f : FirstCost (drop at input)) → CostAt input at (at + length (f .text)) (f .cost)
 first-cost input at f =
     let k : at + length (f .text) - at ≡ length (f .text) = omega arith in
-    let rest = f .separator ∷ f .behind in
+    let rest = f .separator ∷ f .beyond in
     let n = ap length (f .splits) ∙ length-append (f .text) rest in
     let m = length-drop at input in
     let b : getD input (at + length (f .text)) 0 ≡ f .separator =
     sym (getD-drop at input (length (f .text)) 0)
     ∙ ap (λ s. getD s (length (f .text)) 0) (f .splits)
-    ∙ getD-append-seam (f .text) (f .separator) (f .behind) 0 in
+    ∙ getD-append-seam (f .text) (f .separator) (f .beyond) 0 in
     let p : part at (at + length (f .text)) input ≡ f .text =
     ap (λ j. take j (drop at input)) k ∙ ap (take (length (f .text))) (f .splits) ∙ take-append-seam (f .text) rest in
     record {

@@ -19,7 +19,7 @@ use Rattle.sheet_columns.specs.declared.Columns.the-variants as columns
 -- The first 16,384 places may hold anything, and the rest of the memory is unchanged.
 pub record Spoilt (before after : List ℕ) : Type 0 where
   pub size : length after ≡ length before
-  pub behind : drop 16384 after ≡ drop 16384 before
+  pub beyond : drop 16384 after ≡ drop 16384 before
 
 -- One column line.
 

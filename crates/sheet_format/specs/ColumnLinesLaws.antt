@@ -102,9 +102,9 @@ lines-none = refl
 
 -- a text whose lines are known begins with the first of them
 pub record FirstLine (s l : List ℕ) (ls : List (List ℕ)) : Type 0 where
-  pub behind : List ℕ
-  pub splits : s ≡ l ++ (10 ∷ behind)
-  pub others : linesOf behind ≡ some ls
+  pub beyond : List ℕ
+  pub splits : s ≡ l ++ (10 ∷ beyond)
+  pub others : linesOf beyond ≡ some ls
 
 pub lines-back : (s l : List ℕ) (ls : List (List ℕ)) → linesOf s ≡ some (l ∷ ls) → FirstLine s l ls
 unfolding longer both
@@ -118,7 +118,7 @@ lines-back (b ∷ s) l ls e =
     ends (some ms) p q h =
         let k : [] ≡ l = cc in
         let m : ms ≡ ls = cc in
-        record { behind = s; splits = ap (λ a. a ∷ s) q ∙ ap (λ x. x ++ (10 ∷ s)) k; others = p ∙ ap some m }
+        record { beyond = s; splits = ap (λ a. a ∷ s) q ∙ ap (λ x. x ++ (10 ∷ s)) k; others = p ∙ ap some m }
 
     goes-on :
         (o : Option (List (List ℕ))) → ((m : List ℕ) (ms : List (List ℕ)) → o ≡ some (m ∷ ms) → FirstLine s m ms)
@@ -130,8 +130,8 @@ lines-back (b ∷ s) l ls e =
         let n : ms ≡ ls = cc in
         let f = ih m ms refl in
         record {
-          behind = f .behind;
-          splits = ap (λ x. b ∷ x) (f .splits) ∙ ap (λ x. x ++ (10 ∷ f .behind)) k;
+          beyond = f .beyond;
+          splits = ap (λ x. b ∷ x) (f .splits) ∙ ap (λ x. x ++ (10 ∷ f .beyond)) k;
           others = f .others ∙ ap some n;
         }
 
@@ -240,8 +240,8 @@ pub record FirstCost (s : List ℕ) : Type 0 where
   pub text : List ℕ
   pub cost : ℕ
   pub separator : ℕ
-  pub behind : List ℕ
-  pub splits : s ≡ text ++ (separator ∷ behind)
+  pub beyond : List ℕ
+  pub splits : s ≡ text ++ (separator ∷ beyond)
   pub is-cost : costOf text ≡ some cost
   pub is-separator : (separator ≡ 32) ⊎ (separator ≡ 10)
 
@@ -259,8 +259,8 @@ columnsIn-back s c cs e = by (linesOf s) refl e
           text = o .first;
           cost = x .0;
           separator = 10;
-          behind = f .behind;
-          splits = f .splits ∙ ap (λ t. t ++ (10 ∷ f .behind)) q;
+          beyond = f .beyond;
+          splits = f .splits ∙ ap (λ t. t ++ (10 ∷ f .beyond)) q;
           is-cost = x .1;
           is-separator = inr refl;
         })
@@ -269,8 +269,8 @@ columnsIn-back s c cs e = by (linesOf s) refl e
           text = o .first;
           cost = x .0;
           separator = 32;
-          behind = r .0 ++ (10 ∷ f .behind);
-          splits = f .splits ∙ ap (λ t. t ++ (10 ∷ f .behind)) (r .1) ∙ append-assoc (o .first) (32 ∷ r .0) (10 ∷ f .behind);
+          beyond = r .0 ++ (10 ∷ f .beyond);
+          splits = f .splits ∙ ap (λ t. t ++ (10 ∷ f .beyond)) (r .1) ∙ append-assoc (o .first) (32 ∷ r .0) (10 ∷ f .beyond);
           is-cost = x .1;
           is-separator = inl refl;
         })

@@ -77,24 +77,24 @@ module _ (input : List ℕ) (S : Sheet) (is : sheetOf input ≡ some S) where
   first : FirstLine input (S .alphabet) (S .text ∷ lines .others)
   first = lines-back input (S .alphabet) (S .text ∷ lines .others) (lines .are)
 
-  second : FirstLine (first .behind) (S .text) (lines .others)
-  second = lines-back (first .behind) (S .text) (lines .others) (first .others)
+  second : FirstLine (first .beyond) (S .text) (lines .others)
+  second = lines-back (first .beyond) (S .text) (lines .others) (first .others)
 
   -- the alphabet line, the expression line and their newlines are within the input
   pub sheet-within : length (S .alphabet) + 1 + length (S .text) + 1 ≤ length input
   sheet-within =
-      let n = ap length (first .splits) ∙ length-append (S .alphabet) (10 ∷ first .behind) in
-      let m = ap length (second .splits) ∙ length-append (S .text) (10 ∷ second .behind) in
+      let n = ap length (first .splits) ∙ length-append (S .alphabet) (10 ∷ first .beyond) in
+      let m = ap length (second .splits) ∙ length-append (S .text) (10 ∷ second .beyond) in
       omega arith
 
   pub sheet-alphabet : take (length (S .alphabet)) input ≡ S .alphabet
-  sheet-alphabet = ap (take (length (S .alphabet))) (first .splits) ∙ take-append-seam (S .alphabet) (10 ∷ first .behind)
+  sheet-alphabet = ap (take (length (S .alphabet))) (first .splits) ∙ take-append-seam (S .alphabet) (10 ∷ first .beyond)
 
   pub sheet-text : take (length (S .text)) (drop (length (S .alphabet) + 1) input) ≡ S .text
   sheet-text =
       ap (take (length (S .text)))
-      (ap (drop (length (S .alphabet) + 1)) (first .splits) ∙ drop-append-add (S .alphabet) (10 ∷ first .behind) 1 ∙ second .splits)
-      ∙ take-append-seam (S .text) (10 ∷ second .behind)
+      (ap (drop (length (S .alphabet) + 1)) (first .splits) ∙ drop-append-add (S .alphabet) (10 ∷ first .beyond) 1 ∙ second .splits)
+      ∙ take-append-seam (S .text) (10 ∷ second .beyond)
 
   pub sheet-costs : length (matrixOf S .costs) ≤ 16384
   sheet-costs = lines .few

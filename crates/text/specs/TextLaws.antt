@@ -114,13 +114,13 @@ pub place-drop : (text : List ℕ) (e : ℕ) → e ≤ length text → place tex
 place-drop text e l = let n = length-drop e text in omega arith
 
 -- r is the rest after u, which begins at a place
-pub record Behind (text : List ℕ) (at : ℕ) (u r : List ℕ) : Type 0 where
+pub record Beyond (text : List ℕ) (at : ℕ) (u r : List ℕ) : Type 0 where
   pub rests : drop (place text r) text ≡ r
   pub ahead : place text r ≡ at + length u
   pub ends : place text r ≤ length text
 
-pub behind : (text : List ℕ) (at : ℕ) (u r : List ℕ) → at ≤ length text → drop at text ≡ u ++ r → Behind text at u r
-behind text at u r l e =
+pub beyond : (text : List ℕ) (at : ℕ) (u r : List ℕ) → at ≤ length text → drop at text ≡ u ++ r → Beyond text at u r
+beyond text at u r l e =
     let n : length text - at ≡ length u + length r = sym (length-drop at text) ∙ ap length e ∙ length-append u r in
     let p : place text r ≡ at + length u = omega arith in
     record {

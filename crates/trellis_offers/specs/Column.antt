@@ -28,7 +28,7 @@ pub record CandidatesBelow (f costs : List ℕ) (at : ℕ) (work : List ℕ) (ne
   pub good : Candidates cs
   pub is : (j : ℕ) → 1 ≤ j → j < n → candidate cs j ≡ onward f costs at work next j
   pub front : candidate cs 0 ≡ 0
-  pub behind : (j : ℕ) → n ≤ j → candidate cs j ≡ 0
+  pub beyond : (j : ℕ) → n ≤ j → candidate cs j ≡ 0
 
 -- the candidates of all letters
 abbrev pub CandidatesOf : (f costs : List ℕ) (at : ℕ) (work : List ℕ) (next : ℕ) (cs : List ℕ) → Type 0

@@ -24,7 +24,7 @@ module _ (f costs : List ℕ) (at : ℕ) (work : List ℕ) (next : ℕ) where
         good = record { size = length-replicate {A = ℕ} 128 0; top = λ j. let e = zeros 128 0 j in omega arith };
         is = λ j l h. absurd (omega arith);
         front = zeros 128 0 0;
-        behind = λ j h. zeros 128 0 j;
+        beyond = λ j h. zeros 128 0 j;
       }
 
   pub candidates-more :
@@ -35,7 +35,7 @@ module _ (f costs : List ℕ) (at : ℕ) (work : List ℕ) (next : ℕ) where
         good = record { size = length-set cs n c ∙ b .good .size; top = λ j. top j (eq-or-ne j n) };
         is = λ j l m. is j l m (eq-or-ne j n);
         front = getD-set-other cs n 0 c 0 (λ q. omega arith) ∙ b .front;
-        behind = λ j m. getD-set-other cs n j c 0 (λ q. omega arith) ∙ b .behind j (omega arith);
+        beyond = λ j m. getD-set-other cs n j c 0 (λ q. omega arith) ∙ b .beyond j (omega arith);
       }
     where
       here : getD (set cs n c) n 0 ≡ c

@@ -7,7 +7,7 @@ use native.Mathlib.Omega.{arith}
 use lib.ListN.{length, getD, set, length-set}
 use lib.Seq.{getD-set-same, getD-set-other}
 use Rattle.lists.specs.OrderLaws.{eq-or-ne}
-use Rattle.lists.specs.OutsideLaws.{outside-none, outside-set, outside-then, outside-wider, front-at, behind-at}
+use Rattle.lists.specs.OutsideLaws.{outside-none, outside-set, outside-then, outside-wider, front-at, beyond-at}
 use Rattle.lists.specs.Stored.{Outside}
 use Rattle.automaton.specs.Form.{lettersOf}
 use Rattle.trellis.specs.Impossible.{plus}
@@ -44,7 +44,7 @@ module _ (f cs : List ℕ) (blank : ℕ) (before : List ℕ) (here next : ℕ) (
   -- the row of the next column stays as it was
   module _ (work : List ℕ) (outside : Outside (here + 1) (here + states f) before work) where
     pub next-at : (s : ℕ) → getD work (next + s) 0 ≡ getD before (next + s) 0
-    next-at s = behind-at 0 (next + s) outside (omega arith)
+    next-at s = beyond-at 0 (next + s) outside (omega arith)
 
     pub bounded-kept : Bounded f before next → Bounded f work next
     bounded-kept b =

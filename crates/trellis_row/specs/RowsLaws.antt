@@ -37,7 +37,7 @@ start-inside after r size = let a = r .apart in let b = r .ahead .row .room in o
 
 -- if the row of the next column is at `next`, the row at `here` is that of the column at `at`
 module _ {f : List ℕ} (valid : Valid f) {costs : List ℕ} {at : ℕ} {before after : List ℕ} {here next : ℕ} (filled : RowFilled f costs at before after here next)
-    (M : Matrix) (t n : ℕ) (column : ColumnAt M t costs at) (behind : Row (view f) M before next (t + 1) n) where
+    (M : Matrix) (t n : ℕ) (column : ColumnAt M t costs at) (beyond : Row (view f) M before next (t + 1) n) where
   paid : (j : ℕ) → 1 ≤ j → j ≤ lettersOf f → onward f costs at before next j ≡ plus (cost M t (labelOf f j)) (getD before (next + (2 * j - 1)) 0)
   paid j l h = ap (λ c. plus c (getD before (next + (2 * j - 1)) 0)) (sym (column (labelOf f j)))
 
@@ -49,13 +49,13 @@ module _ {f : List ℕ} (valid : Valid f) {costs : List ℕ} {at : ℕ} {before 
   in-blanks i h =
       let c = filled .blanks i h in
       subst (CostToGo (extended (view f)) M t (n + 1) (2 * i)) (ap (λ r. min r (c .all)) (rests i) ∙ sym (c .is))
-      (blanks-cell (valid-proper f valid) M t n (λ s. getD before (next + s) 0) (onward f costs at before next) behind paid i (c .all) h (c .along))
+      (blanks-cell (valid-proper f valid) M t n (λ s. getD before (next + s) 0) (onward f costs at before next) beyond paid i (c .all) h (c .along))
 
   on-letter : (i : ℕ) → 1 ≤ i → i ≤ lettersOf f → CostToGo (extended (view f)) M t (n + 1) (2 * i - 1) (getD after (here + (2 * i - 1)) 0)
   on-letter i low h =
       let c = filled .on i low h in
       subst (CostToGo (extended (view f)) M t (n + 1) (2 * i - 1)) (ap₂ (λ a b. min (min a b) (c .other)) (sym (paid i low h)) (rests i) ∙ sym (c .is))
-      (letter-cell (valid-proper f valid) M t n (λ s. getD before (next + s) 0) (onward f costs at before next) behind paid i (c .other) low h (c .along))
+      (letter-cell (valid-proper f valid) M t n (λ s. getD before (next + s) 0) (onward f costs at before next) beyond paid i (c .other) low h (c .along))
 
   at-state : (s i : ℕ) → s ≤ 2 * lettersOf f → AtLetter i s → CostToGo (extended (view f)) M t (n + 1) s (getD after (here + s) 0)
   at-state s i h (inr e) = rw e (in-blanks i (omega arith))

@@ -20,7 +20,7 @@ use Rattle.trellis.specs.Extended.{stay, pass, arc, rest, leave}
 use Rattle.trellis.specs.ExtendedLaws.{AtLetter, at-letter}
 use Rattle.trellis.specs.Reached.{entering, Reached}
 use Rattle.trellis.specs.ReachedLaws.{entering-blanks, entering-letter}
-use Rattle.trellis_steps.specs.Steps.{Onto, OtherLetter, Led, Behind, TargetOf, From}
+use Rattle.trellis_steps.specs.Steps.{Onto, OtherLetter, Led, Following, TargetOf, From}
 
 -- a state is entered by the blank or by a label of the alphabet
 pub entering-high : (f : List ℕ) → Valid f → (u : ℕ) → u ≤ 2 * lettersOf f → entering (view f) u ≤ alphabetOf f
@@ -35,7 +35,7 @@ entering-high f valid u h = by (at-letter u)
 
 module _ {k : ℕ} {A : Automaton} (proper : Proper k A) (i s u : ℕ) where
   -- a step from a state on letter i or in the blanks after it; in blanks `own` is the blank, which no letter has
-  onto : AtLetter i s → ((u ≡ s) ⊎ (u ≡ 2 * i)) ⊎ Behind A (entering A s) i u → Onto A s u
+  onto : AtLetter i s → ((u ≡ s) ⊎ (u ≡ 2 * i)) ⊎ Following A (entering A s) i u → Onto A s u
   onto (inl o) (inl (inl e)) = stay i o (entering-letter A i u (omega arith)) (omega arith)
   onto (inl o) (inl (inr e)) = pass i o (entering-blanks A i u e) e
   onto (inl o) (inr (j, (f, (d, n)))) = arc i j o f (λ z. n (sym z ∙ sym (entering-letter A i s o))) (entering-letter A j u d) d
@@ -49,7 +49,7 @@ module _ {k : ℕ} {A : Automaton} (proper : Proper k A) (i s u : ℕ) where
   same m (inr o) (inl d) = absurd (omega arith)
   same m (inr o) (inr d) = omega arith
 
-  onto-only : AtLetter i s → Onto A s u → ((u ≡ s) ⊎ (u ≡ 2 * i)) ⊎ Behind A (entering A s) i u
+  onto-only : AtLetter i s → Onto A s u → ((u ≡ s) ⊎ (u ≡ 2 * i)) ⊎ Following A (entering A s) i u
   onto-only o (stay m d e d′) = inl (inl (omega arith))
   onto-only o (pass m d e d′) = let z = same m o (inl d) in inl (inr (omega arith))
   onto-only o (arc m j d f n e d′) = let z = same m o (inl d) in inr (j, (rw z at f, (d′, λ q. n (sym (q ∙ entering-letter A m s d)))))
@@ -82,20 +82,20 @@ module _ (A : Automaton) (own j : ℕ) (set : List Bool) where
 -- All letters that may follow letter i: the first letters where i is 0, else the targets of its arcs.
 
 module _ (f : List ℕ) (valid : Valid f) (own : ℕ) (set after : List Bool) where
-  pub firsts-marked : Marks (Iterations (Led (view f) own 0) 1 (lettersOf f + 1)) set after → Marks (Behind (view f) own 0) set after
-  firsts-marked = marks-same (Iterations (Led (view f) own 0) 1 (lettersOf f + 1)) (Behind (view f) own 0) set after there back
+  pub firsts-marked : Marks (Iterations (Led (view f) own 0) 1 (lettersOf f + 1)) set after → Marks (Following (view f) own 0) set after
+  firsts-marked = marks-same (Iterations (Led (view f) own 0) 1 (lettersOf f + 1)) (Following (view f) own 0) set after there back
     where
-      there : (u : ℕ) → Iterations (Led (view f) own 0) 1 (lettersOf f + 1) u → Behind (view f) own 0 u
+      there : (u : ℕ) → Iterations (Led (view f) own 0) 1 (lettersOf f + 1) u → Following (view f) own 0 u
       there u (j, low, high, q) = (j, q)
 
-      back : (u : ℕ) → Behind (view f) own 0 u → Iterations (Led (view f) own 0) 1 (lettersOf f + 1) u
+      back : (u : ℕ) → Following (view f) own 0 u → Iterations (Led (view f) own 0) 1 (lettersOf f + 1) u
       back u (j, q) = let t = follow-target f valid 0 j (q .0) in (j, t .0, (let h = t .1 in omega arith), q)
 
   module _ (i b e : ℕ) (letter : 1 ≤ i) (first : StartsAt f i b) (next : StartsAt f (i + 1) e) where
-    pub targets-marked : Marks (Iterations (TargetOf f own) b e) set after → Marks (Behind (view f) own i) set after
-    targets-marked = marks-same (Iterations (TargetOf f own) b e) (Behind (view f) own i) set after there back
+    pub targets-marked : Marks (Iterations (TargetOf f own) b e) set after → Marks (Following (view f) own i) set after
+    targets-marked = marks-same (Iterations (TargetOf f own) b e) (Following (view f) own i) set after there back
       where
-        there : (u : ℕ) → Iterations (TargetOf f own) b e u → Behind (view f) own i u
+        there : (u : ℕ) → Iterations (TargetOf f own) b e u → Following (view f) own i u
         there u (n, low, high, q) =
             let p = first .past in
             let h = next .inside in
@@ -103,7 +103,7 @@ module _ (f : List ℕ) (valid : Valid f) (own : ℕ) (set after : List Bool) wh
             record { index = n; past = omega arith; inside = omega arith; from = range-source f i b e first next n low high; to = refl } in
             (target (getD f n 0), (arc-follow f i (target (getD f n 0)) letter a, q))
 
-        back : (u : ℕ) → Behind (view f) own i u → Iterations (TargetOf f own) b e u
+        back : (u : ℕ) → Following (view f) own i u → Iterations (TargetOf f own) b e u
         back u (j, (g, q)) =
             let a = follow-arc f i j letter g in
             let r = source-range f i b e first next (a .index) (a .past) (a .inside) (a .from) in
@@ -113,15 +113,15 @@ module _ (f : List ℕ) (valid : Valid f) (own : ℕ) (set after : List Bool) wh
 
 pub steps-marked :
     (f : List ℕ) → Valid f → (i s : ℕ) (set after : List Bool) → AtLetter i s → s < length set → 2 * i < length set
-    → Marks (Behind (view f) (entering (view f) s) i) (put (put set s true) (2 * i) true) after → Marks (Onto (view f) s) set after
+    → Marks (Following (view f) (entering (view f) s) i) (put (put set s true) (2 * i) true) after → Marks (Onto (view f) s) set after
 steps-marked f valid i s set after o h g m =
     let A = view f in
     let one = marks-one s set h in
     let two = marks-one (2 * i) (put set s true) (let z = one .size in omega arith) in
-    marks-same (λ u. ((u ≡ s) ⊎ (u ≡ 2 * i)) ⊎ Behind A (entering A s) i u) (Onto A s) set after
+    marks-same (λ u. ((u ≡ s) ⊎ (u ≡ 2 * i)) ⊎ Following A (entering A s) i u) (Onto A s) set after
     (λ u. onto (valid-proper f valid) i s u o)
     (λ u. onto-only (valid-proper f valid) i s u o)
-    (marks-then (λ u. (u ≡ s) ⊎ (u ≡ 2 * i)) (Behind A (entering A s) i) set (put (put set s true) (2 * i) true) after
+    (marks-then (λ u. (u ≡ s) ⊎ (u ≡ 2 * i)) (Following A (entering A s) i) set (put (put set s true) (2 * i) true) after
     (marks-then (λ u. u ≡ s) (λ u. u ≡ 2 * i) set (put set s true) (put (put set s true) (2 * i) true) one two)
     m)
 

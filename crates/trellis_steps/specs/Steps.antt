@@ -23,8 +23,8 @@ OtherLetter A own j u = OnLetter j u × (A .label j ≡ own → ⊥)
 abbrev pub Led : Automaton → (own i j u : ℕ) → Type 0
 Led A own i j u = (A .follow i j ≡ true) × OtherLetter A own j u
 
-abbrev pub Behind : Automaton → (own i u : ℕ) → Type 0
-Behind A own i u = (j : ℕ) × Led A own i j u
+abbrev pub Following : Automaton → (own i u : ℕ) → Type 0
+Following A own i u = (j : ℕ) × Led A own i j u
 
 -- the same, of the target of the arc word at n
 abbrev pub TargetOf : List ℕ → (own n u : ℕ) → Type 0

@@ -14,7 +14,7 @@ ghost use Rattle.automaton.specs.Form.{lettersOf, view};
 ghost use Rattle.automaton.specs.Valid.{Valid};
 ghost use Rattle.form_starts.specs.Starts.{StartsAt, ArcStarts};
 ghost use Rattle.trellis.specs.Reached.{entering as enteringOf, Reached};
-ghost use Rattle.trellis_steps.specs.Steps.{Onto, OtherLetter, Led, Behind, TargetOf, From, Within};
+ghost use Rattle.trellis_steps.specs.Steps.{Onto, OtherLetter, Led, Following, TargetOf, From, Within};
 
 // The label of every step into state u: the blank, or that of its letter.
 pub fn entering(form: &[u32], u: usize) -> usize
@@ -50,7 +50,7 @@ fn mark_first(form: &[u32], own: usize, j: usize, set: &mut [bool; 255])
 // Marks the states on letters that may be first, unless their label is `own`.
 fn mark_firsts(form: &[u32], own: usize, set: &mut [bool; 255])
     requires { ⌜ Valid (now form) × (length (now set) ≡ 255) ⌝ }
-    ensures { λ _. ⌜ Marks (Behind (view (old form)) own 0) (old set) (new set) ⌝ }
+    ensures { λ _. ⌜ Marks (Following (view (old form)) own 0) (old set) (new set) ⌝ }
 {
     let l = letters(form);
     let mut j = 1;
@@ -75,7 +75,7 @@ fn mark_targets(form: &[u32], own: usize, b: usize, e: usize, set: &mut [bool; 2
 // Marks the states on letters that may follow letter i, whose arcs are from b up to e, unless their label is `own`.
 fn mark_after(form: &[u32], own: usize, i: usize, b: usize, e: usize, set: &mut [bool; 255])
     requires { ⌜ Valid (now form) × StartsAt (now form) i b × StartsAt (now form) (i + 1) e × (length (now set) ≡ 255) ⌝ }
-    ensures { λ _. ⌜ Marks (Behind (view (old form)) own i) (old set) (new set) ⌝ }
+    ensures { λ _. ⌜ Marks (Following (view (old form)) own i) (old set) (new set) ⌝ }
 {
     if i == 0 {
         mark_firsts(form, own, set);

@@ -28,5 +28,5 @@ pub record RowsFilled (f : List ℕ) (M : Matrix) (before after : List ℕ) (str
 -- the table was written, and nothing after it; the answer is the cost to go of state 0 over all columns: the least price, or TOP
 pub record Filled (f : List ℕ) (M : Matrix) (before after : List ℕ) (answer : ℕ) : Type 0 where
   pub table : Table (view f) M after 0 (states f)
-  pub behind : drop ((M .count + 1) * states f) after ≡ drop ((M .count + 1) * states f) before
+  pub beyond : drop ((M .count + 1) * states f) after ≡ drop ((M .count + 1) * states f) before
   pub price : CostToGo (extended (view f)) M 0 (M .count) 0 answer

@@ -7,7 +7,7 @@ use native.Mathlib.Omega.{arith}
 use native.Mathlib.Nat.{mul-le-mul-right}
 use lib.ListN.{length, getD}
 use Rattle.lists.specs.OrderLaws.{eq-or-ne}
-use Rattle.lists.specs.OutsideLaws.{outside-none, outside-then, outside-wider, behind-at}
+use Rattle.lists.specs.OutsideLaws.{outside-none, outside-then, outside-wider, beyond-at}
 use Rattle.matrix.specs.Matrix.{Matrix}
 use Rattle.automaton.specs.Form.{alphabetOf, view}
 use Rattle.trellis.specs.Table.{Row}
@@ -71,7 +71,7 @@ module _ {f : List ℕ} (M : Matrix) (before : List ℕ) (stride : ℕ) where
               rw q (subst (Row (view f) M after (t * stride) t) m (row-next (sized .valid) r M t (n - 1) (λ x. refl) (next-row (n - 1) (omega arith))))
           by u n h e (inr d) =
               let a = mul-le-mul-right {m = t + 1} {n = u} stride (omega arith) in
-              λ s k. rw (behind-at 0 (u * stride + s) (r .outside) (omega arith)) (done .rows u n (omega arith) e s k)
+              λ s k. rw (beyond-at 0 (u * stride + s) (r .outside) (omega arith)) (done .rows u n (omega arith) e s k)
 
 -- the last row was written, and then the others
 pub filled :
@@ -80,8 +80,8 @@ pub filled :
 filled {f} M before work after last l =
     record {
       table = λ t n e. let p : 0 + t * states f ≡ t * states f = omega arith in rw p (l .rows t n (omega arith) e);
-      behind =
-          l .outside .behind
-          ∙ outside-wider 0 ((M .count + 1) * states f) (omega arith) (omega arith) (last .outside) .behind;
+      beyond =
+          l .outside .beyond
+          ∙ outside-wider 0 ((M .count + 1) * states f) (omega arith) (omega arith) (last .outside) .beyond;
       price = let p : 0 * states f + 0 ≡ 0 = omega arith in rw p at (l .rows 0 (M .count) (omega arith) (omega arith) 0 (omega arith));
     }

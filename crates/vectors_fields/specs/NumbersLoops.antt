@@ -21,14 +21,14 @@ coming h v [] = v ∷ []
 coming h v (b ∷ s) = ended b v ++ coming h (onward h v b) s
 
 -- the values of pieces, where the first piece continues the number v
-unfoldable behind : Bool → ℕ → List (List ℕ) → List ℕ
-behind h v [] = []
-behind h v (p ∷ ps) = value h v p ∷ map (value h 0) ps
+unfoldable beyond : Bool → ℕ → List (List ℕ) → List ℕ
+beyond h v [] = []
+beyond h v (p ∷ ps) = value h v p ∷ map (value h 0) ps
 
-behind-none : (h : Bool) (ps : List (List ℕ)) → behind h 0 ps ≡ map (value h 0) ps
-unfolding behind
-behind-none h [] = refl
-behind-none h (p ∷ ps) = refl
+beyond-none : (h : Bool) (ps : List (List ℕ)) → beyond h 0 ps ≡ map (value h 0) ps
+unfolding beyond
+beyond-none h [] = refl
+beyond-none h (p ∷ ps) = refl
 
 -- there is a first piece
 record Some (s : List ℕ) : Type 0 where
@@ -45,22 +45,22 @@ some-piece (b ∷ s) = by (eqb b 32) refl (some-piece s)
     by true e o = record { first = []; others = pieces 32 s; is = rw e }
     by false e o = record { first = b ∷ o .first; others = o .others; is = rw (e, o .is) }
 
-coming-pieces : (h : Bool) (v : ℕ) (s : List ℕ) → coming h v s ≡ behind h v (pieces 32 s)
-unfolding coming behind pieces onto value
+coming-pieces : (h : Bool) (v : ℕ) (s : List ℕ) → coming h v s ≡ beyond h v (pieces 32 s)
+unfolding coming beyond pieces onto value
 coming-pieces h v [] = refl
 coming-pieces h v (b ∷ s) = by (eqb b 32) (coming-pieces h 0 s) (coming-pieces h (more h v b) s) (some-piece s)
   where
     by :
-        (t : Bool) → coming h 0 s ≡ behind h 0 (pieces 32 s) → coming h (more h v b) s ≡ behind h (more h v b) (pieces 32 s) → Some s
-        → cond t (v ∷ []) [] ++ coming h (cond t 0 (more h v b)) s ≡ behind h v (cond t ([] ∷ pieces 32 s) (onto b (pieces 32 s)))
-    by true f g o = ap (λ l. v ∷ l) (f ∙ behind-none h (pieces 32 s))
+        (t : Bool) → coming h 0 s ≡ beyond h 0 (pieces 32 s) → coming h (more h v b) s ≡ beyond h (more h v b) (pieces 32 s) → Some s
+        → cond t (v ∷ []) [] ++ coming h (cond t 0 (more h v b)) s ≡ beyond h v (cond t ([] ∷ pieces 32 s) (onto b (pieces 32 s)))
+    by true f g o = ap (λ l. v ∷ l) (f ∙ beyond-none h (pieces 32 s))
     by false f g o = g ∙ rw (o .is)
 
 -- all numbers are to come where the field begins
 coming-all : (h : Bool) (s : List ℕ) → 0 < length s → numbersOf h s ≡ coming h 0 s
 unfolding numbersOf
 coming-all h [] l = absurd (omega arith)
-coming-all h (b ∷ s) l = sym (coming-pieces h 0 (b ∷ s) ∙ behind-none h (pieces 32 (b ∷ s)))
+coming-all h (b ∷ s) l = sym (coming-pieces h 0 (b ∷ s) ∙ beyond-none h (pieces 32 (b ∷ s)))
 
 module _ {A : Type 0} where
   -- a list of two parts, cut to the room there is

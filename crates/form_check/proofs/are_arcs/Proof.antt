@@ -9,18 +9,18 @@ use borrow.Author.Needs.{needs}
 use borrow.Author.Tests.{not-true, not-false}
 use Rattle.lists.specs.Each.{all}
 use Rattle.automaton.specs.Form.{isArc, ordered}
-use Rattle.form_check.specs.ChecksLaws.{behind, behind-none, behind-more, behind-bad, behind-late, behind-end}
+use Rattle.form_check.specs.ChecksLaws.{beyond, beyond-none, beyond-more, beyond-bad, beyond-late, beyond-end}
 use Rattle.form_check.proofs.are_arcs.Statement.{statement}
 use Rattle.form_check.proofs.are_arcs.Tie as tie
 
 abbrev Inv-loop : tie.InvT-loop
-Inv-loop l words last₀ n₀ last n = (n ≤ length words) × (behind l last (drop n words) ≡ (all (isArc l) words && ordered words))
+Inv-loop l words last₀ n₀ last n = (n ≤ length words) × (beyond l last (drop n words) ≡ (all (isArc l) words && ordered words))
 
 abbrev μ-loop : tie.MeasureT-loop
 μ-loop l words last₀ n₀ last n = length words - n
 
 loop-holds : tie.Need-loop-holds Inv-loop μ-loop
-loop-holds c = let a = c .before .args in (omega arith, behind-none (a .l) (now (a .words)))
+loop-holds c = let a = c .before .args in (omega arith, beyond-none (a .l) (now (a .words)))
 
 mul-w : tie.Need-mul-w Inv-loop μ-loop
 mul-w c = omega arith
@@ -35,13 +35,13 @@ returns : tie.Need-returns Inv-loop μ-loop
 returns c =
     let a = c .before .before .before .before .before .before .args in
     let l = c .before .before .before .before .loop in
-    sym (behind-bad (a .l) (now (a .words)) (l .last) (l .n) _ (l .inv .1) (omega arith) (sym (c .before .is-arc .ensures) ∙ not-true _ (c .if1 .taken)))
+    sym (beyond-bad (a .l) (now (a .words)) (l .last) (l .n) _ (l .inv .1) (omega arith) (sym (c .before .is-arc .ensures) ∙ not-true _ (c .if1 .taken)))
 
 returns-2 : tie.Need-returns-2 Inv-loop μ-loop
 returns-2 c =
     let a = c .before .before .before .before .before .before .before .args in
     let l = c .before .before .before .before .before .loop in
-    sym (behind-late (a .l) (now (a .words)) (l .last) (l .n) _ (l .inv .1) (omega arith) (sym (c .before .before .is-arc .ensures) ∙ not-false _ (c .before .if1 .left)) (c .if2 .taken))
+    sym (beyond-late (a .l) (now (a .words)) (l .last) (l .n) _ (l .inv .1) (omega arith) (sym (c .before .before .is-arc .ensures) ∙ not-false _ (c .before .if1 .left)) (c .if2 .taken))
 
 add-n : tie.Need-add-n Inv-loop μ-loop
 add-n c = omega arith
@@ -53,13 +53,13 @@ loop-again : tie.Need-loop-again Inv-loop μ-loop
 loop-again c =
     let a = c .before .before .before .before .before .before .before .args in
     let l = c .before .before .before .before .before .loop in
-    (omega arith, behind-more (a .l) (now (a .words)) (l .last) (l .n) _ (l .inv .1) (omega arith) (sym (c .before .before .is-arc .ensures) ∙ not-false _ (c .before .if1 .left)) (c .if2 .left))
+    (omega arith, beyond-more (a .l) (now (a .words)) (l .last) (l .n) _ (l .inv .1) (omega arith) (sym (c .before .before .is-arc .ensures) ∙ not-false _ (c .before .if1 .left)) (c .if2 .left))
 
 returns-3 : tie.Need-returns-3 Inv-loop μ-loop
 returns-3 c =
     let a = c .before .before .before .args in
     let l = c .before .loop in
-    sym (behind-end (a .l) (now (a .words)) (l .last) (l .n) _ (l .inv .1) (omega arith))
+    sym (beyond-end (a .l) (now (a .words)) (l .last) (l .n) _ (l .inv .1) (omega arith))
 
 pub are-arcs-spec : {M : Type 1} → statement M
 are-arcs-spec =

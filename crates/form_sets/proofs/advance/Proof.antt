@@ -9,7 +9,7 @@ use denote.Ref.{now}
 use Rattle.lists.specs.MarksLaws.{iterations-none, iterations-more}
 use Rattle.lists.specs.Marks.{Marks, Iterations}
 use Rattle.automaton.specs.Form.{lettersOf}
-use Rattle.form_sets.specs.Loops.{Left, left-behind, left-out, all-left}
+use Rattle.form_sets.specs.Loops.{Left, left-beyond, left-out, all-left}
 use Rattle.form_sets.proofs.advance.Statement.{statement}
 use Rattle.form_sets.proofs.advance.Tie as tie
 
@@ -73,7 +73,7 @@ loop-again c =
     let f = now (a .form) in
     let marks : Marks (Left f (a .x) (a .t3) (l .i)) (l .next) (c .if1 .next) =
     ⊎-elim
-    (λ w. subst (Marks (Left f (a .x) (a .t3) (l .i)) (l .next)) (sym (w .5)) (left-behind f (a .x) (a .t3) (l .next) (w .4 .last .1 .1 .1 .1 .1 .0) (l .i) (w .0 .taken) (w .4 .ensures)))
+    (λ w. subst (Marks (Left f (a .x) (a .t3) (l .i)) (l .next)) (sym (w .5)) (left-beyond f (a .x) (a .t3) (l .next) (w .4 .last .1 .1 .1 .1 .1 .0) (l .i) (w .0 .taken) (w .4 .ensures)))
     (λ w. subst (Marks (Left f (a .x) (a .t3) (l .i)) (l .next)) (sym (w .1)) (left-out f (a .x) (a .t3) (l .next) (l .i) (w .0 .left)))
     (c .if1 .came) in
     (l .inv .0, omega arith, iterations-more (Left f (a .x) (a .t3)) 0 (l .i) (replicate 128 false) (l .next) (c .if1 .next) (omega arith) (l .inv .2) marks)

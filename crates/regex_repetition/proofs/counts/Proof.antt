@@ -41,8 +41,8 @@ slice-aggregate-number c =
 number-requires-2 : tie.Need-number-requires-2
 number-requires-2 c κs = search needs
 
-add-behind : tie.Need-add-behind
-add-behind c = search needs
+add-beyond : tie.Need-add-beyond
+add-beyond c = search needs
 
 sub-m : tie.Need-sub-m
 sub-m c = search needs
@@ -106,7 +106,7 @@ counts-spec =
     returns
     slice-aggregate-number
     number-requires-2
-    add-behind
+    add-beyond
     sub-m
     part-m-start
     part-m-end

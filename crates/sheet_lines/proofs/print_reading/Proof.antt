@@ -37,8 +37,8 @@ put-number-line-requires c κs =
     front-room (whole s) (price-line s) (word-line s ++ path-line s) (now (s .args .out)) 0 refl (room (c .before .before))
 
 -- the room after the price
-behind : (c : tie.After-put-number-line) → c .put-number-line .result + length (word-line (c .before .before .before .before .before) ++ path-line (c .before .before .before .before .before)) ≤ length (c .put-number-line .last .1 .0)
-behind c =
+beyond : (c : tie.After-put-number-line) → c .put-number-line .result + length (word-line (c .before .before .before .before .before) ++ path-line (c .before .before .before .before .before)) ≤ length (c .put-number-line .last .1 .0)
+beyond c =
     let s = c .before .before .before .before .before in
     let a = c .put-number-line in
     back-room (whole s) (price-line s) (word-line s ++ path-line s) (now (s .args .out)) 0 refl (room (c .before .before .before)) (a .last .1 .0) (a .result) (a .ensures)
@@ -47,14 +47,14 @@ put-word-line-requires : tie.Need-put-word-line-requires
 put-word-line-requires c κs =
     let s = c .before .before .before .before .before .before .before .before in
     let a = c .before .before .before .put-number-line in
-    front-room (word-line s ++ path-line s) (word-line s) (path-line s) (a .last .1 .0) (a .result) refl (behind (c .before .before .before))
+    front-room (word-line s ++ path-line s) (word-line s) (path-line s) (a .last .1 .0) (a .result) refl (beyond (c .before .before .before))
 
 put-path-line-requires : tie.Need-put-path-line-requires
 put-path-line-requires c κs =
     let s = c .before .before .before .before .before .before .before .before .before .before .before .before in
     let a = c .before .before .before .before .before .before .before .put-number-line in
     let b = c .before .before .before .put-word-line in
-    back-room (word-line s ++ path-line s) (word-line s) (path-line s) (a .last .1 .0) (a .result) refl (behind (c .before .before .before .before .before .before .before)) (b .last .1 .0) (b .result) (b .ensures)
+    back-room (word-line s ++ path-line s) (word-line s) (path-line s) (a .last .1 .0) (a .result) refl (beyond (c .before .before .before .before .before .before .before)) (b .last .1 .0) (b .result) (b .ensures)
 
 same-length : tie.Need-same-length
 same-length c = search needs
@@ -69,7 +69,7 @@ returns c =
     let fits = room (c .before .before .before .before .before .before .before .before .before .before .before .before .before) in
     stored-wrote (whole s) out (p .last .1 .0) (p .result) (omega arith)
     (both-stored (whole s) (price-line s) (word-line s ++ path-line s) out 0 refl fits (a .last .1 .0) (a .result) (a .ensures) (p .last .1 .0) (p .result)
-    (both-stored (word-line s ++ path-line s) (word-line s) (path-line s) (a .last .1 .0) (a .result) refl (behind (c .before .before .before .before .before .before .before .before .before .before)) (b .last .1 .0) (b .result) (b .ensures)
+    (both-stored (word-line s ++ path-line s) (word-line s) (path-line s) (a .last .1 .0) (a .result) refl (beyond (c .before .before .before .before .before .before .before .before .before .before)) (b .last .1 .0) (b .result) (b .ensures)
     (p .last .1 .0) (p .result) (p .ensures)))
 
 pub print-reading-spec : {M : Type 1} → statement M

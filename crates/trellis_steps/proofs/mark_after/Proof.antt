@@ -5,7 +5,7 @@ use denote.Ref.{now}
 use Rattle.lists.specs.Marks.{Marks}
 use Rattle.automaton.specs.Form.{view}
 use Rattle.form_starts.specs.Loops.{range-rises}
-use Rattle.trellis_steps.specs.Steps.{Behind}
+use Rattle.trellis_steps.specs.Steps.{Following}
 use Rattle.trellis_steps.specs.Loops.{targets-marked}
 use Rattle.trellis_steps.proofs.mark_after.Statement.{statement}
 use Rattle.trellis_steps.proofs.mark_after.Tie as tie
@@ -16,7 +16,7 @@ mark-firsts-requires c κs = let p = c .before .before .before .pre in (p .0, p 
 returns : tie.Need-returns
 returns c =
     let a = c .before .before .before .before .args in
-    subst (λ i. Marks (Behind (view (now (a .form))) (a .own) i) (now (a .set)) (c .mark-firsts .last .1 .1 .0)) (sym (c .before .before .if1 .taken))
+    subst (λ i. Marks (Following (view (now (a .form))) (a .own) i) (now (a .set)) (c .mark-firsts .last .1 .1 .0)) (sym (c .before .before .if1 .taken))
     (c .mark-firsts .ensures)
 
 mark-targets-requires : tie.Need-mark-targets-requires

@@ -9,7 +9,7 @@ use borrow.Author.Needs.{needs}
 use Rattle.lists.specs.Marks.{Marks}
 use Rattle.automaton.specs.Form.{view}
 use Rattle.trellis.specs.ExtendedLaws.{at-letter}
-use Rattle.trellis_steps.specs.Steps.{Behind}
+use Rattle.trellis_steps.specs.Steps.{Following}
 use Rattle.trellis_steps.specs.Loops.{steps-marked}
 use Rattle.trellis_steps.proofs.mark_steps.Statement.{statement}
 use Rattle.trellis_steps.proofs.mark_steps.Tie as tie
@@ -61,7 +61,7 @@ returns c =
     let i = (a .s + 1) / 2 in
     let after = c .mark-after .last .1 .1 .1 .1 .1 .0 in
     steps-marked f (p .0) i (a .s) (now (a .set)) after (at-letter (a .s)) (omega arith) (omega arith)
-    (subst (λ x. Marks (Behind (view f) x i) (set (set (now (a .set)) (a .s) true) (2 * i) true) after) (c .before .before .before .before .entering .ensures) (c .mark-after .ensures))
+    (subst (λ x. Marks (Following (view f) x i) (set (set (now (a .set)) (a .s) true) (2 * i) true) after) (c .before .before .before .before .entering .ensures) (c .mark-after .ensures))
 
 pub mark-steps-spec : {M : Type 1} → statement M
 mark-steps-spec =
