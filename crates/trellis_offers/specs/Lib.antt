@@ -1,4 +1,3 @@
 pub mod Offers
 pub mod OffersLoops
-pub mod Column
-pub mod ColumnLoops
+pub mod OffersLaws

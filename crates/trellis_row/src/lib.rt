@@ -1,73 +1,102 @@
 // One row of the table of costs to go, computed from the row of the next column: the two states of each letter, and state 0.
 use form_words::letters;
-use numbers::least;
-use trellis_costs::plus;
-use trellis_offers::along_arcs;
-use trellis_offers::candidates;
-use trellis_offers::to_first;
-ghost use Prim.Native.Nat.{_+_, _≤_};
+use numbers::least_size;
+use numbers::narrow;
+use trellis_costs::sum;
+use trellis_keys::fill_keys;
+use trellis_offers::first_key;
+use trellis_offers::next_key;
+use trellis_offers::other_key;
+ghost use mathlib.Core.Path.{_≡_};
+ghost use Prim.Native.Nat.{_+_, _/_, _≤_, min};
+ghost use lib.ListN.{length};
 ghost use Rattle.lists.specs.Memory.{old, new};
 ghost use Rattle.automaton.specs.Form.{lettersOf};
-ghost use Rattle.trellis_row.specs.Letters.{Ready, LetterFilled, LettersFilled};
+ghost use Rattle.trellis_offers.specs.Offers.{FAR as far};
+ghost use Rattle.trellis_row.specs.Letters.{LetterReady, LetterFilled, LettersReady, LettersFilled};
 ghost use Rattle.trellis_row.specs.Rows.{RowReady, RowFilled};
 
-// Writes the costs to go of the two states of letter i into the row at `here`, by the row at `next`.
+// The price of a key, or `rest`, the price of a step into blanks, if that is less.
+fn price(key: usize, rest: usize) -> u32
+    requires { ⌜ key ≤ far ⌝ }
+    ensures { λ r. ⌜ r ≡ min (key / 256) rest ⌝ }
+{
+    narrow(least_size(key / 256, rest))
+}
+
+// Writes the costs to go of the two states of letter i, in its blanks at p and on it at the place before, by the row `stride` further on.
+// Returns the least key along its arcs; `before` is that of the letter before it.
 fn fill_letter(
     form: &[u32],
     starts: &[usize],
-    candidates: &[u32],
+    same: &[bool],
+    keys: &[usize],
     blank: u32,
     work: &mut [u32],
-    here: usize,
-    next: usize,
+    p: usize,
+    stride: usize,
     i: usize,
-)
-    requires { ⌜ Ready (now form) (now starts) (now candidates) (now work) here next × (1 ≤ i) × (i ≤ lettersOf (now form)) ⌝ }
-    ensures { λ _. ⌜ LetterFilled (old form) (old candidates) blank (old work) (new work) here next i ⌝ }
+    before: usize,
+) -> usize
+    requires { ⌜ LetterReady (now form) (now starts) (now same) (now keys) (now work) p stride i before ⌝ }
+    ensures { λ r. ⌜ LetterFilled (old form) (old keys) blank (old work) (new work) p (p + stride) i r ⌝ }
 {
-    let rest = plus(blank, work[next + 2 * i]);
-    let offers = along_arcs(form, candidates, i, starts[i], starts[i + 1]);
-    work[here + (2 * i - 1)] = least(least(candidates[i], rest), offers.other);
-    work[here + 2 * i] = least(rest, offers.all);
+    let least = next_key(form, starts, same, keys, i, before);
+    let other = other_key(form, starts, keys, i, least);
+    let rest = sum(blank, work[p + stride]);
+    work[p - 1] = price(least_size(keys[i], other), rest);
+    work[p] = price(least, rest);
+    least
 }
 
-// Writes the costs to go of the states of all letters into the row at `here`, by the row at `next`.
+// Writes the costs to go of the states of all letters into the row at `here`, by the row `stride` further on. `first` is the least key of
+// the letters that may be first.
 fn fill_letters(
     form: &[u32],
     starts: &[usize],
-    candidates: &[u32],
+    same: &[bool],
+    keys: &[usize],
     blank: u32,
     work: &mut [u32],
     here: usize,
-    next: usize,
+    stride: usize,
+    first: usize,
 )
-    requires { ⌜ Ready (now form) (now starts) (now candidates) (now work) here next ⌝ }
-    ensures { λ _. ⌜ LettersFilled (old form) (old candidates) blank (old work) (new work) here next (lettersOf (old form) + 1) ⌝ }
+    requires { ⌜ LettersReady (now form) (now starts) (now same) (now keys) (now work) here stride first ⌝ }
+    ensures { λ _. ⌜ LettersFilled (old form) (old keys) blank (old work) (new work) here (here + stride) (lettersOf (old form) + 1) ⌝ }
 {
     let l = letters(form);
+    let mut least = first;
+    let mut p = here + 2;
     let mut i = 1;
     while i <= l {
-        fill_letter(form, starts, candidates, blank, work, here, next, i);
+        least = fill_letter(form, starts, same, keys, blank, work, p, stride, i, least);
+        p += 2;
         i += 1;
     }
 }
 
-// Writes the row at `here` for the column of costs at `at`, by the row of the next column, at `next`.
+// Writes the row at `here` for a column of costs, by the row of the next column, `stride` further on. `same` has the letters that share
+// their arcs with the letter before them, `list` the n letters that may be first; the memory of the keys may hold anything.
 pub fn fill_row(
     form: &[u32],
     starts: &[usize],
-    costs: &[u32],
-    at: usize,
+    same: &[bool],
+    list: &[u32],
+    n: usize,
+    column: &[u32],
     work: &mut [u32],
     here: usize,
-    next: usize,
+    stride: usize,
+    keys: &mut [usize; 128],
 )
-    requires { ⌜ RowReady (now form) (now starts) (now costs) at (now work) here next ⌝ }
-    ensures { λ _. ⌜ RowFilled (old form) (old costs) at (old work) (new work) here next ⌝ }
+    requires { ⌜ RowReady (now form) (now starts) (now same) (now list) n (now column) (now work) here stride × (length (now keys) ≡ 128) ⌝ }
+    ensures { λ _. ⌜ RowFilled (old form) (old column) (old work) (new work) here (here + stride) × (length (new keys) ≡ 128) ⌝ }
 {
-    let blank = costs[at];
-    let c = candidates(form, costs, at, work, next);
-    let start = least(plus(blank, work[next]), to_first(form, &c));
-    fill_letters(form, starts, &c, blank, work, here, next);
+    let blank = column[0];
+    fill_keys(form, column, work, here + stride, keys);
+    let first = first_key(form, keys, list, n);
+    let start = price(first, sum(blank, work[here + stride]));
+    fill_letters(form, starts, same, keys, blank, work, here, stride, first);
     work[here] = start;
 }

@@ -1,99 +1,75 @@
 -- `trellis_row::fill_letter` meets its contract.
-use Prim.Native.Nat.{_+_, _*_, min}
-use mathlib.Core.Path.{ap, _∙_}
+use Prim.Native.Nat.{_+_, _-_, _/_, min}
+use mathlib.Core.Path.{_≡_, ap, ap₂, _∙_}
 use native.Mathlib.Omega.{arith}
 use lib.ListN.{length-set}
-use borrow.Author.Needs.{needs}
 use denote.Ref.{now}
-use Rattle.trellis_row.specs.LettersLoops.{ready-inside, letter-filled}
+use Rattle.trellis_row.specs.LettersLoops.{letter-filled}
+use borrow.Author.Needs.{needs}
 use Rattle.trellis_row.proofs.fill_letter.Statement.{statement}
 use Rattle.trellis_row.proofs.fill_letter.Tie as tie
 
-mul-plus : tie.Need-mul-plus
-mul-plus c = omega arith
+next-key-requires : tie.Need-next-key-requires
+next-key-requires c κs =
+    let p = c .before .before .before .before .before .pre in
+    (p .known, p .equal, p .before)
 
-add-plus : tie.Need-add-plus
-add-plus c = omega arith
+other-key-requires : tie.Need-other-key-requires
+other-key-requires c κs = (c .before .before .before .before .before .before .pre .known, c .next-key .ensures)
 
-mul-plus-2 : tie.Need-mul-plus-2
-mul-plus-2 c = omega arith
+add-sum : tie.Need-add-sum
+add-sum c = search needs
 
-slice-read-plus : tie.Need-slice-read-plus
-slice-read-plus c = omega arith
+mul-sum : tie.Need-mul-sum
+mul-sum c = search needs
 
-plus-requires : tie.Need-plus-requires
-plus-requires c κs = let p = c .before .before .before .before .before .pre in p .0 .row .top (2 * c .before .before .before .before .before .args .i) (omega arith)
+slice-read-sum : tie.Need-slice-read-sum
+slice-read-sum c = search needs
 
-mul-along-arcs : tie.Need-mul-along-arcs
-mul-along-arcs c = omega arith
+sum-requires : tie.Need-sum-requires
+sum-requires c κs = search needs
 
-shared-slice-read-along-arcs : tie.Need-shared-slice-read-along-arcs
-shared-slice-read-along-arcs c = omega arith
+mul-least-size : tie.Need-mul-least-size
+mul-least-size c =
+    let h = c .before .before .before .before .before .before .before .before .before .pre .known .high in
+    let few = c .before .before .before .before .before .before .before .before .before .pre .known .valid .head .letters-high in
+    omega arith
 
-add-along-arcs : tie.Need-add-along-arcs
-add-along-arcs c = omega arith
+shared-slice-read-least-size : tie.Need-shared-slice-read-least-size
+shared-slice-read-least-size c =
+    let k = c .before .before .before .before .before .before .before .before .before .before .pre .known .keys .size in
+    let h = c .before .before .before .before .before .before .before .before .before .before .pre .known .high in
+    let few = c .before .before .before .before .before .before .before .before .before .before .pre .known .valid .head .letters-high in
+    omega arith
 
-mul-along-arcs-2 : tie.Need-mul-along-arcs-2
-mul-along-arcs-2 c = omega arith
+least-size-requires : tie.Need-least-size-requires
+least-size-requires c κs = search needs
 
-shared-slice-read-along-arcs-2 : tie.Need-shared-slice-read-along-arcs-2
-shared-slice-read-along-arcs-2 c = omega arith
-
-along-arcs-requires : tie.Need-along-arcs-requires
-along-arcs-requires c κs =
-    let p = c .before .before .before .before .before .before .before .before .pre in
-    let i = c .before .before .before .before .before .before .before .before .args .i in
-    let few = p .0 .valid .head .letters-high in
-    record {
-      valid = p .0 .valid;
-      candidates = p .0 .candidates;
-      low = p .1;
-      high = p .2;
-      first = p .0 .begun .starts i (omega arith);
-      next = p .0 .begun .starts (i + 1) (omega arith);
-    }
-
-mul-least : tie.Need-mul-least
-mul-least c = omega arith
-
-shared-slice-read-least : tie.Need-shared-slice-read-least
-shared-slice-read-least c = omega arith
-
-least-requires : tie.Need-least-requires
-least-requires c κs = search needs
-
-least-requires-2 : tie.Need-least-requires-2
-least-requires-2 c κs = search needs
-
-mul-work : tie.Need-mul-work
-mul-work c = omega arith
+price-requires : tie.Need-price-requires
+price-requires c κs =
+    let w = c .before .before .before .before .other-key .ensures .within in
+    let e = c .least-size .ensures in
+    omega arith
 
 sub-work : tie.Need-sub-work
-sub-work c = omega arith
+sub-work c = search needs
 
-add-work : tie.Need-add-work
-add-work c = omega arith
-
-mul-work-2 : tie.Need-mul-work-2
-mul-work-2 c = omega arith
+mul-work : tie.Need-mul-work
+mul-work c = search needs
 
 slice-write-work : tie.Need-slice-write-work
-slice-write-work c = omega arith
+slice-write-work c = search needs
 
-least-requires-3 : tie.Need-least-requires-3
-least-requires-3 c κs = search needs
+price-requires-2 : tie.Need-price-requires-2
+price-requires-2 c κs = c .before .before .before .before .before .before .next-key .ensures .within
 
-mul-work-3 : tie.Need-mul-work-3
-mul-work-3 c = omega arith
-
-add-work-2 : tie.Need-add-work-2
-add-work-2 c = omega arith
-
-mul-work-4 : tie.Need-mul-work-4
-mul-work-4 c = omega arith
+mul-work-2 : tie.Need-mul-work-2
+mul-work-2 c = search needs
 
 slice-write-work-2 : tie.Need-slice-write-work-2
-slice-write-work-2 c = let p = c .before .before .before .before .before .before .before .before .before .before .before .before .before .pre in let room = p .0 .row .room in simp length-set (omega (arith, p .0 .apart))
+slice-write-work-2 c =
+    let r = c .before .before .before .before .before .before .before .before .before .before .before .before .before .pre .room in
+    simp length-set (omega arith)
 
 same-length : tie.Need-same-length
 same-length c = search needs
@@ -102,39 +78,28 @@ returns : tie.Need-returns
 returns c =
     let a = c .before .before .before .before .before .before .before .before .before .before .before .before .before .args in
     let p = c .before .before .before .before .before .before .before .before .before .before .before .before .before .pre in
-    let offers = c .before .before .before .before .along-arcs in
-    letter-filled (now (a .form)) (now (a .candidates)) (a .blank) (now (a .work)) (a .here) (a .next) (a .i) (offers .result .all) (offers .result .other) (p .1) (p .2)
-    (ready-inside (p .0)) (offers .ensures) (c .before .least2 .result) (c .least3 .result) (c .before .before .before .before .before .before .before .plus .result) (c .before .before .before .before .before .before .before .plus .ensures)
-    (c .before .least2 .ensures ∙ ap (λ x. min x (offers .result .other)) (c .before .before .least .ensures)) (c .least3 .ensures)
+    let r = p .room in
+    letter-filled (now (a .form)) (now (a .keys)) (a .blank) (now (a .work)) (a .p) (a .p + a .stride) (a .i) (c .before .before .before .before .before .before .before .next-key .result) (c .before .before .before .before .before .before .other-key .result) (p .low) (omega arith) (c .before .before .before .before .before .before .before .next-key .ensures) (c .before .before .before .before .before .before .other-key .ensures) (c .before .price .result) (c .price2 .result) (c .before .before .before .before .sum .result) (c .before .before .before .before .sum .ensures .0) (c .before .price .ensures ∙ ap (λ k. min (k / 256) (c .before .before .before .before .sum .result)) (c .before .before .least-size .ensures)) (c .price2 .ensures)
 
 pub fill-letter-spec : {M : Type 1} → statement M
 fill-letter-spec =
     tie.close
     (tie.spec
-    mul-plus
-    add-plus
-    mul-plus-2
-    slice-read-plus
-    plus-requires
-    mul-along-arcs
-    shared-slice-read-along-arcs
-    add-along-arcs
-    mul-along-arcs-2
-    shared-slice-read-along-arcs-2
-    along-arcs-requires
-    mul-least
-    shared-slice-read-least
-    least-requires
-    least-requires-2
-    mul-work
+    next-key-requires
+    other-key-requires
+    add-sum
+    mul-sum
+    slice-read-sum
+    sum-requires
+    mul-least-size
+    shared-slice-read-least-size
+    least-size-requires
+    price-requires
     sub-work
-    add-work
-    mul-work-2
+    mul-work
     slice-write-work
-    least-requires-3
-    mul-work-3
-    add-work-2
-    mul-work-4
+    price-requires-2
+    mul-work-2
     slice-write-work-2
     same-length
     returns)

@@ -1,87 +1,101 @@
 -- `trellis_row::fill_row` meets its contract.
-use Prim.Native.Nat.{_+_, _≤_, min}
-use mathlib.Core.Path.{_≡_, ap, subst, _∙_}
+use Prim.Native.Nat.{_+_, _*_, _-_, _/_, _≤_, min}
+use mathlib.Core.Path.{_≡_, ap, subst, sym, _∙_}
 use native.Mathlib.Omega.{arith}
-use lib.ListN.{getD}
-use borrow.Author.Needs.{needs}
+use lib.ListN.{length, getD}
 use denote.Ref.{now}
-use Rattle.trellis.specs.Impossible.{TOP}
-use Rattle.trellis_row.specs.RowsLaws.{start-inside, row-filled}
+use Rattle.automaton.specs.Form.{lettersOf}
+use Rattle.trellis_keys.specs.KeysLoops.{keys-told}
+use Rattle.trellis_row.specs.RowsLaws.{row-filled}
+use borrow.Author.Needs.{needs}
 use Rattle.trellis_row.proofs.fill_row.Statement.{statement}
 use Rattle.trellis_row.proofs.fill_row.Tie as tie
 
-mul-blank : tie.Need-mul-blank
-mul-blank c = omega arith
-
 shared-slice-read-blank : tie.Need-shared-slice-read-blank
-shared-slice-read-blank c = omega arith
+shared-slice-read-blank c =
+    let w = c .before .before .before .before .before .before .before .pre .0 .ahead .wide in
+    omega arith
 
-candidates-requires : tie.Need-candidates-requires
-candidates-requires c κs = c .before .before .before .before .before .before .pre .ahead
+add-fill-keys : tie.Need-add-fill-keys
+add-fill-keys c = search needs
 
-mul-plus : tie.Need-mul-plus
-mul-plus c = omega arith
+fill-keys-requires : tie.Need-fill-keys-requires
+fill-keys-requires c κs = (c .before .before .before .before .before .before .before .before .before .pre .0 .ahead, c .before .before .before .before .before .before .before .before .before .pre .1)
 
-slice-read-plus : tie.Need-slice-read-plus
-slice-read-plus c = omega arith
+first-key-requires : tie.Need-first-key-requires
+first-key-requires c κs =
+    let p = c .before .before .before .before .before .before .before .before .before .before .before .before .pre in
+    (p .0 .ahead .valid, keys-told (p .0 .ahead .valid) (p .1) (c .before .before .fill-keys .ensures), p .0 .firsts)
 
-plus-requires : tie.Need-plus-requires
-plus-requires c κs =
-    let a = c .before .before .before .before .before .before .before .before .args in
-    let e : a .next + 0 ≡ a .next = omega arith in
-    subst (λ k. getD (now (a .work)) k 0 ≤ TOP) e (c .before .before .before .before .before .before .before .before .pre .ahead .row .top 0 (omega arith))
+add-sum : tie.Need-add-sum
+add-sum c = search needs
 
-slice-aggregate-to-first : tie.Need-slice-aggregate-to-first
-slice-aggregate-to-first c = search needs
+mul-sum : tie.Need-mul-sum
+mul-sum c = search needs
 
-to-first-requires : tie.Need-to-first-requires
-to-first-requires c κs = search needs
+slice-read-sum : tie.Need-slice-read-sum
+slice-read-sum c = search needs
 
-least-requires : tie.Need-least-requires
-least-requires c κs = search needs
+sum-requires : tie.Need-sum-requires
+sum-requires c κs = search needs
 
-slice-aggregate-fill-letters : tie.Need-slice-aggregate-fill-letters
-slice-aggregate-fill-letters c = search needs
+price-requires : tie.Need-price-requires
+price-requires c κs = c .before .before .first-key .ensures .within
 
 fill-letters-requires : tie.Need-fill-letters-requires
 fill-letters-requires c κs =
-    let p = c .before .before .before .before .before .before .before .before .before .before .before .before .before .before .pre in
-    record { valid = p .ahead .valid; begun = p .begun; candidates = c .before .before .before .before .before .before .before .candidates .ensures .good; apart = p .apart; row = p .ahead .row }
+    let p = c .before .before .before .before .before .before .before .before .before .before .before .before .before .before .before .before .before .before .before .pre in
+    record {
+      valid = p .0 .ahead .valid;
+      starts = p .0 .starts;
+      equal = p .0 .equal;
+      keys = keys-told (p .0 .ahead .valid) (p .1) (c .before .before .before .before .before .before .before .before .before .fill-keys .ensures);
+      apart = p .0 .apart;
+      room = p .0 .ahead .room;
+      least = c .before .before .before .before .before .before .first-key .ensures;
+    }
 
 mul-work : tie.Need-mul-work
-mul-work c = omega arith
+mul-work c =
+    let r = c .before .before .before .before .before .before .before .before .before .before .before .before .before .before .before .before .before .before .before .before .before .before .pre .0 .ahead .room in
+    let z = c .before .before .fill-letters .ensures .outside .size in
+    omega (arith, c .before .before .before .before .before .before .before .before .before .before .before .before .before .before .before .before .before .before .before .before .before .before .good)
 
 slice-write-work : tie.Need-slice-write-work
-slice-write-work c = omega arith
+slice-write-work c =
+    let r = c .before .before .before .before .before .before .before .before .before .before .before .before .before .before .before .before .before .before .before .before .before .before .pre .0 .ahead .room in
+    let w = c .before .before .before .before .before .before .before .before .before .before .before .before .before .before .before .before .before .before .before .before .before .before .pre .0 .apart in
+    let z = c .before .before .fill-letters .ensures .outside .size in
+    omega arith
 
 same-length : tie.Need-same-length
 same-length c = search needs
 
 returns : tie.Need-returns
 returns c =
-    let a = c .before .before .before .before .before .before .before .before .before .before .before .before .before .before .before .before .before .args in
-    let p = c .before .before .before .before .before .before .before .before .before .before .before .before .before .before .before .before .before .pre in
-    let cs = c .before .before .before .before .before .before .before .before .before .before .candidates in
-    let first = c .before .before .before .before .before .before .to-first in
+    let a = c .before .before .before .before .before .before .before .before .before .before .before .before .before .before .before .before .before .before .before .before .before .before .args in
+    let p = c .before .before .before .before .before .before .before .before .before .before .before .before .before .before .before .before .before .before .before .before .before .before .pre in
+    let keys = c .before .before .before .before .before .before .before .before .before .before .before .before .fill-keys in
+    let first = c .before .before .before .before .before .before .before .before .before .first-key in
     let letters = c .before .before .fill-letters in
-    row-filled (p .ahead .valid) (now (a .costs)) (a .at) (now (a .work)) (a .here) (a .next) (cs .result) (cs .ensures) (letters .last .1 .1 .1 .1 .0)
-    (start-inside (letters .last .1 .1 .1 .1 .0) p (letters .ensures .outside .size)) (letters .ensures) (first .result) (c .before .before .before .before .before .least .result) (first .ensures)
-    (c .before .before .before .before .before .least .ensures ∙ ap (λ x. min x (first .result)) (c .before .before .before .before .before .before .before .before .plus .ensures))
+    let r = p .0 .ahead .room in
+    let w = p .0 .apart in
+    let z = letters .ensures .outside .size in
+    (row-filled (p .0 .ahead .valid) (now (a .column)) (now (a .work)) (a .here) (a .here + a .stride) (now (a .keys)) (keys .last .1 .1 .1 .1 .0) (keys .ensures) (letters .last .1 .1 .1 .1 .1 .0) (omega arith) (letters .ensures) (first .result) (c .before .before .before .before .before .before .price .result) (first .ensures) (c .before .before .before .before .before .before .price .ensures ∙ ap (min (first .result / 256)) (c .before .before .before .before .before .before .before .sum .ensures .0)), keys .ensures .outside .size ∙ p .1)
 
 pub fill-row-spec : {M : Type 1} → statement M
 fill-row-spec =
     tie.close
     (tie.spec
-    mul-blank
     shared-slice-read-blank
-    candidates-requires
-    mul-plus
-    slice-read-plus
-    plus-requires
-    slice-aggregate-to-first
-    to-first-requires
-    least-requires
-    slice-aggregate-fill-letters
+    add-fill-keys
+    fill-keys-requires
+    first-key-requires
+    add-sum
+    mul-sum
+    slice-read-sum
+    sum-requires
+    price-requires
     fill-letters-requires
     mul-work
     slice-write-work

@@ -1,0 +1,4 @@
+pub mod Equal
+pub mod EqualLaws
+pub mod Firsts
+pub mod FirstsLoops

@@ -1,0 +1,83 @@
+-- `trellis_keys::fill_keys` meets its contract: the keys of the letters so far are written.
+use Prim.Native.Nat.{_+_, _-_, _≤_}
+use mathlib.Core.Path.{_≡_, subst, _∙_}
+use native.Mathlib.Omega.{arith}
+use denote.Ref.{now}
+use Rattle.automaton.specs.Form.{lettersOf}
+use Rattle.trellis_keys.specs.Keys.{KeysBelow}
+use Rattle.trellis_keys.specs.KeysLoops.{keys-none, keys-more}
+use Rattle.trellis_keys.proofs.fill_keys.Statement.{statement}
+use Rattle.trellis_keys.proofs.fill_keys.Tie as tie
+
+abbrev Inv-loop : tie.InvT-loop
+Inv-loop form column work next keys₀ l j₀ keys j = (1 ≤ j) × (j ≤ lettersOf form + 1) × KeysBelow form column work next keys₀ keys j
+
+abbrev μ-loop : tie.MeasureT-loop
+μ-loop form column work next keys₀ l j₀ keys j = l + 1 - j
+
+letters-requires : tie.Need-letters-requires Inv-loop μ-loop
+letters-requires c κs =
+    let h = c .before .before .before .pre .0 .valid .long in
+    omega arith
+
+loop-holds : tie.Need-loop-holds Inv-loop μ-loop
+loop-holds c =
+    let a = c .before .before .before .before .args in
+    (omega arith, omega arith, keys-none (now (a .form)) (now (a .column)) (now (a .work)) (a .next) (now (a .keys)))
+
+key-requires : tie.Need-key-requires Inv-loop μ-loop
+key-requires c κs = (c .before .before .before .before .before .before .pre .0, c .before .loop .inv .0, omega (arith, c .before .before .letters .ensures, c .loop-test .taken))
+
+mul-keys : tie.Need-mul-keys Inv-loop μ-loop
+mul-keys c =
+    let few = c .before .before .before .before .before .before .before .pre .0 .valid .head .letters-high in
+    omega (arith, c .before .before .before .letters .ensures, c .before .loop-test .taken)
+
+element-write-keys : tie.Need-element-write-keys Inv-loop μ-loop
+element-write-keys c =
+    let few = c .before .before .before .before .before .before .before .pre .0 .valid .head .letters-high in
+    let s = c .before .before .loop .inv .2 .outside .size in
+    let z = c .before .before .before .before .before .before .before .pre .1 in
+    omega (arith, c .before .before .before .letters .ensures, c .before .loop-test .taken)
+
+add-j : tie.Need-add-j Inv-loop μ-loop
+add-j c =
+    let few = c .before .before .before .before .before .before .before .pre .0 .valid .head .letters-high in
+    omega (arith, c .before .before .before .letters .ensures, c .before .loop-test .taken)
+
+loop-less : tie.Need-loop-less Inv-loop μ-loop
+loop-less c = omega (arith, c .before .loop-test .taken)
+
+loop-again : tie.Need-loop-again Inv-loop μ-loop
+loop-again c =
+    let a = c .before .before .before .before .before .before .before .args in
+    let l = c .before .before .loop in
+    let low = l .inv .0 in
+    let few = c .before .before .before .before .before .before .before .pre .0 .valid .head .letters-high in
+    let s = l .inv .2 .outside .size in
+    let z = c .before .before .before .before .before .before .before .pre .1 in
+    (omega arith, omega (arith, c .before .before .before .letters .ensures, c .before .loop-test .taken), keys-more (now (a .form)) (now (a .column)) (now (a .work)) (a .next) (now (a .keys)) (l .keys) (l .j) (c .key .result) low (omega (arith, c .before .before .before .letters .ensures, c .before .loop-test .taken)) (l .inv .2) (c .key .ensures))
+
+returns : tie.Need-returns Inv-loop μ-loop
+returns c =
+    let a = c .before .before .before .before .before .before .args in
+    let l = c .before .loop in
+    let h = l .inv .1 in
+    let e : l .j ≡ lettersOf (now (a .form)) + 1 = omega (arith, c .before .before .letters .ensures, c .loop-test .left) in
+    subst (KeysBelow (now (a .form)) (now (a .column)) (now (a .work)) (a .next) (now (a .keys)) (l .keys)) e (l .inv .2)
+
+pub fill-keys-spec : {M : Type 1} → statement M
+fill-keys-spec =
+    tie.close
+    (tie.spec
+    Inv-loop
+    μ-loop
+    letters-requires
+    loop-holds
+    key-requires
+    mul-keys
+    element-write-keys
+    add-j
+    loop-less
+    loop-again
+    returns)
