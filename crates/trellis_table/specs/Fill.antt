@@ -1,12 +1,16 @@
 -- What filling the table, from the last row to the first, needs and what it promises.
 use Prim.Native.Nat.{ℕ, _+_, _*_, _≤_}
 use mathlib.Core.Path.{_≡_}
+use mathlib.Core.Bool.{Bool}
 use mathlib.Core.List.{List}
 use lib.ListN.{length, drop}
 use Rattle.lists.specs.Stored.{Outside}
 use Rattle.matrix.specs.Matrix.{Matrix}
 use Rattle.automaton.specs.Form.{alphabetOf, view}
 use Rattle.automaton.specs.Valid.{Valid}
+use Rattle.form_starts.specs.Starts.{ArcStarts}
+use Rattle.form_arcs.specs.Equal.{EqualArcs}
+use Rattle.form_arcs.specs.Firsts.{Firsts}
 use Rattle.trellis.specs.CostToGo.{CostToGo}
 use Rattle.trellis.specs.Extended.{extended}
 use Rattle.trellis.specs.Table.{Row, Table}
@@ -19,6 +23,12 @@ pub record Sized (f : List ℕ) (M : Matrix) (work : List ℕ) (stride : ℕ) : 
   pub size : length (M .costs) ≡ M .count * M .width
   pub row : states f ≤ stride
   pub room : (M .count + 1) * stride ≤ length work
+
+-- what is looked up once in the form: where each letter's arcs start, which letters share theirs, and the letters that may be first
+pub record LookedUp (f s : List ℕ) (same : List Bool) (list : List ℕ) (n : ℕ) : Type 0 where
+  pub starts : ArcStarts f s
+  pub equal : EqualArcs f s same
+  pub firsts : Firsts f list n
 
 -- the rows from that of column t on were written, and nothing after the table
 pub record RowsFilled (f : List ℕ) (M : Matrix) (before after : List ℕ) (stride t : ℕ) : Type 0 where

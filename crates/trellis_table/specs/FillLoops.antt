@@ -1,22 +1,29 @@
 -- The table, one iteration of the loop over rows at a time.
 use Prim.Native.Nat.{ℕ, _+_, _*_, _-_, _<_, _≤_}
-use mathlib.Core.Path.{_≡_, refl, subst, _∙_}
+use mathlib.Core.Path.{_≡_, sym, ap, subst, _∙_}
 use mathlib.Core.Logic.{_⊎_, inl, inr}
 use mathlib.Core.List.{List}
 use native.Mathlib.Omega.{arith}
 use native.Mathlib.Nat.{mul-le-mul-right}
-use lib.ListN.{length, getD}
+use lib.ListN.{length, getD, take, drop, length-drop}
+use lib.Seq.{getD-take, getD-drop, length-take-le}
 use Rattle.lists.specs.OrderLaws.{eq-or-ne}
 use Rattle.lists.specs.OutsideLaws.{outside-none, outside-then, outside-wider, beyond-at}
 use Rattle.matrix.specs.Matrix.{Matrix}
 use Rattle.automaton.specs.Form.{alphabetOf, view}
 use Rattle.trellis.specs.Table.{Row}
-use Rattle.trellis_offers.specs.Column.{Bounded}
 use Rattle.trellis_row.specs.Letters.{states}
 use Rattle.trellis_row.specs.Rows.{RowFilled}
-use Rattle.trellis_row.specs.RowsLaws.{row-next}
+use Rattle.trellis_row.specs.RowsLaws.{ColumnOf, row-next}
 use Rattle.trellis_table.specs.Last.{LastFilled}
 use Rattle.trellis_table.specs.Fill.{Sized, RowsFilled, Filled}
+
+-- a part of a list, element by element
+part-at : (xs : List ℕ) (a e i : ℕ) → a + i < e → getD (take (e - a) (drop a xs)) i 0 ≡ getD xs (a + i) 0
+part-at xs a e i h = getD-take (e - a) (drop a xs) i 0 (omega arith) ∙ getD-drop a xs i 0
+
+part-length : (xs : List ℕ) (a e : ℕ) → e ≤ length xs → length (take (e - a) (drop a xs)) ≡ e - a
+part-length xs a e h = length-take-le (e - a) (drop a xs) (omega (arith, length-drop a xs))
 
 module _ {f : List ℕ} (M : Matrix) (before : List ℕ) (stride : ℕ) where
   -- the last row is written
@@ -29,31 +36,32 @@ module _ {f : List ℕ} (M : Matrix) (before : List ℕ) (stride : ℕ) where
 
   module _ (sized : Sized f M before stride) (t : ℕ) (few : t < M .count) where
     -- the costs of column t, and its row and the next, are inside their lists
-    pub cost-inside : t * M .width + alphabetOf f < length (M .costs)
-    cost-inside =
-        let a = mul-le-mul-right {m = t + 1} {n = M .count} (M .width) (omega arith) in
-        let w = sized .width in
-        let s = sized .size in
-        omega arith
+    pub column-inside : t * M .width + M .width ≤ length (M .costs)
+    column-inside = let a = mul-le-mul-right {m = t + 1} {n = M .count} (M .width) (omega arith) in let s = sized .size in omega arith
 
     pub row-inside : t * stride + stride + stride ≤ length before
     row-inside = let a = mul-le-mul-right {m = t + 2} {n = M .count + 1} stride (omega arith) in let r = sized .room in omega arith
+
+    -- column t as a list of its own
+    module _ (a e : ℕ) (at : a ≡ t * M .width) (end : e ≡ a + M .width) where
+      abbrev column : List ℕ
+      column = take (e - a) (drop a (M .costs))
+
+      pub column-wide : alphabetOf f < length column
+      column-wide = let c = column-inside in let w = sized .width in let l = part-length (M .costs) a e (omega arith) in omega arith
+
+      pub column-of : ColumnOf f M t column
+      column-of x h = let w = sized .width in sym (part-at (M .costs) a e x (omega arith) ∙ ap (λ n. getD (M .costs) (n + x) 0) at)
 
     module _ (work : List ℕ) (done : RowsFilled f M before work stride (t + 1)) where
       next-row : (n : ℕ) → t + (n + 1) ≡ M .count → Row (view f) M work (t * stride + stride) (t + 1) n
       next-row n e = let p : (t + 1) * stride ≡ t * stride + stride = omega arith in rw p at (done .rows (t + 1) n (omega arith) (omega arith))
 
-      pub next-bounded : Bounded f work (t * stride + stride)
-      next-bounded =
-          record {
-            room = let a = row-inside in let l = done .outside .size in let r = sized .row in omega arith;
-            top = λ s h. next-row (M .count - (t + 1)) (omega arith) s h .within;
-          }
-
       -- one more row
       pub rows-more :
-          (after : List ℕ) → RowFilled f (M .costs) (t * M .width) work after (t * stride) (t * stride + stride) → RowsFilled f M before after stride t
-      rows-more after r =
+          (column after : List ℕ) → ColumnOf f M t column → RowFilled f column work after (t * stride) (t * stride + stride)
+          → RowsFilled f M before after stride t
+      rows-more column after costs r =
           record {
             rows = λ u n h e. by u n h e (eq-or-ne u t);
             outside = outside-then (done .outside) (outside-wider 0 ((M .count + 1) * stride) (omega arith) end (r .outside));
@@ -68,7 +76,7 @@ module _ {f : List ℕ} (M : Matrix) (before : List ℕ) (stride : ℕ) where
           by : (u n : ℕ) → t ≤ u → u + n ≡ M .count → (u ≡ t) ⊎ (u ≡ t → ⊥) → Row (view f) M after (u * stride) u n
           by u n h e (inl q) =
               let m : n - 1 + 1 ≡ n = omega arith in
-              rw q (subst (Row (view f) M after (t * stride) t) m (row-next (sized .valid) r M t (n - 1) (λ x. refl) (next-row (n - 1) (omega arith))))
+              rw q (subst (Row (view f) M after (t * stride) t) m (row-next (sized .valid) r M t (n - 1) costs (next-row (n - 1) (omega arith))))
           by u n h e (inr d) =
               let a = mul-le-mul-right {m = t + 1} {n = u} stride (omega arith) in
               λ s k. rw (beyond-at 0 (u * stride + s) (r .outside) (omega arith)) (done .rows u n (omega arith) e s k)

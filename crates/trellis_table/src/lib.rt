@@ -1,8 +1,11 @@
 // The table of costs to go of Decode, filled from the last row to the first (document 01, "Extended states and decoding").
+use form_arcs::equal_arcs;
+use form_arcs::list_firsts;
 use form_starts::arc_starts;
 use form_words::letters;
 use trellis_costs::last_cost;
 use trellis_row::fill_row;
+ghost use mathlib.Core.Path.{_≡_};
 ghost use Prim.Native.Nat.{_+_, _*_, _<_};
 ghost use lib.ListN.{length};
 ghost use Rattle.lists.specs.Memory.{old, new};
@@ -11,7 +14,7 @@ ghost use Rattle.automaton.specs.Valid.{Valid};
 ghost use Rattle.matrix.specs.Matrix.{matrix};
 ghost use Rattle.trellis.specs.Table.{Row};
 ghost use Rattle.trellis_table.specs.Last.{LastFilled};
-ghost use Rattle.trellis_table.specs.Fill.{states, Sized, RowsFilled, Filled};
+ghost use Rattle.trellis_table.specs.Fill.{states, Sized, LookedUp, RowsFilled, Filled};
 
 // The value that means 'impossible': `fill` returns it where there is no path.
 pub use trellis_costs::TOP;
@@ -30,6 +33,45 @@ fn fill_last(form: &[u32], work: &mut [u32], base: usize)
 }
 
 // Writes the rows of all columns, `stride` apart, from the last column to the first. The last row is after them, and already written.
+fn fill_columns(
+    form: &[u32],
+    starts: &[usize],
+    same: &[bool],
+    list: &[u32],
+    n: usize,
+    costs: &[u32],
+    width: usize,
+    count: usize,
+    work: &mut [u32],
+    stride: usize,
+    keys: &mut [usize; 128],
+)
+    requires { ⌜ Sized (now form) (matrix (now costs) width count) (now work) stride
+        × Row (view (now form)) (matrix (now costs) width count) (now work) (count * stride) count 0
+        × LookedUp (now form) (now starts) (now same) (now list) n × (length (now keys) ≡ 128) ⌝ }
+    ensures { λ _. ⌜ RowsFilled (old form) (matrix (old costs) width count) (old work) (new work) stride 0 ⌝ }
+{
+    let mut t = count;
+    while 0 < t {
+        t -= 1;
+        let at = t * width;
+        let end = at + width;
+        fill_row(
+            form,
+            starts,
+            same,
+            list,
+            n,
+            &costs[at..end],
+            work,
+            t * stride,
+            stride,
+            keys,
+        );
+    }
+}
+
+// The same, with what is looked up once in the form.
 fn fill_rows(
     form: &[u32],
     costs: &[u32],
@@ -43,19 +85,23 @@ fn fill_rows(
     ensures { λ _. ⌜ RowsFilled (old form) (matrix (old costs) width count) (old work) (new work) stride 0 ⌝ }
 {
     let starts = arc_starts(form);
-    let mut t = count;
-    while 0 < t {
-        t -= 1;
-        fill_row(
-            form,
-            &starts,
-            costs,
-            t * width,
-            work,
-            t * stride,
-            t * stride + stride,
-        );
-    }
+    let same = equal_arcs(form, &starts);
+    let mut list = [0; 128];
+    let n = list_firsts(form, &mut list);
+    let mut keys = [0; 128];
+    fill_columns(
+        form,
+        &starts,
+        &same,
+        &list,
+        n,
+        costs,
+        width,
+        count,
+        work,
+        stride,
+        &mut keys,
+    );
 }
 
 // Fills the table of costs to go and returns the least price, or TOP where there is none.
