@@ -1,4 +1,5 @@
 pub mod Checks
 pub mod Passing
 pub mod PassingLaws
+pub mod Loops
 pub mod Examples

@@ -10,18 +10,17 @@ ghost use Rattle.refusal.specs.Verdict.{first-refusal};
 ghost use Rattle.matrix.specs.Matrix.{matrix};
 ghost use Rattle.decode_checks.specs.Checks.{passes, matrix-fault, matrix-checks};
 
-// Is no cost over 1,000,000?
+// Is no cost over 1,000,000? One pass without an early exit, so that several costs can be compared at once.
 fn all_pass(costs: &[u32]) -> bool
     ensures { λ r. ⌜ r ≡ all passes (old costs) ⌝ }
 {
+    let mut pass = true;
     let mut i: usize = 0;
     while i < costs.len() {
-        if 1000000 < costs[i] {
-            return false;
-        }
+        pass = pass & (costs[i] <= 1000000);
         i += 1;
     }
-    true
+    pass
 }
 
 // Is the matrix turned away for its size, with an alphabet of k characters? (Refusal 12; no product overflows.)

@@ -1,14 +1,14 @@
--- The states that steps lead to, one iteration at a time of the loops over letters, arcs and states.
+-- The kept states that steps lead to, one iteration at a time of the loops over letters, arcs and states.
 use Prim.Native.Nat.{ℕ, _+_, _*_, _-_, _/_, _≤_, _<_}
-use mathlib.Core.Path.{_≡_, refl, sym, _∙_, subst}
+use mathlib.Core.Path.{_≡_, refl, sym, ap, _∙_, subst}
 use mathlib.Core.Bool.{Bool, true, false}
 use mathlib.Core.List.{List}
 use mathlib.Core.Logic.{_⊎_, inl, inr}
 use native.Mathlib.Omega.{arith}
-use lib.ListN.{length, getD, set as put}
+use lib.ListN.{getD}
 use Rattle.lists.specs.OrderLaws.{not-both}
-use Rattle.lists.specs.MarksLaws.{marks-none, marks-one, marks-same, marks-then}
-use Rattle.lists.specs.Marks.{Has, Marks, Iterations}
+use Rattle.lists.specs.MarksLaws.{marks-none, marks-same, marks-then, iterations-more}
+use Rattle.lists.specs.Marks.{Marks, Iterations}
 use Rattle.automaton.specs.Automaton.{Automaton}
 use Rattle.automaton.specs.Proper.{Proper}
 use Rattle.automaton.specs.Form.{lettersOf, alphabetOf, view, target}
@@ -16,11 +16,13 @@ use Rattle.automaton.specs.Valid.{Valid}
 use Rattle.automaton.specs.ValidLaws.{ArcAt, follow-arc, arc-follow, follow-target, valid-proper}
 use Rattle.form_starts.specs.Starts.{StartsAt}
 use Rattle.form_starts.specs.Loops.{range-source, source-range}
+use Rattle.trellis.specs.Impossible.{TOP, plus}
 use Rattle.trellis.specs.Extended.{stay, pass, arc, rest, leave}
 use Rattle.trellis.specs.ExtendedLaws.{AtLetter, at-letter}
 use Rattle.trellis.specs.Reached.{entering, Reached}
 use Rattle.trellis.specs.ReachedLaws.{entering-blanks, entering-letter}
-use Rattle.trellis_steps.specs.Steps.{Onto, OtherLetter, Led, Following, TargetOf, From}
+use Rattle.trellis_members.specs.Members.{Listed, Just}
+use Rattle.trellis_steps.specs.Steps.{Keeps, KeptIn, KeptOf, KeptAt, Onto, OtherLetter, Led, Following, TargetOf, From}
 
 -- a state is entered by the blank or by a label of the alphabet
 pub entering-high : (f : List ℕ) → Valid f → (u : ℕ) → u ≤ 2 * lettersOf f → entering (view f) u ≤ alphabetOf f
@@ -61,29 +63,100 @@ module _ {k : ℕ} {A : Automaton} (proper : Proper k A) (i s u : ℕ) where
       let b = entering-blanks A m s d in
       inr (j, (rw z at f, (d′, λ q. omega arith)))
 
--- One letter, marked or not.
+-- The state u, entered by label x, put or not.
 
-module _ (A : Automaton) (own j : ℕ) (set : List Bool) where
-  pub letter-marked : 1 ≤ j → 2 * j - 1 < length set → (A .label j ≡ own → ⊥) → Marks (OtherLetter A own j) set (put set (2 * j - 1) true)
-  letter-marked l h n =
-      marks-same (λ u. u ≡ 2 * j - 1) (OtherLetter A own j) set (put set (2 * j - 1) true) (λ u e. (omega arith, n)) (λ u q. let o = q .0 in omega arith)
-      (marks-one (2 * j - 1) set h)
+module _ (column row : List ℕ) (v x u : ℕ) (below : v < TOP) (set : List Bool) where
+  pub at-kept : (after : List Bool) → getD column x 0 + getD row u 0 ≡ v → Marks (Just u) set after → Marks (KeptAt column row v x u) set after
+  at-kept after e = marks-same (Just u) (KeptAt column row v x u) set after (λ k q. (q, omega arith)) (λ k q. q .0)
 
-  pub letter-equal : A .label j ≡ own → Marks (OtherLetter A own j) set set
-  letter-equal e = marks-none (OtherLetter A own j) set (λ u q. q .1 e)
+  pub at-not : (getD column x 0 + getD row u 0 ≡ v → ⊥) → Marks (KeptAt column row v x u) set set
+  at-not d = marks-none (KeptAt column row v x u) set (λ k q. d (let e = q .1 in omega arith))
 
-  module _ (i : ℕ) where
-    pub led-marked : (after : List Bool) → A .follow i j ≡ true → Marks (OtherLetter A own j) set after → Marks (Led A own i j) set after
-    led-marked after f = marks-same (OtherLetter A own j) (Led A own i j) set after (λ u q. (f, q)) (λ u q. q .1)
+module _ (A : Automaton) (column row : List ℕ) (v : ℕ) where
+  -- Kept states of some set: of the same set by another name, of none, of one state, of two sets, and of the iterations of a loop.
 
-    pub led-not : A .follow i j ≡ false → Marks (Led A own i j) set set
-    led-not f = marks-none (Led A own i j) set (λ u q. not-both (A .follow i j) (q .0) f)
+  kept-same :
+      (P Q : ℕ → Type 0) (s t : List Bool) → ((k : ℕ) → P k → Q k) → ((k : ℕ) → Q k → P k) → Marks (KeptIn A column row v P) s t
+      → Marks (KeptIn A column row v Q) s t
+  kept-same P Q s t there back =
+      marks-same (KeptIn A column row v P) (KeptIn A column row v Q) s t (λ k q. (there k (q .0), q .1)) (λ k q. (back k (q .0), q .1))
+
+  kept-none : (P : ℕ → Type 0) (s : List Bool) → ((k : ℕ) → P k → ⊥) → Marks (KeptIn A column row v P) s s
+  kept-none P s f = marks-none (KeptIn A column row v P) s (λ k q. f k (q .0))
+
+  pub kept-one :
+      (x u : ℕ) (s t : List Bool) → x ≡ entering A u → Marks (KeptAt column row v x u) s t → Marks (KeptIn A column row v (Just u)) s t
+  kept-one x u s t is = marks-same (KeptAt column row v x u) (KeptIn A column row v (Just u)) s t there back
+    where
+      at : getD column x 0 ≡ getD column (entering A u) 0
+      at = ap (λ y. getD column y 0) is
+
+      there : (k : ℕ) → KeptAt column row v x u k → KeptIn A column row v (Just u) k
+      there k (e, q) = (e, subst (Keeps A column row v) (sym e) (subst (λ c. plus c (getD row u 0) ≡ v) at q))
+
+      back : (k : ℕ) → KeptIn A column row v (Just u) k → KeptAt column row v x u k
+      back k (e, q) = (e, subst (λ c. plus c (getD row u 0) ≡ v) (sym at) (subst (Keeps A column row v) e q))
+
+  kept-then :
+      (P Q : ℕ → Type 0) (s t u : List Bool) → Marks (KeptIn A column row v P) s t → Marks (KeptIn A column row v Q) t u
+      → Marks (KeptIn A column row v (λ k. P k ⊎ Q k)) s u
+  kept-then P Q s t u a b =
+      marks-same (λ k. KeptIn A column row v P k ⊎ KeptIn A column row v Q k) (KeptIn A column row v (λ k. P k ⊎ Q k)) s u there back
+      (marks-then (KeptIn A column row v P) (KeptIn A column row v Q) s t u a b)
+    where
+      there : (k : ℕ) → KeptIn A column row v P k ⊎ KeptIn A column row v Q k → KeptIn A column row v (λ k. P k ⊎ Q k) k
+      there k (inl q) = (inl (q .0), q .1)
+      there k (inr q) = (inr (q .0), q .1)
+
+      back : (k : ℕ) → KeptIn A column row v (λ k. P k ⊎ Q k) k → KeptIn A column row v P k ⊎ KeptIn A column row v Q k
+      back k (inl p, q) = inl (p, q)
+      back k (inr p, q) = inr (p, q)
+
+  module _ (Q : ℕ → ℕ → Type 0) (m : ℕ) where
+    pub kept-iterations-none : (s : List Bool) → Marks (KeptIn A column row v (Iterations Q m m)) s s
+    kept-iterations-none s = kept-none (Iterations Q m m) s (λ k t. let l = t .1 in let h = t .2 in omega arith)
+
+    inward : (n k : ℕ) → KeptIn A column row v (Iterations Q m n) k → Iterations (λ i. KeptIn A column row v (Q i)) m n k
+    inward n k ((i, low, high, q), c) = (i, low, high, (q, c))
+
+    outward : (n k : ℕ) → Iterations (λ i. KeptIn A column row v (Q i)) m n k → KeptIn A column row v (Iterations Q m n) k
+    outward n k (i, low, high, (q, c)) = ((i, low, high, q), c)
+
+    pub kept-iterations-more :
+        (n : ℕ) (s t u : List Bool) → m ≤ n → Marks (KeptIn A column row v (Iterations Q m n)) s t → Marks (KeptIn A column row v (Q n)) t u
+        → Marks (KeptIn A column row v (Iterations Q m (n + 1))) s u
+    kept-iterations-more n s t u l a b =
+        let R : ℕ → ℕ → Type 0 = λ i. KeptIn A column row v (Q i) in
+        marks-same (Iterations R m (n + 1)) (KeptIn A column row v (Iterations Q m (n + 1))) s u (outward (n + 1)) (inward (n + 1))
+        (iterations-more R m n s t u l (marks-same (KeptIn A column row v (Iterations Q m n)) (Iterations R m n) s t (inward n) (outward n) a) b)
+
+  -- One letter, put or not.
+
+  module _ (own j : ℕ) (set after : List Bool) where
+    pub letter-put :
+        1 ≤ j → (A .label j ≡ own → ⊥) → Marks (KeptIn A column row v (Just (2 * j - 1))) set after
+        → Marks (KeptIn A column row v (OtherLetter A own j)) set after
+    letter-put l n = kept-same (Just (2 * j - 1)) (OtherLetter A own j) set after (λ u e. (omega arith, n)) (λ u q. let o = q .0 in omega arith)
+
+    pub led-put :
+        (i : ℕ) → A .follow i j ≡ true → Marks (KeptIn A column row v (OtherLetter A own j)) set after
+        → Marks (KeptIn A column row v (Led A own i j)) set after
+    led-put i f = kept-same (OtherLetter A own j) (Led A own i j) set after (λ u q. (f, q)) (λ u q. q .1)
+
+  module _ (own j : ℕ) (set : List Bool) where
+    pub letter-equal : A .label j ≡ own → Marks (KeptIn A column row v (OtherLetter A own j)) set set
+    letter-equal e = kept-none (OtherLetter A own j) set (λ u q. q .1 e)
+
+    pub led-not : (i : ℕ) → A .follow i j ≡ false → Marks (KeptIn A column row v (Led A own i j)) set set
+    led-not i f = kept-none (Led A own i j) set (λ u q. not-both (A .follow i j) (q .0) f)
 
 -- All letters that may follow letter i: the first letters where i is 0, else the targets of its arcs.
 
-module _ (f : List ℕ) (valid : Valid f) (own : ℕ) (set after : List Bool) where
-  pub firsts-marked : Marks (Iterations (Led (view f) own 0) 1 (lettersOf f + 1)) set after → Marks (Following (view f) own 0) set after
-  firsts-marked = marks-same (Iterations (Led (view f) own 0) 1 (lettersOf f + 1)) (Following (view f) own 0) set after there back
+module _ (f column row : List ℕ) (v : ℕ) (valid : Valid f) (own : ℕ) (set after : List Bool) where
+  pub firsts-put :
+      Marks (KeptIn (view f) column row v (Iterations (Led (view f) own 0) 1 (lettersOf f + 1))) set after
+      → Marks (KeptIn (view f) column row v (Following (view f) own 0)) set after
+  firsts-put = kept-same (view f) column row v (Iterations (Led (view f) own 0) 1 (lettersOf f + 1)) (Following (view f) own 0) set after there back
     where
       there : (u : ℕ) → Iterations (Led (view f) own 0) 1 (lettersOf f + 1) u → Following (view f) own 0 u
       there u (j, low, high, q) = (j, q)
@@ -92,8 +165,10 @@ module _ (f : List ℕ) (valid : Valid f) (own : ℕ) (set after : List Bool) wh
       back u (j, q) = let t = follow-target f valid 0 j (q .0) in (j, t .0, (let h = t .1 in omega arith), q)
 
   module _ (i b e : ℕ) (letter : 1 ≤ i) (first : StartsAt f i b) (next : StartsAt f (i + 1) e) where
-    pub targets-marked : Marks (Iterations (TargetOf f own) b e) set after → Marks (Following (view f) own i) set after
-    targets-marked = marks-same (Iterations (TargetOf f own) b e) (Following (view f) own i) set after there back
+    pub targets-put :
+        Marks (KeptIn (view f) column row v (Iterations (TargetOf f own) b e)) set after
+        → Marks (KeptIn (view f) column row v (Following (view f) own i)) set after
+    targets-put = kept-same (view f) column row v (Iterations (TargetOf f own) b e) (Following (view f) own i) set after there back
       where
         there : (u : ℕ) → Iterations (TargetOf f own) b e u → Following (view f) own i u
         there u (n, low, high, q) =
@@ -109,36 +184,29 @@ module _ (f : List ℕ) (valid : Valid f) (own : ℕ) (set after : List Bool) wh
             let r = source-range f i b e first next (a .index) (a .past) (a .inside) (a .from) in
             (a .index, r .0, r .1, subst (λ m. OtherLetter (view f) own m u) (sym (a .to)) q)
 
--- All states that a step from state s leads to, and all that a step from the set leads to.
+-- All states that a step from state s leads to, and all that a step from the list leads to.
 
-pub steps-marked :
-    (f : List ℕ) → Valid f → (i s : ℕ) (set after : List Bool) → AtLetter i s → s < length set → 2 * i < length set
-    → Marks (Following (view f) (entering (view f) s) i) (put (put set s true) (2 * i) true) after → Marks (Onto (view f) s) set after
-steps-marked f valid i s set after o h g m =
+pub steps-put :
+    (f column row : List ℕ) (v : ℕ) → Valid f → (i s : ℕ) (set one two after : List Bool) → AtLetter i s
+    → Marks (KeptIn (view f) column row v (Just s)) set one → Marks (KeptIn (view f) column row v (Just (2 * i))) one two
+    → Marks (KeptIn (view f) column row v (Following (view f) (entering (view f) s) i)) two after
+    → Marks (KeptIn (view f) column row v (Onto (view f) s)) set after
+steps-put f column row v valid i s set one two after o a b m =
     let A = view f in
-    let one = marks-one s set h in
-    let two = marks-one (2 * i) (put set s true) (let z = one .size in omega arith) in
-    marks-same (λ u. ((u ≡ s) ⊎ (u ≡ 2 * i)) ⊎ Following A (entering A s) i u) (Onto A s) set after
+    kept-same A column row v (λ u. (Just s u ⊎ Just (2 * i) u) ⊎ Following A (entering A s) i u) (Onto A s) set after
     (λ u. onto (valid-proper f valid) i s u o)
     (λ u. onto-only (valid-proper f valid) i s u o)
-    (marks-then (λ u. (u ≡ s) ⊎ (u ≡ 2 * i)) (Following A (entering A s) i) set (put (put set s true) (2 * i) true) after
-    (marks-then (λ u. u ≡ s) (λ u. u ≡ 2 * i) set (put set s true) (put (put set s true) (2 * i) true) one two)
+    (kept-then A column row v (λ u. Just s u ⊎ Just (2 * i) u) (Following A (entering A s) i) set two after
+    (kept-then A column row v (Just s) (Just (2 * i)) set one two a b)
     m)
 
-module _ (A : Automaton) (from : List Bool) where
-  pub from-marked : (s : ℕ) (set after : List Bool) → Has from s → Marks (Onto A s) set after → Marks (From A from s) set after
-  from-marked s set after h = marks-same (Onto A s) (From A from s) set after (λ u q. (h, q)) (λ u q. q .1)
+pub all-put :
+    (A : Automaton) (column row : List ℕ) (v : ℕ) (list : List ℕ) (n : ℕ) (set after : List Bool)
+    → Marks (KeptIn A column row v (Iterations (From A list) 0 n)) set after → Marks (KeptOf A column row v (Listed list n)) set after
+all-put A column row v list n set after = kept-same A column row v (Iterations (From A list) 0 n) (Reached A (Listed list n)) set after there back
+  where
+    there : (u : ℕ) → Iterations (From A list) 0 n u → Reached A (Listed list n) u
+    there u (k, low, high, q) = (getD list k 0, (k, high, refl), q)
 
-  pub from-not : (s : ℕ) (set : List Bool) → getD from s false ≡ false → Marks (From A from s) set set
-  from-not s set e = marks-none (From A from s) set (λ u q. not-both (getD from s false) (q .0) e)
-
-  pub reached-marked :
-      (n : ℕ) (set after : List Bool) → ((s : ℕ) → Has from s → s < n) → Marks (Iterations (From A from) 0 n) set after
-      → Marks (Reached A (Has from)) set after
-  reached-marked n set after within = marks-same (Iterations (From A from) 0 n) (Reached A (Has from)) set after there back
-    where
-      there : (u : ℕ) → Iterations (From A from) 0 n u → Reached A (Has from) u
-      there u (s, low, high, q) = (s, q .0, q .1)
-
-      back : (u : ℕ) → Reached A (Has from) u → Iterations (From A from) 0 n u
-      back u (s, h, q) = (s, omega arith, within s h, (h, q))
+    back : (u : ℕ) → Reached A (Listed list n) u → Iterations (From A list) 0 n u
+    back u (s, (k, high, e), q) = (k, omega arith, high, subst (λ s. Onto A s u) (sym e) q)

@@ -1,15 +1,44 @@
--- The states that a step from a state leads to, as the code marks them: the state itself, the blanks after its letter, and the letters
--- that may follow it and have another label.
-use Prim.Native.Nat.{ℕ, _*_, _≤_}
+-- The states that a step leads to and that lie on a cheapest path, as the code puts them: the state itself, the blanks after its letter,
+-- and the letters that may follow it and have another label.
+use Prim.Native.Nat.{ℕ, _*_, _≤_, _<_}
 use mathlib.Core.Path.{_≡_}
-use mathlib.Core.Bool.{Bool, true}
+use mathlib.Core.Bool.{true}
 use mathlib.Core.List.{List}
-use lib.ListN.{getD}
-use Rattle.lists.specs.Marks.{Has}
+use lib.ListN.{length, getD}
 use Rattle.automaton.specs.Automaton.{Automaton}
-use Rattle.automaton.specs.Form.{lettersOf, view, target}
+use Rattle.automaton.specs.Form.{lettersOf, alphabetOf, view, target}
+use Rattle.automaton.specs.Valid.{Valid}
+use Rattle.trellis.specs.Impossible.{TOP, plus}
 use Rattle.trellis.specs.Extended.{OnLetter, Step}
-use Rattle.trellis.specs.Reached.{entering}
+use Rattle.trellis.specs.Reached.{entering, Reached}
+use Rattle.trellis_members.specs.Members.{Just}
+
+-- a cost for each label, a cost to go for each state, and a price below TOP
+pub record Sized (f column row : List ℕ) (v : ℕ) : Type 0 where
+  pub valid : Valid f
+  pub wide : alphabetOf f < length column
+  pub long : 2 * lettersOf f < length row
+  pub below : v < TOP
+
+-- state u lies on a cheapest path: the cost of its label in this column and its cost to go add up to v
+abbrev pub Keeps : Automaton → (column row : List ℕ) → (v u : ℕ) → Type 0
+Keeps A column row v u = plus (getD column (entering A u) 0) (getD row u 0) ≡ v
+
+-- u is one of the states that P names, and it lies on a cheapest path
+abbrev pub KeptIn : Automaton → (column row : List ℕ) → ℕ → (ℕ → Type 0) → ℕ → Type 0
+KeptIn A column row v P u = P u × Keeps A column row v u
+
+-- a step from the set leads to state u, which lies on a cheapest path
+abbrev pub KeptOf : Automaton → (column row : List ℕ) → ℕ → (ℕ → Type 0) → ℕ → Type 0
+KeptOf A column row v In u = KeptIn A column row v (Reached A In) u
+
+-- k is state u, which lies on a cheapest path if its label is x
+abbrev pub KeptAt : (column row : List ℕ) → (v x u k : ℕ) → Type 0
+KeptAt column row v x u k = Just u k × (plus (getD column x 0) (getD row u 0) ≡ v)
+
+-- all states of the set are states of the form
+abbrev pub Within : List ℕ → (ℕ → Type 0) → Type 0
+Within f In = (s : ℕ) → In s → s ≤ 2 * lettersOf f
 
 -- a step leads from state s to state u
 abbrev pub Onto : Automaton → (s u : ℕ) → Type 0
@@ -30,10 +59,6 @@ Following A own i u = (j : ℕ) × Led A own i j u
 abbrev pub TargetOf : List ℕ → (own n u : ℕ) → Type 0
 TargetOf f own n u = OtherLetter (view f) own (target (getD f n 0)) u
 
--- all states of the set are states of the form
-abbrev pub Within : List ℕ → List Bool → Type 0
-Within f set = (s : ℕ) → Has set s → s ≤ 2 * lettersOf f
-
--- state s is in the set, and a step leads from it to u
-abbrev pub From : Automaton → List Bool → (s u : ℕ) → Type 0
-From A set s u = Has set s × Onto A s u
+-- a step leads to u from the state at place k of the list
+abbrev pub From : Automaton → List ℕ → (k u : ℕ) → Type 0
+From A list k u = Onto A (getD list k 0) u
