@@ -1,2 +1,4 @@
 pub mod Column
+pub mod BlanksLaws
+pub mod ColumnLaws
 pub mod Loops

@@ -1,128 +1,191 @@
 // One column of the trace: of the states that are reached those that lie on a cheapest path, the lowest label among them, and the states
-// of that label. A state lies on a cheapest path if its label's cost and its cost to go add up to v, what is left to pay.
-use form_words::letters;
+// of that label. A state lies on a cheapest path if its label's cost and its cost to go add up to v, what is left to pay. No label is lower
+// than the blank, so blanks are looked at first, and arcs only where no blanks are kept.
+use numbers::least_size;
+use numbers::wide;
+use numbers::wide_word;
+use trellis_members::put;
 use trellis_steps::entering;
-use trellis_steps::reached;
-ghost use mathlib.Core.Path.{_≡_};
-ghost use mathlib.Core.Bool.{false};
-ghost use Prim.Native.Nat.{_*_, _<_, _≤_, min};
-ghost use lib.ListN.{length, replicate};
+use trellis_steps::put_kept;
+ghost use Prim.Native.Nat.{_*_, _<_, _≤_};
+ghost use lib.ListN.{length};
 ghost use Rattle.lists.specs.Memory.{old, new};
 ghost use Rattle.lists.specs.Least.{Least};
-ghost use Rattle.lists.specs.Marks.{Marks};
+ghost use Rattle.lists.specs.Marks.{Has, Marks};
 ghost use Rattle.automaton.specs.Form.{lettersOf, view};
+ghost use Rattle.automaton.specs.Valid.{Valid};
 ghost use Rattle.form_starts.specs.Starts.{ArcStarts};
-ghost use Rattle.trellis_steps.specs.Steps.{Within};
-ghost use Rattle.trellis_column.specs.Column.{NONE as none, Sized, Offers, Offered, OfLabel, Picks, SomeKept, Taken};
+ghost use Rattle.trellis.specs.Impossible.{TOP};
+ghost use Rattle.trellis_members.specs.Members.{Listed, Members};
+ghost use Rattle.trellis_steps.specs.Steps.{Sized, Within};
+ghost use Rattle.trellis_column.specs.Column.{NONE as none, blankAfter, BlankOf, Blanks, BlanksInside};
+ghost use Rattle.trellis_column.specs.Column.{LowEnough, LabelIn, OfLabel, Picks, SomeKept, Taken};
 
-// Where the trace is: the label of the last column, what is left to pay, and the states that share this cost to go.
+// Where the trace is: the label of the last column, what is left to pay, and how many states share this cost to go. The states are in
+// lent memory: a set, and the list of its members.
 pub struct Front {
     pub label: u8,
     pub left: u32,
-    pub set: [bool; 255],
+    pub count: usize,
 }
 
 // The value that means 'no label': all labels are below it.
 const NONE: usize = 256;
 
-fn lower(a: usize, b: usize) -> usize
-    ensures { λ r. ⌜ r ≡ min a b ⌝ }
+// Puts the blanks after state s into the set of m members, if their cost to go is `left`; returns the number of members.
+fn put_blank(
+    row: &[u32],
+    left: u32,
+    s: usize,
+    set: &mut [bool; 255],
+    list: &mut [u8; 255],
+    m: usize,
+) -> usize
+    requires { ⌜ (blankAfter s < 255) × (blankAfter s < length (now row)) × Members (now set) (now list) m ⌝ }
+    ensures { λ r. ⌜ Marks (BlankOf (old row) left s) (old set) (new set) × Members (new set) (new list) r ⌝ }
 {
-    if a < b { a } else { b }
+    let u = (s + 1) / 2 * 2;
+    if row[u] == left {
+        return put(u, set, list, m);
+    }
+    m
 }
 
-// The label of state u if it is in the set and lies on a cheapest path; else NONE.
-fn offered(form: &[u32], column: &[u32], row: &[u32], v: u32, near: &[bool; 255], u: usize) -> usize
-    requires { ⌜ Sized (now form) (now column) (now row) v × (u ≤ 2 * lettersOf (now form)) ⌝ }
-    ensures { λ r. ⌜ Least none (Offers (view (old form)) (old column) (old row) v (old near) u) r ⌝ }
+// Puts the blanks after the listed states that lie on a cheapest path into the empty set; returns the number of members.
+fn put_blanks(
+    column: &[u32],
+    row: &[u32],
+    v: u32,
+    from: &[u8; 255],
+    n: usize,
+    set: &mut [bool; 255],
+    list: &mut [u8; 255],
+) -> usize
+    requires { ⌜ (0 < length (now column)) × (v < TOP) × BlanksInside (now row) (Listed (now from) n) × (n ≤ 255)
+        × Members (now set) (now list) 0 ⌝ }
+    ensures { λ r. ⌜ Marks (Blanks (old column) (old row) v (Listed (old from) n)) (old set) (new set) × Members (new set) (new list) r ⌝ }
 {
-    if !near[u] {
-        return NONE;
-    }
-    let x = entering(form, u);
-    let c = column[x];
+    let c = column[0];
     if v < c {
-        return NONE;
+        return 0;
     }
-    if row[u] == v - c {
-        return x;
+    let left = v - c;
+    let mut m = 0;
+    let mut k = 0;
+    while k < n {
+        m = put_blank(row, left, wide(from[k]), set, list, m);
+        k += 1;
     }
-    NONE
+    m
 }
 
-// The lowest label of the states of the set that lie on a cheapest path.
-fn lowest(form: &[u32], column: &[u32], row: &[u32], v: u32, near: &[bool; 255]) -> usize
-    requires { ⌜ Sized (now form) (now column) (now row) v × Within (now form) (now near) ⌝ }
-    ensures { λ r. ⌜ Least none (Offered (view (old form)) (old column) (old row) v (old near)) r ⌝ }
+// Puts kept states into the empty set, all those of the lowest label among them: the kept blanks if there are any, else all kept states.
+// Returns the number of members.
+fn put_lowest(
+    form: &[u32],
+    starts: &[usize],
+    column: &[u32],
+    row: &[u32],
+    v: u32,
+    from: &[u8; 255],
+    n: usize,
+    set: &mut [bool; 255],
+    list: &mut [u8; 255],
+) -> usize
+    requires { ⌜ Sized (now form) (now column) (now row) v × ArcStarts (now form) (now starts) × Within (now form) (Listed (now from) n)
+        × (n ≤ 255) × SomeKept (view (now form)) (now column) (now row) v (Listed (now from) n) × Members (now set) (now list) 0 ⌝ }
+    ensures { λ r. ⌜ LowEnough (view (old form)) (old column) (old row) v (Listed (old from) n) (new set)
+        × Members (new set) (new list) r ⌝ }
 {
-    let last = 2 * letters(form);
+    let m = put_blanks(column, row, v, from, n, set, list);
+    if 0 < m {
+        return m;
+    }
+    put_kept(form, starts, column, row, wide_word(v), from, n, set, list)
+}
+
+// The lowest label of the listed states.
+fn lowest(form: &[u32], near: &[u8; 255], n: usize) -> usize
+    requires { ⌜ Valid (now form) × Within (now form) (Listed (now near) n) × (n ≤ 255) ⌝ }
+    ensures { λ r. ⌜ Least none (LabelIn (view (old form)) (Listed (old near) n)) r ⌝ }
+{
     let mut x = NONE;
-    let mut u = 0;
-    while u <= last {
-        x = lower(x, offered(form, column, row, v, near, u));
-        u += 1;
+    let mut k = 0;
+    while k < n {
+        x = least_size(x, entering(form, wide(near[k])));
+        k += 1;
     }
     x
 }
 
-// Marks state u if it is in the set, has label x, and lies on a cheapest path.
+// Puts state s into the set of m members if its label is x; returns the number of members.
 fn pick(
     form: &[u32],
-    column: &[u32],
-    row: &[u32],
-    v: u32,
-    near: &[bool; 255],
     x: usize,
-    u: usize,
+    s: usize,
     set: &mut [bool; 255],
-)
-    requires { ⌜ Sized (now form) (now column) (now row) v × (u ≤ 2 * lettersOf (now form)) × (x < none) × (length (now set) ≡ 255) ⌝ }
-    ensures { λ _. ⌜ Marks (Picks (view (old form)) (old column) (old row) v (old near) x u) (old set) (new set) ⌝ }
+    list: &mut [u8; 255],
+    m: usize,
+) -> usize
+    requires { ⌜ Valid (now form) × (s ≤ 2 * lettersOf (now form)) × Members (now set) (now list) m ⌝ }
+    ensures { λ r. ⌜ Marks (Picks (view (old form)) x s) (old set) (new set) × Members (new set) (new list) r ⌝ }
 {
-    if offered(form, column, row, v, near, u) == x {
-        set[u] = true;
+    if entering(form, s) == x {
+        return put(s, set, list, m);
     }
+    m
 }
 
-// The states of the set that have label x and lie on a cheapest path.
+// Puts the listed states whose label is x into the empty set; returns the number of members.
 fn picked(
     form: &[u32],
+    near: &[u8; 255],
+    n: usize,
+    x: usize,
+    set: &mut [bool; 255],
+    list: &mut [u8; 255],
+) -> usize
+    requires { ⌜ Valid (now form) × Within (now form) (Listed (now near) n) × (n ≤ 255) × Members (now set) (now list) 0 ⌝ }
+    ensures { λ r. ⌜ Marks (OfLabel (view (old form)) x (Listed (old near) n)) (old set) (new set) × Members (new set) (new list) r ⌝ }
+{
+    let mut m = 0;
+    let mut k = 0;
+    while k < n {
+        m = pick(form, x, wide(near[k]), set, list, m);
+        k += 1;
+    }
+    m
+}
+
+// Goes one column on: takes the lowest label of the reached states that lie on a cheapest path. The states of that label replace those in
+// the set and in its list.
+pub fn advance(
+    form: &[u32],
+    starts: &[usize],
     column: &[u32],
     row: &[u32],
     v: u32,
-    near: &[bool; 255],
-    x: usize,
-) -> [bool; 255]
-    requires { ⌜ Sized (now form) (now column) (now row) v × Within (now form) (now near) × (x < none) ⌝ }
-    ensures { λ r. ⌜ Marks (OfLabel (view (old form)) (old column) (old row) v (old near) x) (replicate 255 false) r ⌝ }
+    n: usize,
+    set: &mut [bool; 255],
+    list: &mut [u8; 255],
+) -> Front
+    requires { ⌜ Sized (now form) (now column) (now row) v × ArcStarts (now form) (now starts) × Members (now set) (now list) n
+        × Within (now form) (Has (now set)) × SomeKept (view (now form)) (now column) (now row) v (Has (now set)) ⌝ }
+    ensures { λ r. ⌜ Taken (view (old form)) (old column) (old row) v (Has (old set)) (r .label) (r .left) (Has (new set))
+        × Members (new set) (new list) (r .count) ⌝ }
 {
-    let last = 2 * letters(form);
-    let mut set = [false; 255];
-    let mut u = 0;
-    while u <= last {
-        pick(form, column, row, v, near, x, u, &mut set);
-        u += 1;
-    }
-    set
-}
-
-// The front after one more column: the lowest label of the reached states that lie on a cheapest path, and the states of that label.
-pub fn advance(form: &[u32], starts: &[usize], column: &[u32], row: &[u32], front: Front) -> Front
-    requires { ⌜ Sized (now form) (now column) (now row) (front .left) × ArcStarts (now form) (now starts) × Within (now form) (front .set)
-        × SomeKept (view (now form)) (now column) (now row) (front .left) (front .set) ⌝ }
-    ensures { λ r. ⌜ Taken (view (old form)) (old column) (old row) front r ⌝ }
-{
-    let v = front.left;
-    let set = front.set;
-    let near = reached(form, starts, &set);
-    let x = lowest(form, column, row, v, &near);
-    let next = picked(form, column, row, v, &near, x);
+    let mut near = [false; 255];
+    let mut nears = [0; 255];
+    let m = put_lowest(form, starts, column, row, v, list, n, &mut near, &mut nears);
+    let x = lowest(form, &nears, m);
+    *set = [false; 255];
+    let count = picked(form, &nears, m, x, set, list);
     let paid = column[x];
     let left = v - paid;
     let label = x as u8;
     Front {
         label: label,
         left: left,
-        set: next,
+        count: count,
     }
 }

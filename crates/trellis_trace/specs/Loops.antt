@@ -1,7 +1,7 @@
 -- The trace, one iteration of the loop over columns at a time.
 use Prim.Native.Nat.{ℕ, _+_, _*_, _-_, _≤_, _<_}
 use mathlib.Core.Path.{_≡_, refl, sym, ap, ap₂, _∙_, subst}
-use mathlib.Core.Bool.{true, false}
+use mathlib.Core.Bool.{Bool, false}
 use mathlib.Core.List.{List, [], _∷_, _++_}
 use mathlib.Core.Logic.{_⊎_, inl, inr}
 use native.Mathlib.Nat.{mul-le-mul-right}
@@ -10,8 +10,8 @@ use lib.ListN.{length, getD, take, drop, set as put, replicate, length-append, l
 use lib.Seq.{getD-take, getD-drop, length-take-le, take-at}
 use Rattle.lists.specs.WrittenLaws.{written-none, written-more, length-written}
 use Rattle.lists.specs.Memory.{written}
-use Rattle.lists.specs.MarksLaws.{has-none, marks-one}
-use Rattle.lists.specs.Marks.{Has}
+use Rattle.lists.specs.MarksLaws.{has-none}
+use Rattle.lists.specs.Marks.{Has, Marks}
 use Rattle.automaton.specs.Automaton.{Automaton}
 use Rattle.automaton.specs.Form.{lettersOf, alphabetOf, view}
 use Rattle.automaton.specs.ValidLaws.{valid-proper}
@@ -23,10 +23,10 @@ use Rattle.trellis.specs.Extended.{extended}
 use Rattle.trellis.specs.ExtendedLaws.{step-within}
 use Rattle.trellis.specs.Reached.{entering, Reached}
 use Rattle.trellis.specs.ReachedLaws.{Kept, Picked, picked-chosen, next-row, some-kept}
-use Rattle.trellis_steps.specs.Steps.{Within}
+use Rattle.trellis_members.specs.Members.{Members, Just}
+use Rattle.trellis_steps.specs.Steps.{Sized, KeptOf, Within}
 use Rattle.trellis_steps.specs.Loops.{entering-high}
-use Rattle.trellis_column.specs.declared.Front.{Front}
-use Rattle.trellis_column.specs.Column.{Sized, KeptOf, SomeKept, Taken}
+use Rattle.trellis_column.specs.Column.{SomeKept, Taken}
 use Rattle.trellis_trace.specs.Traced.{Ready, Traced}
 
 -- the memory begins with the path
@@ -35,18 +35,20 @@ unfolding written
 traced-front {M = M} {before = before} t =
     ap (take (M .count)) (t .memory) ∙ take-at (t .path) (drop (length (t .path)) before) (M .count) (t .best .qualifies .long)
 
--- before column t: the labels that are written, and the front that they lead to
-pub record Standing (f : List ℕ) (M : Matrix) (before : List ℕ) (t : ℕ) (front : Front) (after : List ℕ) : Type 0 where
+-- before column t: the labels that are written, the states that they lead to, and what is left to pay
+pub record Standing (f : List ℕ) (M : Matrix) (before : List ℕ) (t : ℕ) (set : List Bool) (list : List ℕ) (n left : ℕ)
+    (after : List ℕ) : Type 0 where
   pub so-far : t ≤ M .count
   pub done : List ℕ
   pub long : length done ≡ t
   pub memory : after ≡ written done before
-  pub within : Within f (front .set)
-  pub tracing : Tracing (extended (view f)) M 0 (M .count) t (M .count - t) (Has (front .set)) (front .left) done
+  pub members : Members set list n
+  pub within : Within f (Has set)
+  pub tracing : Tracing (extended (view f)) M 0 (M .count) t (M .count - t) (Has set) left done
 
 pub standing-length :
-    {f : List ℕ} {M : Matrix} {before after : List ℕ} {t : ℕ} {front : Front} → M .count ≤ length before → Standing f M before t front after
-    → length after ≡ length before
+    {f : List ℕ} {M : Matrix} {before list after : List ℕ} {set : List Bool} {t n left : ℕ} → M .count ≤ length before
+    → Standing f M before t set list n left after → length after ≡ length before
 standing-length {before = before} h s =
     let l = s .long in
     let m = s .so-far in
@@ -69,11 +71,10 @@ part-length xs a e h = length-take-le (e - a) (drop a xs) (omega (arith, length-
 module _ {f : List ℕ} {M : Matrix} {work : List ℕ} {base stride : ℕ} (ready : Ready f M work base stride) where
   -- no label is written yet
   pub standing-none :
-      (before : List ℕ) (label : ℕ)
-      → Standing f M before 0 (record { label = label; left = getD work base 0; set = put (replicate 255 false) 0 true }) before
-  standing-none before label =
-      let start = marks-one 0 (replicate 255 false) (omega arith) in
-      let only : (s : ℕ) → Has (put (replicate 255 false) 0 true) s → s ≡ 0 = λ s h. by s (start .only s h) in
+      (before : List ℕ) {set : List Bool} {list : List ℕ} {n : ℕ} → Marks (Just 0) (replicate 255 false) set → Members set list n
+      → Standing f M before 0 set list n (getD work base 0) before
+  standing-none before {set = set} start members =
+      let only : (s : ℕ) → Has set s → s ≡ 0 = λ s h. by s (start .only s h) in
       let togo : CostToGo (extended (view f)) M 0 (M .count) 0 (getD work (base + 0 * stride + 0) 0) = ready .table 0 (M .count) (omega arith) 0 (omega arith) in
       let at : base + 0 * stride + 0 ≡ base = omega arith in
       let none : M .count ≡ M .count - 0 = omega arith in
@@ -82,10 +83,11 @@ module _ {f : List ℕ} {M : Matrix} {work : List ℕ} {base stride : ℕ} (read
         done = [];
         long = refl;
         memory = sym (written-none before);
+        members = members;
         within = λ s h. let e = only s h in omega arith;
         tracing =
-            subst (λ n. Tracing (extended (view f)) M 0 (M .count) 0 n (Has (put (replicate 255 false) 0 true)) (getD work base 0) []) none
-            (tracing-start (extended (view f)) M 0 (M .count) (getD work base 0) (Has (put (replicate 255 false) 0 true)) (start .marked 0 refl) only
+            subst (λ n. Tracing (extended (view f)) M 0 (M .count) 0 n (Has set) (getD work base 0) []) none
+            (tracing-start (extended (view f)) M 0 (M .count) (getD work base 0) (Has set) (start .marked 0 refl) only
             (subst (λ n. CostToGo (extended (view f)) M 0 (M .count) 0 (getD work n 0)) at togo) (ready .below));
       }
     where
@@ -94,8 +96,10 @@ module _ {f : List ℕ} {M : Matrix} {work : List ℕ} {base stride : ℕ} (read
       by s (inr e) = e
 
   -- every column is done
-  pub standing-all : {before after : List ℕ} {front : Front} {t : ℕ} → M .count ≤ t → Standing f M before t front after → Traced (view f) M before after
-  standing-all {front = front} {t = t} h s =
+  pub standing-all :
+      {before list after : List ℕ} {set : List Bool} {t n left : ℕ} → M .count ≤ t → Standing f M before t set list n left after
+      → Traced (view f) M before after
+  standing-all {set = set} {t = t} {left = left} h s =
       let l = s .so-far in
       let none : M .count - t ≡ 0 = omega arith in
       record {
@@ -103,7 +107,7 @@ module _ {f : List ℕ} {M : Matrix} {work : List ℕ} {base stride : ℕ} (read
         memory = s .memory;
         best =
             tracing-all (extended (view f)) M
-            (subst (λ n. Tracing (extended (view f)) M 0 (M .count) t n (Has (front .set)) (front .left) (s .done)) none (s .tracing));
+            (subst (λ n. Tracing (extended (view f)) M 0 (M .count) t n (Has set) left (s .done)) none (s .tracing));
       }
 
   -- Column t of the matrix, and the next row of the table.
@@ -128,8 +132,8 @@ module _ {f : List ℕ} {M : Matrix} {work : List ℕ} {base stride : ℕ} (read
           long = let l = part-length work r p (omega arith) in omega arith;
         }
 
-    module _ {column row before after : List ℕ} {front : Front} (parts : PartsOf f M work base stride t column row)
-        (stands : Standing f M before t front after) where
+    module _ {column row before list after : List ℕ} {set : List Bool} {n left : ℕ} (parts : PartsOf f M work base stride t column row)
+        (stands : Standing f M before t set list n left after) where
       abbrev next : ℕ → ℕ
       next u = getD work (base + (t + 1) * stride + u) 0
 
@@ -138,36 +142,37 @@ module _ {f : List ℕ} {M : Matrix} {work : List ℕ} {base stride : ℕ} (read
 
       -- a state is kept by the two parts exactly if it is kept by the matrix and the table
       keeps-same :
-          (u : ℕ) → Reached (view f) (Has (front .set)) u
+          (u : ℕ) → Reached (view f) (Has set) u
           → plus (getD column (entering (view f) u) 0) (getD row u 0) ≡ plus (cost M t (entering (view f) u)) (next u)
       keeps-same u r =
           let h = step-within (valid-proper f (ready .valid)) (r .0) (entering (view f) u) u (r .2) (stands .within (r .0) (r .1)) in
           ap₂ plus (parts .same-column (entering (view f) u) (entering-high f (ready .valid) u h)) (parts .same-row u h)
 
-      there-kept : (u : ℕ) → KeptOf (view f) column row (front .left) (front .set) u → Kept (view f) M t next (Has (front .set)) (front .left) u
+      there-kept : (u : ℕ) → KeptOf (view f) column row left (Has set) u → Kept (view f) M t next (Has set) left u
       there-kept u k = (k .0, sym (keeps-same u (k .0)) ∙ k .1)
 
-      back-kept : (u : ℕ) → Kept (view f) M t next (Has (front .set)) (front .left) u → KeptOf (view f) column row (front .left) (front .set) u
+      back-kept : (u : ℕ) → Kept (view f) M t next (Has set) left u → KeptOf (view f) column row left (Has set) u
       back-kept u k = (k .0, keeps-same u (k .0) ∙ k .1)
 
-      tracing-now : Tracing (extended (view f)) M 0 (M .count) t (rest + 1) (Has (front .set)) (front .left) (stands .done)
+      tracing-now : Tracing (extended (view f)) M 0 (M .count) t (rest + 1) (Has set) left (stands .done)
       tracing-now =
-          subst (λ n. Tracing (extended (view f)) M 0 (M .count) t n (Has (front .set)) (front .left) (stands .done)) (omega arith) (stands .tracing)
+          subst (λ n. Tracing (extended (view f)) M 0 (M .count) t n (Has set) left (stands .done)) (omega arith) (stands .tracing)
 
       table-next : (s : ℕ) → s ≤ 2 * lettersOf f → CostToGo (extended (view f)) M (t + 1) rest s (next s)
       table-next = ready .table (t + 1) (M .count - (t + 1)) (omega arith)
 
-      pub standing-sized : Sized f column row (front .left)
+      pub standing-sized : Sized f column row left
       standing-sized = record { valid = ready .valid; wide = parts .wide; long = parts .long; below = stands .tracing .shared .below }
 
-      pub standing-kept : SomeKept (view f) column row (front .left) (front .set)
+      pub standing-kept : SomeKept (view f) column row left (Has set)
       standing-kept =
-          let k = some-kept (valid-proper f (ready .valid)) M t (front .left) next (Has (front .set)) (stands .within) rest table-next (tracing-now .shared) in
+          let k = some-kept (valid-proper f (ready .valid)) M t left next (Has set) (stands .within) rest table-next (tracing-now .shared) in
           (k .0, back-kept (k .0) (k .2))
 
       -- one more column
-      module _ {onward : Front} (taken : Taken (view f) column row front onward) where
-        picked : Picked (view f) M t next (Has (front .set)) (front .left) (onward .label) (Has (onward .set))
+      module _ {set′ : List Bool} {list′ : List ℕ} {n′ label left′ : ℕ} (taken : Taken (view f) column row left (Has set) label left′ (Has set′))
+          (members : Members set′ list′ n′) where
+        picked : Picked (view f) M t next (Has set) left label (Has set′)
         picked =
             record {
               lowest = λ u h k. taken .lowest u (back-kept u k);
@@ -178,32 +183,32 @@ module _ {f : List ℕ} {M : Matrix} {work : List ℕ} {base stride : ℕ} (read
               all = λ u h k e. taken .all u (back-kept u k) e;
             }
 
-        pub standing-more : M .count ≤ length before → Standing f M before (t + 1) onward (put after t (onward .label))
+        pub standing-more : M .count ≤ length before → Standing f M before (t + 1) set′ list′ n′ left′ (put after t label)
         standing-more room =
             let proper = valid-proper f (ready .valid) in
             let G = extended (view f) in
             let o = taken .one in
             let r = taken .kept .0 in
-            let within : (s : ℕ) → Has (onward .set) s → s ≤ 2 * lettersOf f =
+            let within : (s : ℕ) → Has set′ s → s ≤ 2 * lettersOf f =
             λ s h.
             let k = taken .hit s h .0 .0 in
             step-within proper (k .0) (entering (view f) s) s (k .2) (stands .within (k .0) (k .1)) in
-            let high : onward .label ≤ alphabetOf f =
+            let high : label ≤ alphabetOf f =
             let e = taken .by-label in
             let h = entering-high f (ready .valid) o (step-within proper (r .0) (entering (view f) o) o (r .2) (stands .within (r .0) (r .1))) in
             omega arith in
-            let left : front .left - cost M t (onward .label) ≡ onward .left =
-            ap (λ n. front .left - n) (sym (parts .same-column (onward .label) high)) ∙ sym (taken .left) in
+            let rest-left : left - cost M t label ≡ left′ = ap (λ n. left - n) (sym (parts .same-column label high)) ∙ sym (taken .paid) in
             let l = stands .long in
             record {
               so-far = omega arith;
-              done = stands .done ++ (onward .label ∷ []);
+              done = stands .done ++ (label ∷ []);
               long = simp length-append (omega arith);
-              memory = ap (λ m. put m t (onward .label)) (stands .memory) ∙ written-more (stands .done) before t (onward .label) l (omega arith);
+              memory = ap (λ m. put m t label) (stands .memory) ∙ written-more (stands .done) before t label l (omega arith);
+              members = members;
               within = within;
               tracing =
-                  subst (λ v. Tracing G M 0 (M .count) (t + 1) (M .count - (t + 1)) (Has (onward .set)) v (stands .done ++ (onward .label ∷ []))) left
+                  subst (λ v. Tracing G M 0 (M .count) (t + 1) (M .count - (t + 1)) (Has set′) v (stands .done ++ (label ∷ []))) rest-left
                   (tracing-more G M rest next (tracing-now .shared)
-                  (next-row proper M t (front .left) next (Has (front .set)) (stands .within) rest table-next)
-                  (picked-chosen proper M t (front .left) next (Has (front .set)) (stands .within) picked) tracing-now);
+                  (next-row proper M t left next (Has set) (stands .within) rest table-next)
+                  (picked-chosen proper M t left next (Has set) (stands .within) picked) tracing-now);
             }

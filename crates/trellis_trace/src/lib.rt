@@ -2,8 +2,8 @@
 // cheap states is advanced column by column, by the lowest label that lies on a cheapest path.
 use form_starts::arc_starts;
 use form_words::letters;
-use trellis_column::Front;
 use trellis_column::advance;
+use trellis_members::put;
 ghost use Prim.Native.Nat.{_≤_};
 ghost use lib.ListN.{length};
 ghost use Rattle.lists.specs.Memory.{old, new};
@@ -29,20 +29,20 @@ pub fn trace(
     let starts = arc_starts(form);
     let states = 2 * letters(form) + 1;
     let mut set = [false; 255];
-    set[0] = true;
-    let price = work[base];
-    let mut front = Front {
-        label: 0,
-        left: price,
-        set: set,
-    };
+    let mut list = [0; 255];
+    let mut n = put(0, &mut set, &mut list, 0);
+    let mut left = work[base];
     let mut t = 0;
     while t < count {
         let at = t * width;
         let end = at + width;
         let row = base + (t + 1) * stride;
         let past = row + states;
-        front = advance(form, &starts, &costs[at..end], &work[row..past], front);
+        let column = &costs[at..end];
+        let next = &work[row..past];
+        let front = advance(form, &starts, column, next, left, n, &mut set, &mut list);
+        n = front.count;
+        left = front.left;
         path[t] = front.label;
         t += 1;
     }

@@ -1,50 +1,60 @@
 -- `trellis_column::advance` meets its contract: some state is kept, so there is a lowest label.
 use Prim.Native.Nat.{_≤_}
+use mathlib.Core.Path.{refl}
 use native.Mathlib.Omega.{arith}
+use lib.ListN.{replicate}
 use denote.Ref.{now}
+use Rattle.lists.specs.Marks.{Has}
 use Rattle.automaton.specs.Form.{alphabetOf}
-use Rattle.trellis_column.specs.Loops.{Nearby, near-within, lowest-label, lowest-paid, taken}
+use Rattle.trellis_members.specs.MembersLaws.{members-none, members-most}
+use Rattle.trellis_column.specs.ColumnLaws.{Nearby, listed-some, listed-within, nearby, near-within, lowest-label, lowest-paid, taken}
 use Rattle.trellis_column.proofs.advance.Statement.{statement}
 use Rattle.trellis_column.proofs.advance.Tie as tie
 
-nearby : (c : tie.After-reached)
-    → Nearby (now (c .before .before .before .before .before .before .before .args .form)) (now (c .before .before .before .before .before .before .before .args .column)) (now (c .before .before .before .before .before .before .before .args .row))
-    (c .before .before .before .before .before .before .before .args .front .left) (c .before .before .before .before .before .before .before .args .front .set) (c .reached .result)
-nearby c = let p = c .before .before .before .before .before .before .before .pre in record { sized = p .0; within = p .2; reached = c .reached .ensures; some = p .3 }
+near : (c : tie.After-put-lowest)
+    → Nearby (now (c .before .before .before .before .before .before .before .before .args .form)) (now (c .before .before .before .before .before .before .before .before .args .column)) (now (c .before .before .before .before .before .before .before .before .args .row)) (c .before .before .before .before .before .before .before .before .args .v) (Has (now (c .before .before .before .before .before .before .before .before .args .set))) (c .put-lowest .last .1 .1 .1 .1 .1 .1 .1 .0) (c .put-lowest .last .1 .1 .1 .1 .1 .1 .1 .1 .0) (c .put-lowest .result)
+near c = let a = c .before .before .before .before .before .before .before .before .args in let p = c .before .before .before .before .before .before .before .before .pre in nearby (now (a .form)) (now (a .column)) (now (a .row)) (a .v) (p .2) (p .0) (p .3) (c .put-lowest .ensures .0) (c .put-lowest .ensures .1)
 
 -- the lowest label is the blank or one of the alphabet
-label : (c : tie.After-lowest) → c .lowest .result ≤ alphabetOf (now (c .before .before .before .before .before .before .before .before .before .args .form))
-label c = lowest-label (nearby (c .before .before)) (c .lowest .ensures)
+label : (c : tie.After-lowest) → c .lowest .result ≤ alphabetOf (now (c .before .before .before .before .before .before .before .before .before .before .args .form))
+label c = lowest-label (near (c .before .before)) (c .lowest .ensures)
 
-reached-requires : tie.Need-reached-requires
-reached-requires c κs = let p = c .before .before .before .before .before .before .pre in (p .0 .valid, p .1, p .2)
+put-lowest-requires : tie.Need-put-lowest-requires
+put-lowest-requires c κs =
+    let a = c .before .before .before .before .before .before .before .args in
+    let p = c .before .before .before .before .before .before .before .pre in
+    (p .0, p .1, listed-within (now (a .form)) (now (a .column)) (now (a .row)) (a .v) (p .2) (p .3), members-most (p .2), listed-some (now (a .form)) (now (a .column)) (now (a .row)) (a .v) (p .2) (p .4), members-none (replicate 255 0) refl)
 
 lowest-requires : tie.Need-lowest-requires
-lowest-requires c κs = (c .before .before .before .before .before .before .before .before .pre .0, near-within (nearby (c .before)))
+lowest-requires c κs = (c .before .before .before .before .before .before .before .before .before .pre .0 .valid, near-within (near (c .before)), members-most (c .before .put-lowest .ensures .1))
 
 picked-requires : tie.Need-picked-requires
-picked-requires c κs =
-    let p = c .before .before .before .before .before .before .before .before .before .before .pre in
-    let l = label (c .before) in
-    let few = p .0 .valid .head .alphabet-high in
-    (p .0, near-within (nearby (c .before .before .before)), omega arith)
+picked-requires c κs = (c .before .before .before .before .before .before .before .before .before .before .before .before .before .before .pre .0 .valid, near-within (near (c .before .before .before .before .before .before)), members-most (c .before .before .before .before .before .before .put-lowest .ensures .1), members-none (now (c .before .before .before .before .before .before .before .before .before .before .before .before .before .before .args .list)) (c .before .before .before .before .before .before .before .before .before .before .before .before .before .before .pre .2 .room))
 
 mul-paid : tie.Need-mul-paid
-mul-paid c = let l = label (c .before .before) in let few = c .before .before .before .before .before .before .before .before .before .before .before .pre .0 .valid .head .alphabet-high in omega arith
+mul-paid c = let l = label (c .before .before .before .before .before) in let few = c .before .before .before .before .before .before .before .before .before .before .before .before .before .before .before .pre .0 .valid .head .alphabet-high in omega arith
 
 shared-slice-read-paid : tie.Need-shared-slice-read-paid
-shared-slice-read-paid c = let l = label (c .before .before .before) in let w = c .before .before .before .before .before .before .before .before .before .before .before .before .pre .0 .wide in omega arith
+shared-slice-read-paid c = let l = label (c .before .before .before .before .before .before) in let w = c .before .before .before .before .before .before .before .before .before .before .before .before .before .before .before .before .pre .0 .wide in omega arith
 
 sub-left : tie.Need-sub-left
-sub-left c = lowest-paid (nearby (c .before .before .before .before .before)) (c .before .before .before .lowest .ensures)
+sub-left c = lowest-paid (near (c .before .before .before .before .before .before .before .before)) (c .before .before .before .before .before .before .lowest .ensures)
 
 cast-label : tie.Need-cast-label
-cast-label c = let l = label (c .before .before .before) in let few = c .before .before .before .before .before .before .before .before .before .before .before .before .pre .0 .valid .head .alphabet-high in omega arith
+cast-label c = let l = label (c .before .before .before .before .before .before) in let few = c .before .before .before .before .before .before .before .before .before .before .before .before .before .before .before .before .pre .0 .valid .head .alphabet-high in omega arith
 
 returns : tie.Need-returns
-returns c =
-    taken (nearby (c .before .before .before .before .before)) (c .before .before .before .lowest .ensures) (c .before .before .before .before .before .before .before .before .before .before .before .before .args .front .label) (c .before .picked .result)
-    (c .before .picked .ensures)
+returns c = (taken (near (c .before .before .before .before .before .before .before .before)) (c .before .before .before .before .before .before .lowest .ensures) (members-none (now (c .before .before .before .before .before .before .before .before .before .before .before .before .before .before .before .before .args .list)) (c .before .before .before .before .before .before .before .before .before .before .before .before .before .before .before .before .pre .2 .room)) (c .before .picked .ensures .0), c .before .picked .ensures .1)
 
 pub advance-spec : {M : Type 1} → statement M
-advance-spec = tie.close (tie.spec reached-requires lowest-requires picked-requires mul-paid shared-slice-read-paid sub-left cast-label returns)
+advance-spec =
+    tie.close
+    (tie.spec
+    put-lowest-requires
+    lowest-requires
+    picked-requires
+    mul-paid
+    shared-slice-read-paid
+    sub-left
+    cast-label
+    returns)

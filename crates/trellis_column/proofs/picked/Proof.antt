@@ -1,65 +1,81 @@
--- `trellis_column::picked` meets its contract: the iterations so far have marked their states.
-use Prim.Native.Nat.{_≤_, _+_, _*_, _-_}
-use mathlib.Core.Path.{_≡_}
-use mathlib.Core.Bool.{false}
+-- `trellis_column::picked` meets its contract: the iterations so far have put their states.
+use Prim.Native.Nat.{_≤_, _-_}
+use mathlib.Core.Path.{_≡_, refl, subst}
 use native.Mathlib.Omega.{arith}
-use lib.ListN.{replicate}
+use lib.ListN.{getD}
 use denote.Ref.{now}
 use borrow.Author.Needs.{needs}
 use Rattle.lists.specs.MarksLaws.{iterations-none, iterations-more}
 use Rattle.lists.specs.Marks.{Marks, Iterations}
-use Rattle.automaton.specs.Form.{lettersOf, view}
-use Rattle.trellis_column.specs.Column.{Picks}
+use Rattle.automaton.specs.Form.{view}
+use Rattle.trellis_members.specs.Members.{Members}
+use Rattle.trellis_column.specs.Column.{Picks, PicksAt}
 use Rattle.trellis_column.specs.Loops.{picked-all}
 use Rattle.trellis_column.proofs.picked.Statement.{statement}
 use Rattle.trellis_column.proofs.picked.Tie as tie
 
 abbrev Inv-loop : tie.InvT-loop
-Inv-loop form column row v near x last set₀ u₀ set u =
-    (last ≡ 2 * lettersOf form) × (u ≤ last + 1) × Marks (Iterations (Picks (view form) column row v near x) 0 u) (replicate 255 false) set
+Inv-loop form near n x set₀ list₀ m₀ k₀ set list m k = (k ≤ n) × Marks (Iterations (PicksAt (view form) x near) 0 k) set₀ set × Members set list m
 
 abbrev μ-loop : tie.MeasureT-loop
-μ-loop form column row v near x last set₀ u₀ set u = last + 1 - u
-
-letters-requires : tie.Need-letters-requires Inv-loop μ-loop
-letters-requires c κs = let long = c .before .before .before .pre .0 .valid .long in omega arith
-
-mul-last : tie.Need-mul-last Inv-loop μ-loop
-mul-last c = search needs
+μ-loop form near n x set₀ list₀ m₀ k₀ set list m k = n - k
 
 loop-holds : tie.Need-loop-holds Inv-loop μ-loop
 loop-holds c =
-    let a = c .before .before .before .before .args in
-    (omega arith, omega arith, iterations-none (Picks (view (now (a .form))) (now (a .column)) (now (a .row)) (a .v) (now (a .near)) (a .x)) 0 (replicate 255 false))
+    let a = c .before .args in
+    (omega arith, iterations-none (PicksAt (view (now (a .form))) (a .x) (now (a .near))) 0 (now (a .set)), c .before .pre .3)
+
+element-copy-out-wide : tie.Need-element-copy-out-wide Inv-loop μ-loop
+element-copy-out-wide c = omega (arith, c .loop-test .taken, c .before .before .before .pre .2)
+
+wide-requires : tie.Need-wide-requires Inv-loop μ-loop
+wide-requires c κs = search needs
 
 pick-requires : tie.Need-pick-requires Inv-loop μ-loop
 pick-requires c κs =
-    let p = c .before .before .before .before .before .before .before .pre in
-    (p .0, omega arith, p .2, c .before .before .loop .inv .2 .size)
+    let a = c .before .before .before .before .before .before .before .args in
+    let l = c .before .before .before .before .before .loop in
+    let e = c .before .before .wide .ensures in
+    let w = c .before .before .before .before .before .before .before .pre .1 (getD (now (a .near)) (l .k) 0) (l .k, c .before .before .before .before .loop-test .taken, refl) in
+    (c .before .before .before .before .before .before .before .pre .0, omega arith, l .inv .2)
 
-add-u : tie.Need-add-u Inv-loop μ-loop
-add-u c = let few = c .before .before .before .before .before .before .before .before .pre .0 .valid .head .letters-high in omega arith
+add-k : tie.Need-add-k Inv-loop μ-loop
+add-k c = omega (arith, c .before .before .before .before .before .loop-test .taken, c .before .before .before .before .before .before .before .before .pre .2)
 
 loop-less : tie.Need-loop-less Inv-loop μ-loop
-loop-less c = omega arith
+loop-less c = omega (arith, c .before .before .before .before .before .loop-test .taken)
 
 loop-again : tie.Need-loop-again Inv-loop μ-loop
 loop-again c =
     let a = c .before .before .before .before .before .before .before .before .args in
-    let l = c .before .before .before .loop in (
-      l .inv .0,
-      omega arith,
-      iterations-more (Picks (view (now (a .form))) (now (a .column)) (now (a .row)) (a .v) (now (a .near)) (a .x)) 0 (l .u) (replicate 255 false) (l .set)
-          (c .pick .last .1 .1 .1 .1 .1 .1 .1 .0) (omega arith) (l .inv .2) (c .pick .ensures),
+    let l = c .before .before .before .before .before .before .loop in
+    let e = c .before .before .before .wide .ensures in
+    let next = c .pick .last .1 .1 .1 .0 in (
+      omega (arith, c .before .before .before .before .before .loop-test .taken),
+      iterations-more (PicksAt (view (now (a .form))) (a .x) (now (a .near))) 0 (l .k) (now (a .set)) (l .set) next (omega arith) (l .inv .1) (subst (λ s. Marks (Picks (view (now (a .form))) (a .x) s) (l .set) next) e (c .pick .ensures .0)),
+      c .pick .ensures .1,
     )
 
 returns : tie.Need-returns Inv-loop μ-loop
 returns c =
-    let a = c .before .before .before .before .before .before .args in
-    let p = c .before .before .before .before .before .before .pre in
+    let a = c .before .before .before .args in
     let l = c .before .loop in
-    picked-all (view (now (a .form))) (now (a .column)) (now (a .row)) (a .v) (now (a .near)) (l .u) (λ u h. let w = p .1 u h in omega arith) (a .x)
-    (replicate 255 false) (l .set) (l .inv .2)
+    let e : l .k ≡ a .n = omega (arith, l .inv .0, c .loop-test .left) in (
+      picked-all (view (now (a .form))) (a .x) (now (a .near)) (a .n) (subst (λ k. Marks (Iterations (PicksAt (view (now (a .form))) (a .x) (now (a .near))) 0 k) (now (a .set)) (l .set)) e (l .inv .1)),
+      l .inv .2,
+    )
 
 pub picked-spec : {M : Type 1} → statement M
-picked-spec = tie.close (tie.spec Inv-loop μ-loop letters-requires mul-last loop-holds pick-requires add-u loop-less loop-again returns)
+picked-spec =
+    tie.close
+    (tie.spec
+    Inv-loop
+    μ-loop
+    loop-holds
+    element-copy-out-wide
+    wide-requires
+    pick-requires
+    add-k
+    loop-less
+    loop-again
+    returns)
