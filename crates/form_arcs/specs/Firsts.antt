@@ -4,6 +4,7 @@ use mathlib.Core.Path.{_≡_}
 use mathlib.Core.Bool.{true}
 use mathlib.Core.List.{List}
 use lib.ListN.{length, getD}
+use Rattle.lists.specs.Lists.{Listed}
 use Rattle.automaton.specs.Form.{lettersOf, followOf}
 
 -- the first n words of the list are the letters below m that may be first
@@ -11,7 +12,7 @@ pub record FirstsBelow (f : List ℕ) (m : ℕ) (list : List ℕ) (n : ℕ) : Ty
   pub size : length list ≡ 128
   pub few : n < m
   pub is : (k : ℕ) → k < n → followOf f 0 (getD list k 0) ≡ true
-  pub all : (j : ℕ) → j < m → followOf f 0 j ≡ true → (k : ℕ) × (k < n) × (getD list k 0 ≡ j)
+  pub all : (j : ℕ) → j < m → followOf f 0 j ≡ true → Listed list n j
 
 -- the first n words of the list are the letters that may be first
 abbrev pub Firsts : (f list : List ℕ) (n : ℕ) → Type 0

@@ -8,6 +8,7 @@ use native.Mathlib.Omega.{arith}
 use lib.ListN.{length, getD, set, length-set}
 use lib.Seq.{getD-set-same, getD-set-other}
 use Rattle.lists.specs.OrderLaws.{eq-or-ne, not-both}
+use Rattle.lists.specs.Lists.{Listed}
 use Rattle.automaton.specs.Form.{followOf}
 use Rattle.automaton.specs.ValidLaws.{first-letter}
 use Rattle.form_arcs.specs.Firsts.{FirstsBelow}
@@ -32,7 +33,7 @@ module _ (f list : List ℕ) (j n : ℕ) (so-far : FirstsBelow f j list n) where
         all = λ i h e. by i h e (eq-or-ne i j);
       }
     where
-      by : (i : ℕ) → i < j + 1 → followOf f 0 i ≡ true → (i ≡ j) ⊎ (i ≡ j → ⊥) → (k : ℕ) × (k < n) × (getD list k 0 ≡ i)
+      by : (i : ℕ) → i < j + 1 → followOf f 0 i ≡ true → (i ≡ j) ⊎ (i ≡ j → ⊥) → Listed list n i
       by i h e (inl q) = absurd (not-both (followOf f 0 j) (subst (λ i. followOf f 0 i ≡ true) q e) no-first)
       by i h e (inr d) = so-far .all i (omega arith) e
 
@@ -53,7 +54,7 @@ module _ (f list : List ℕ) (j n : ℕ) (so-far : FirstsBelow f j list n) where
       is k h (inl q) = rw (q, here) may
       is k h (inr d) = rw (getD-set-other list n k j 0 d) (so-far .is k (omega arith))
 
-      by : (i : ℕ) → i < j + 1 → followOf f 0 i ≡ true → (i ≡ j) ⊎ (i ≡ j → ⊥) → (k : ℕ) × (k < n + 1) × (getD (set list n j) k 0 ≡ i)
+      by : (i : ℕ) → i < j + 1 → followOf f 0 i ≡ true → (i ≡ j) ⊎ (i ≡ j → ⊥) → Listed (set list n j) (n + 1) i
       by i h e (inl q) = (n, omega arith, here ∙ sym q)
       by i h e (inr d) =
           let o = so-far .all i (omega arith) e in

@@ -13,6 +13,11 @@ module _ {top : ℕ} where
   pub least-one : (c : ℕ) → c ≤ top → Least top (λ n. n ≡ c) c
   least-one c h = record { within = h; met = λ l. refl; least = λ n e. omega arith }
 
+  -- one number is offered, which may be above top
+  pub least-held : (P : ℕ → Type 0) (c : ℕ) → ((n : ℕ) → n ≡ c → P n) → ((n : ℕ) → P n → n ≡ c) → Least top P (min top c)
+  least-held P c to from =
+      record { within = omega arith; met = λ h. to (min top c) (omega arith); least = λ n p. let e = from n p in omega arith }
+
   -- equal offers, equal least
   pub least-same : {P : ℕ → Type 0} {v : ℕ} (Q : ℕ → Type 0) → ((n : ℕ) → P n → Q n) → ((n : ℕ) → Q n → P n) → Least top P v → Least top Q v
   least-same {v = v} Q to from l = record { within = l .within; met = λ h. to v (l .met h); least = λ n q. l .least n (from n q) }

@@ -12,6 +12,7 @@ pub mod AmongLaws
 pub mod AscendingLaws
 pub mod WrittenLaws
 pub mod OutsideLaws
+pub mod PartLaws
 pub mod KeptLaws
 pub mod CasesLaws
 pub mod MarksLaws

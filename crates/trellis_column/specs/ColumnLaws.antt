@@ -14,7 +14,8 @@ use Rattle.automaton.specs.ValidLaws.{valid-proper}
 use Rattle.trellis.specs.ExtendedLaws.{step-within}
 use Rattle.trellis.specs.Reached.{entering}
 use Rattle.trellis_steps.specs.Loops.{entering-high}
-use Rattle.trellis_members.specs.Members.{Listed, Members}
+use Rattle.lists.specs.Lists.{Listed}
+use Rattle.trellis_members.specs.Members.{Members}
 use Rattle.trellis_members.specs.MembersLaws.{listed-has}
 use Rattle.trellis_steps.specs.Steps.{Sized, KeptOf, Within}
 use Rattle.trellis_column.specs.Column.{NONE, Blanks, LowEnough, LabelIn, OfLabel, SomeKept, Taken}

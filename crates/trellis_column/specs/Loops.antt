@@ -15,7 +15,8 @@ use Rattle.automaton.specs.Valid.{Valid}
 use Rattle.trellis.specs.Impossible.{TOP}
 use Rattle.trellis.specs.Reached.{entering}
 use Rattle.trellis_steps.specs.Loops.{entering-high}
-use Rattle.trellis_members.specs.Members.{Listed, Just}
+use Rattle.lists.specs.Lists.{Listed}
+use Rattle.trellis_members.specs.Members.{Just}
 use Rattle.trellis_column.specs.Column.{NONE, blankAfter, BlankOf, BlankAt, Blanks, LabelIn, LabelAt, OfLabel, Picks, PicksAt}
 
 -- The blanks after a state.

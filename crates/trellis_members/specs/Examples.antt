@@ -5,7 +5,8 @@ use mathlib.Core.Bool.{true, false}
 use mathlib.Core.List.{List, [], _∷_, map}
 use native.Mathlib.Omega.{arith}
 use lib.ListN.{getD, replicate, set as put}
-use Rattle.trellis_members.specs.Members.{Listed, trues, Members}
+use Rattle.lists.specs.Lists.{Listed}
+use Rattle.trellis_members.specs.Members.{trues, Members}
 use Rattle.trellis_members.specs.MembersLaws.{members-none, members-more}
 
 abbrev three : List ℕ

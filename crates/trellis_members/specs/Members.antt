@@ -4,11 +4,8 @@ use mathlib.Core.Path.{_≡_}
 use mathlib.Core.Bool.{Bool, true, false}
 use mathlib.Core.List.{List, [], _∷_}
 use lib.ListN.{length, getD}
+use Rattle.lists.specs.Lists.{Listed}
 use Rattle.lists.specs.Marks.{Has}
-
--- u is among the first n elements of the list
-abbrev pub Listed : List ℕ → (n u : ℕ) → Type 0
-Listed xs n u = (k : ℕ) × (k < n) × (getD xs k 0 ≡ u)
 
 -- the number of true values
 unfoldable pub trues : List Bool → ℕ

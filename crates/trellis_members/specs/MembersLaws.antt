@@ -10,7 +10,8 @@ use lib.Seq.{getD-set-same, getD-set-other}
 use Rattle.lists.specs.OrderLaws.{eq-or-ne}
 use Rattle.lists.specs.MarksLaws.{has-none, marks-one}
 use Rattle.lists.specs.Marks.{Has, Marks}
-use Rattle.trellis_members.specs.Members.{Listed, trues, Members, Just}
+use Rattle.lists.specs.Lists.{Listed}
+use Rattle.trellis_members.specs.Members.{trues, Members, Just}
 
 -- The number of members.
 

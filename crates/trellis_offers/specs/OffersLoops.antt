@@ -8,18 +8,9 @@ use native.Mathlib.Omega.{arith}
 use lib.Dec.{eqb}
 use borrow.Author.Tests.{eqb-true, eqb-false}
 use Rattle.lists.specs.OrderLaws.{lt-or-le}
-use Rattle.lists.specs.LeastLaws.{least-none, least-same, least-more}
+use Rattle.lists.specs.LeastLaws.{least-none, least-held, least-more}
 use Rattle.lists.specs.Least.{Least, Among}
 use Rattle.trellis_offers.specs.Offers.{FAR, keyAt, KeyAt, OtherAt, unless-own}
-
--- one number is offered, which may be above FAR
-least-held : (P : ℕ → Type 0) (c : ℕ) → ((n : ℕ) → n ≡ c → P n) → ((n : ℕ) → P n → n ≡ c) → Least FAR P (min FAR c)
-least-held P c to from =
-    record {
-      within = omega arith;
-      met = λ h. to (min FAR c) (omega arith);
-      least = λ n p. let e = from n p in omega arith;
-    }
 
 module _ (ws ks : List ℕ) (b : ℕ) where
   -- one more word

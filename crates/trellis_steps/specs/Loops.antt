@@ -21,7 +21,8 @@ use Rattle.trellis.specs.Extended.{stay, pass, arc, rest, leave}
 use Rattle.trellis.specs.ExtendedLaws.{AtLetter, at-letter}
 use Rattle.trellis.specs.Reached.{entering, Reached}
 use Rattle.trellis.specs.ReachedLaws.{entering-blanks, entering-letter}
-use Rattle.trellis_members.specs.Members.{Listed, Just}
+use Rattle.lists.specs.Lists.{Listed}
+use Rattle.trellis_members.specs.Members.{Just}
 use Rattle.trellis_steps.specs.Steps.{Keeps, KeptIn, KeptOf, KeptAt, Onto, OtherLetter, Led, Following, TargetOf, From}
 
 -- a state is entered by the blank or by a label of the alphabet

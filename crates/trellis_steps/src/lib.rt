@@ -17,7 +17,8 @@ ghost use Rattle.automaton.specs.Form.{lettersOf, view};
 ghost use Rattle.form_starts.specs.Starts.{StartsAt, ArcStarts};
 ghost use Rattle.trellis.specs.Impossible.{TOP};
 ghost use Rattle.trellis.specs.Reached.{entering as enteringOf};
-ghost use Rattle.trellis_members.specs.Members.{Listed, Members};
+ghost use Rattle.lists.specs.Lists.{Listed};
+ghost use Rattle.trellis_members.specs.Members.{Members};
 ghost use Rattle.trellis_steps.specs.Steps.{Sized, KeptIn, KeptOf, KeptAt, Within, Onto, OtherLetter, Led, Following, TargetOf};
 
 // The label of every step into state u: the blank, or that of its letter.

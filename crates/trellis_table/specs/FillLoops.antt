@@ -5,9 +5,9 @@ use mathlib.Core.Logic.{_⊎_, inl, inr}
 use mathlib.Core.List.{List}
 use native.Mathlib.Omega.{arith}
 use native.Mathlib.Nat.{mul-le-mul-right}
-use lib.ListN.{length, getD, take, drop, length-drop}
-use lib.Seq.{getD-take, getD-drop, length-take-le}
+use lib.ListN.{length, getD, take, drop}
 use Rattle.lists.specs.OrderLaws.{eq-or-ne}
+use Rattle.lists.specs.PartLaws.{part-at, part-length}
 use Rattle.lists.specs.OutsideLaws.{outside-none, outside-then, outside-wider, beyond-at}
 use Rattle.matrix.specs.Matrix.{Matrix}
 use Rattle.automaton.specs.Form.{alphabetOf, view}
@@ -17,13 +17,6 @@ use Rattle.trellis_row.specs.Rows.{RowFilled}
 use Rattle.trellis_row.specs.RowsLaws.{ColumnOf, row-next}
 use Rattle.trellis_table.specs.Last.{LastFilled}
 use Rattle.trellis_table.specs.Fill.{Sized, RowsFilled, Filled}
-
--- a part of a list, element by element
-part-at : (xs : List ℕ) (a e i : ℕ) → a + i < e → getD (take (e - a) (drop a xs)) i 0 ≡ getD xs (a + i) 0
-part-at xs a e i h = getD-take (e - a) (drop a xs) i 0 (omega arith) ∙ getD-drop a xs i 0
-
-part-length : (xs : List ℕ) (a e : ℕ) → e ≤ length xs → length (take (e - a) (drop a xs)) ≡ e - a
-part-length xs a e h = length-take-le (e - a) (drop a xs) (omega (arith, length-drop a xs))
 
 module _ {f : List ℕ} (M : Matrix) (before : List ℕ) (stride : ℕ) where
   -- the last row is written
@@ -51,7 +44,7 @@ module _ {f : List ℕ} (M : Matrix) (before : List ℕ) (stride : ℕ) where
       column-wide = let c = column-inside in let w = sized .width in let l = part-length (M .costs) a e (omega arith) in omega arith
 
       pub column-of : ColumnOf f M t column
-      column-of x h = let w = sized .width in sym (part-at (M .costs) a e x (omega arith) ∙ ap (λ n. getD (M .costs) (n + x) 0) at)
+      column-of x h = let w = sized .width in sym (part-at (M .costs) a e 0 x (omega arith) ∙ ap (λ n. getD (M .costs) (n + x) 0) at)
 
     module _ (work : List ℕ) (done : RowsFilled f M before work stride (t + 1)) where
       next-row : (n : ℕ) → t + (n + 1) ≡ M .count → Row (view f) M work (t * stride + stride) (t + 1) n

@@ -6,8 +6,9 @@ use mathlib.Core.List.{List, [], _∷_, _++_}
 use mathlib.Core.Logic.{_⊎_, inl, inr}
 use native.Mathlib.Nat.{mul-le-mul-right}
 use native.Mathlib.Omega.{arith}
-use lib.ListN.{length, getD, take, drop, set as put, replicate, length-append, length-drop}
-use lib.Seq.{getD-take, getD-drop, length-take-le, take-at}
+use lib.ListN.{length, getD, take, drop, set as put, replicate, length-append}
+use lib.Seq.{take-at}
+use Rattle.lists.specs.PartLaws.{part-at, part-length}
 use Rattle.lists.specs.WrittenLaws.{written-none, written-more, length-written}
 use Rattle.lists.specs.Memory.{written}
 use Rattle.lists.specs.MarksLaws.{has-none}
@@ -60,13 +61,6 @@ pub record PartsOf (f : List ℕ) (M : Matrix) (work : List ℕ) (base stride t 
   pub same-row : (u : ℕ) → u ≤ 2 * lettersOf f → getD row u 0 ≡ getD work (base + (t + 1) * stride + u) 0
   pub wide : alphabetOf f < length column
   pub long : 2 * lettersOf f < length row
-
--- a part of a list, element by element
-part-at : (xs : List ℕ) (a e i : ℕ) → a + i < e → getD (take (e - a) (drop a xs)) i 0 ≡ getD xs (a + i) 0
-part-at xs a e i h = getD-take (e - a) (drop a xs) i 0 (omega arith) ∙ getD-drop a xs i 0
-
-part-length : (xs : List ℕ) (a e : ℕ) → e ≤ length xs → length (take (e - a) (drop a xs)) ≡ e - a
-part-length xs a e h = length-take-le (e - a) (drop a xs) (omega (arith, length-drop a xs))
 
 module _ {f : List ℕ} {M : Matrix} {work : List ℕ} {base stride : ℕ} (ready : Ready f M work base stride) where
   -- no label is written yet
@@ -126,8 +120,8 @@ module _ {f : List ℕ} {M : Matrix} {work : List ℕ} {base stride : ℕ} (read
         let i = row-inside in
         let w = ready .wide in
         record {
-          same-column = λ x h. part-at (M .costs) a e x (omega arith) ∙ ap (λ n. getD (M .costs) (n + x) 0) ea;
-          same-row = λ u h. part-at work r p u (omega arith) ∙ ap (λ n. getD work (n + u) 0) er;
+          same-column = λ x h. part-at (M .costs) a e 0 x (omega arith) ∙ ap (λ n. getD (M .costs) (n + x) 0) ea;
+          same-row = λ u h. part-at work r p 0 u (omega arith) ∙ ap (λ n. getD work (n + u) 0) er;
           wide = let l = part-length (M .costs) a e (omega arith) in omega arith;
           long = let l = part-length work r p (omega arith) in omega arith;
         }

@@ -5,7 +5,8 @@ use denote.Ref.{now}
 use borrow.Author.Needs.{needs}
 use Rattle.lists.specs.Marks.{Marks}
 use Rattle.automaton.specs.Form.{view}
-use Rattle.trellis_members.specs.Members.{Listed, Members}
+use Rattle.lists.specs.Lists.{Listed}
+use Rattle.trellis_members.specs.Members.{Members}
 use Rattle.trellis_steps.specs.Steps.{Sized, KeptOf}
 use Rattle.trellis_column.specs.BlanksLaws.{blanks-inside}
 use Rattle.trellis_column.specs.ColumnLaws.{lowest-blanks, lowest-all}
