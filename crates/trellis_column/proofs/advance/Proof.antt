@@ -38,7 +38,7 @@ shared-slice-read-paid : tie.Need-shared-slice-read-paid
 shared-slice-read-paid c = let l = label (c .before .before .before .before .before .before) in let w = c .before .before .before .before .before .before .before .before .before .before .before .before .before .before .before .before .pre .0 .wide in omega arith
 
 sub-left : tie.Need-sub-left
-sub-left c = lowest-paid (near (c .before .before .before .before .before .before .before .before)) (c .before .before .before .before .before .before .lowest .ensures)
+sub-left c = let l = lowest-paid (near (c .before .before .before .before .before .before .before .before)) (c .before .before .before .before .before .before .lowest .ensures) in omega arith
 
 cast-label : tie.Need-cast-label
 cast-label c = let l = label (c .before .before .before .before .before .before) in let few = c .before .before .before .before .before .before .before .before .before .before .before .before .before .before .before .before .pre .0 .valid .head .alphabet-high in omega arith

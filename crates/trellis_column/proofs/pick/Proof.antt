@@ -10,7 +10,8 @@ use Rattle.trellis_column.proofs.pick.Tie as tie
 entering-requires : tie.Need-entering-requires
 entering-requires c κs =
     let l = c .before .pre .0 .long in
-    (omega arith, c .before .pre .1)
+    let h = c .before .pre .1 in
+    (omega arith, omega arith)
 
 put-requires : tie.Need-put-requires
 put-requires c κs =
