@@ -2,3 +2,5 @@ pub mod Equal
 pub mod EqualLaws
 pub mod Firsts
 pub mod FirstsLoops
+pub mod Targets
+pub mod TargetsLaws

@@ -1,9 +1,9 @@
-// What a search looks up once in a form: which letters have arcs to the same letters as the letter before them, and a list of the letters
-// that may be first.
+// What a search looks up once in a form: which letters have arcs to the same letters as the letter before them, a list of the letters that
+// may be first, and the targets of all arcs as bytes.
 use form_words::letters;
 use form_words::may_be_first;
 use form_words::target;
-use numbers::narrow;
+use numbers::narrow_byte;
 ghost use mathlib.Core.Path.{_≡_};
 ghost use Prim.Native.Nat.{_+_, _≤_};
 ghost use lib.ListN.{length};
@@ -14,6 +14,7 @@ ghost use Rattle.automaton.specs.Valid.{Valid};
 ghost use Rattle.form_starts.specs.Starts.{ArcStarts};
 ghost use Rattle.form_arcs.specs.Equal.{Decides, SameTargets, SameArcs, SharesAt, EqualArcs};
 ghost use Rattle.form_arcs.specs.Firsts.{FirstsBelow, Firsts};
+ghost use Rattle.form_arcs.specs.Targets.{TargetsListed};
 
 // Do the n arc words from b on have the targets of the n from a on?
 fn same_targets(form: &[u32], a: usize, b: usize, n: usize) -> bool
@@ -70,19 +71,19 @@ pub fn equal_arcs(form: &[u32], starts: &[usize]) -> [bool; 128]
 }
 
 // Writes letter j to place n of the list if it may be first, and returns the next free place.
-fn list_first(form: &[u32], j: usize, list: &mut [u32; 128], n: usize) -> usize
+fn list_first(form: &[u32], j: usize, list: &mut [u8; 128], n: usize) -> usize
     requires { ⌜ Valid (now form) × (1 ≤ j) × (j ≤ lettersOf (now form)) × FirstsBelow (now form) j (now list) n ⌝ }
     ensures { λ r. ⌜ FirstsBelow (old form) (j + 1) (new list) r ⌝ }
 {
     if may_be_first(form, j) {
-        list[n] = narrow(j);
+        list[n] = narrow_byte(j);
         return n + 1;
     }
     n
 }
 
 // Writes the letters that may be first to the front of the list, and returns their number.
-pub fn list_firsts(form: &[u32], list: &mut [u32; 128]) -> usize
+pub fn list_firsts(form: &[u32], list: &mut [u8; 128]) -> usize
     requires { ⌜ Valid (now form) × (length (now list) ≡ 128) ⌝ }
     ensures { λ r. ⌜ Firsts (old form) (new list) r ⌝ }
 {
@@ -94,4 +95,23 @@ pub fn list_firsts(form: &[u32], list: &mut [u32; 128]) -> usize
         j += 1;
     }
     n
+}
+
+// Memory for the targets of a form: 16,384 bytes, since no valid form has more words.
+pub fn no_targets() -> [u8; 16384]
+    ensures { λ r. ⌜ length r ≡ 16384 ⌝ }
+{
+    [0; 16384]
+}
+
+// Writes the target of each word of the form; the bytes after them stay as they were.
+pub fn list_targets(form: &[u32], targets: &mut [u8; 16384])
+    requires { ⌜ Valid (now form) × (length (now targets) ≡ 16384) ⌝ }
+    ensures { λ _. ⌜ TargetsListed (old form) (old targets) (new targets) ⌝ }
+{
+    let mut k = 0;
+    while k < form.len() {
+        targets[k] = narrow_byte(target(form, k));
+        k += 1;
+    }
 }

@@ -25,9 +25,9 @@ pub fn fill_keys(form: &[u32], column: &[u32], work: &[u32], next: usize, keys: 
     ensures { λ _. ⌜ KeysFilled (old form) (old column) (old work) next (old keys) (new keys) ⌝ }
 {
     let l = letters(form);
-    let mut j = 1;
-    while j <= l {
-        keys[j] = key(form, column, work, next, j);
+    let mut j = 0;
+    while j < l {
+        keys[j + 1] = key(form, column, work, next, j + 1);
         j += 1;
     }
 }

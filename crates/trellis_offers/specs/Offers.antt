@@ -6,9 +6,10 @@ use mathlib.Core.List.{List}
 use lib.Dec.{eqb}
 use lib.ListN.{length, getD}
 use Rattle.lists.specs.Least.{Least}
-use Rattle.automaton.specs.Form.{lettersOf, target, view}
+use Rattle.automaton.specs.Form.{lettersOf, view}
 use Rattle.automaton.specs.Valid.{Valid}
 use Rattle.form_starts.specs.Starts.{ArcStarts}
+use Rattle.form_arcs.specs.Targets.{Targets}
 use Rattle.trellis.specs.Cells.{ByArc}
 use Rattle.trellis_keys.specs.Keys.{Keys}
 
@@ -20,31 +21,32 @@ FAR = 256000000255
 abbrev pub keyOf : List ℕ → ℕ → ℕ
 keyOf ks j = getD ks j 0
 
--- the key of the target of the word at k
-abbrev pub keyAt : (ws ks : List ℕ) (k : ℕ) → ℕ
-keyAt ws ks k = keyOf ks (target (getD ws k 0))
+-- the key of the letter that the list has at k
+abbrev pub keyAt : (list ks : List ℕ) (k : ℕ) → ℕ
+keyAt list ks k = keyOf ks (getD list k 0)
 
--- there are words from b up to e, and their targets have keys
-pub record Looked (ws ks : List ℕ) (b e : ℕ) : Type 0 where
+-- the list has places from b up to e, and its letters there have keys
+pub record Looked (list ks : List ℕ) (b e : ℕ) : Type 0 where
   pub rises : b ≤ e
-  pub inside : e ≤ length ws
-  pub within : (k : ℕ) → b ≤ k → k < e → target (getD ws k 0) < length ks
+  pub inside : e ≤ length list
+  pub within : (k : ℕ) → b ≤ k → k < e → getD list k 0 < length ks
 
--- what the word at k offers
-abbrev pub KeyAt : (ws ks : List ℕ) (k n : ℕ) → Type 0
-KeyAt ws ks k n = n ≡ keyAt ws ks k
+-- what the letter at k offers
+abbrev pub KeyAt : (list ks : List ℕ) (k n : ℕ) → Type 0
+KeyAt list ks k n = n ≡ keyAt list ks k
 
 -- the same, unless the label of the key is `own`
-abbrev pub OtherAt : (ws ks : List ℕ) (own k n : ℕ) → Type 0
-OtherAt ws ks own k n = (keyAt ws ks k % 256 ≡ own → ⊥) × (n ≡ keyAt ws ks k)
+abbrev pub OtherAt : (list ks : List ℕ) (own k n : ℕ) → Type 0
+OtherAt list ks own k n = (keyAt list ks k % 256 ≡ own → ⊥) × (n ≡ keyAt list ks k)
 
 -- a key, or FAR if its label is `own`
 abbrev pub unless-own : (key own : ℕ) → ℕ
 unless-own key own = cond (eqb (key % 256) own) FAR key
 
--- letter i of a valid form, where its arcs start, and the keys
-pub record Known (f s ks : List ℕ) (i : ℕ) : Type 0 where
+-- letter i of a valid form, the form's targets and where each letter's arcs start, and the keys
+pub record Known (f ts s ks : List ℕ) (i : ℕ) : Type 0 where
   pub valid : Valid f
+  pub targets : Targets f ts
   pub starts : ArcStarts f s
   pub keys : Keys f ks
   pub low : 1 ≤ i

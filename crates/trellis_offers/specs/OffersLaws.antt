@@ -1,4 +1,4 @@
--- Laws: the words from a letter's start up to the next are its arcs; equal arcs have an equal least key; a least key of another label is the
+-- Laws: the targets from a letter's start up to the next are those of its arcs; equal arcs have an equal least key; a least key of another label is the
 -- least of the other labels; its price is the least price.
 use Prim.Native.Nat.{ℕ, _+_, _-_, _*_, _/_, _%_, _<_, _≤_, min}
 use mathlib.Core.Path.{_≡_, refl, sym, ap, _∙_}
@@ -19,8 +19,8 @@ use Rattle.trellis.specs.Cells.{ByArc}
 use Rattle.trellis_keys.specs.Keys.{Keys}
 use Rattle.trellis_offers.specs.Offers.{FAR, keyOf, keyAt, Looked, KeyAt, OtherAt, Known, LeastOther, LeastKey}
 
--- Letter i: its arcs are the words from its start up to the next.
-module _ {f s ks : List ℕ} {i : ℕ} (known : Known f s ks i) where
+-- Letter i: its targets are in the list from its start up to the next.
+module _ {f ts s ks : List ℕ} {i : ℕ} (known : Known f ts s ks i) where
   few : i + 1 < 129
   few = let h = known .high in let m = known .valid .head .letters-high in omega arith
 
@@ -30,50 +30,59 @@ module _ {f s ks : List ℕ} {i : ℕ} (known : Known f s ks i) where
   next : StartsAt f (i + 1) (getD s (i + 1) 0)
   next = known .starts .starts (i + 1) few
 
-  arc-target : (k : ℕ) → getD s i 0 ≤ k → k < getD s (i + 1) 0 → (1 ≤ target (getD f k 0)) × (target (getD f k 0) ≤ lettersOf f)
+  arc-target : (k : ℕ) → getD s i 0 ≤ k → k < getD s (i + 1) 0 → (1 ≤ getD ts k 0) × (getD ts k 0 ≤ lettersOf f) × (getD ts k 0 ≡ target (getD f k 0))
   arc-target k l h =
       let p = first .past in
       let q = next .inside in
       let a = known .valid .arc k (omega arith) (omega arith) in
-      (a .target-low, a .target-high)
+      let e = known .targets .is k (omega arith) in
+      let low = a .target-low in
+      let high = a .target-high in
+      (omega arith, omega arith, e)
 
-  pub arcs-looked : Looked f ks (getD s i 0) (getD s (i + 1) 0)
+  pub arcs-looked : Looked ts ks (getD s i 0) (getD s (i + 1) 0)
   arcs-looked =
       record {
         rises = range-rises f i (getD s i 0) (getD s (i + 1) 0) first next;
-        inside = next .inside;
+        inside = let q = next .inside in let n = known .targets .long in omega arith;
         within = λ k l h. let t = arc-target k l h .1 in let m = known .valid .head .letters-high in let z = known .keys .size in omega arith;
       }
 
-  there : (k : ℕ) → getD s i 0 ≤ k → k < getD s (i + 1) 0 → followOf f i (target (getD f k 0)) ≡ true
+  there : (k : ℕ) → getD s i 0 ≤ k → k < getD s (i + 1) 0 → followOf f i (getD ts k 0) ≡ true
   there k l h =
       let p = first .past in
       let q = next .inside in
-      arc-follow f i (target (getD f k 0)) (known .low)
-      (record { index = k; past = omega arith; inside = omega arith; from = range-source f i (getD s i 0) (getD s (i + 1) 0) first next k l h; to = refl })
+      arc-follow f i (getD ts k 0) (known .low)
+      (record {
+        index = k;
+        past = omega arith;
+        inside = omega arith;
+        from = range-source f i (getD s i 0) (getD s (i + 1) 0) first next k l h;
+        to = sym (arc-target k l h .2);
+      })
 
-  label-at : (k : ℕ) → getD s i 0 ≤ k → k < getD s (i + 1) 0 → keyAt f ks k % 256 ≡ labelOf f (target (getD f k 0))
-  label-at k l h = let t = arc-target k l h in known .keys .label (target (getD f k 0)) (t .0) (t .1)
+  label-at : (k : ℕ) → getD s i 0 ≤ k → k < getD s (i + 1) 0 → keyAt ts ks k % 256 ≡ labelOf f (getD ts k 0)
+  label-at k l h = let t = arc-target k l h in known .keys .label (getD ts k 0) (t .0) (t .1)
 
-  back : (j : ℕ) → followOf f i j ≡ true → (k : ℕ) × (getD s i 0 ≤ k) × (k < getD s (i + 1) 0) × (target (getD f k 0) ≡ j)
+  back : (j : ℕ) → followOf f i j ≡ true → (k : ℕ) × (getD s i 0 ≤ k) × (k < getD s (i + 1) 0) × (getD ts k 0 ≡ j)
   back j e =
       let a = follow-arc f i j (known .low) e in
       let r = source-range f i (getD s i 0) (getD s (i + 1) 0) first next (a .index) (a .past) (a .inside) (a .from) in
-      (a .index, r .0, r .1, a .to)
+      (a .index, r .0, r .1, arc-target (a .index) (r .0) (r .1) .2 ∙ a .to)
 
-  pub arcs-all : {m : ℕ} → Least FAR (Among (getD s i 0) (getD s (i + 1) 0) (KeyAt f ks)) m → LeastKey f ks i m
+  pub arcs-all : {m : ℕ} → Least FAR (Among (getD s i 0) (getD s (i + 1) 0) (KeyAt ts ks)) m → LeastKey f ks i m
   arcs-all =
       least-same (ByArc (view f) (keyOf ks) i 0)
       (λ n o.
       let t = arc-target (o .0) (o .1) (o .2) in
-      let x = known .valid .letter (target (getD f (o .0) 0)) (t .0) (t .1) .low in
-      (target (getD f (o .0) 0), there (o .0) (o .1) (o .2), λ z. omega arith, o .3))
+      let x = known .valid .letter (getD ts (o .0) 0) (t .0) (t .1) .low in
+      (getD ts (o .0) 0, there (o .0) (o .1) (o .2), λ z. omega arith, o .3))
       (λ n o. let k = back (o .0) (o .1) in (k .0, k .1, k .2, o .3 ∙ sym (ap (keyOf ks) (k .3))))
 
-  pub arcs-other : (own : ℕ) {m : ℕ} → Least FAR (Among (getD s i 0) (getD s (i + 1) 0) (OtherAt f ks own)) m → LeastOther f ks i own m
+  pub arcs-other : (own : ℕ) {m : ℕ} → Least FAR (Among (getD s i 0) (getD s (i + 1) 0) (OtherAt ts ks own)) m → LeastOther f ks i own m
   arcs-other own =
       least-same (ByArc (view f) (keyOf ks) i own)
-      (λ n o. (target (getD f (o .0) 0), there (o .0) (o .1) (o .2), λ z. o .3 .0 (label-at (o .0) (o .1) (o .2) ∙ z), o .3 .1))
+      (λ n o. (getD ts (o .0) 0, there (o .0) (o .1) (o .2), λ z. o .3 .0 (label-at (o .0) (o .1) (o .2) ∙ z), o .3 .1))
       (λ n o.
       let k = back (o .0) (o .1) in
       (k .0, k .1, k .2, (λ z. o .2 (sym (ap (labelOf f) (k .3)) ∙ sym (label-at (k .0) (k .1) (k .2)) ∙ z), o .3 ∙ sym (ap (keyOf ks) (k .3)))))
@@ -100,13 +109,8 @@ least-equal f ks a i m same =
 
 -- The letters that may be first, in a list.
 module _ (f ks list : List ℕ) (n : ℕ) (valid : Valid f) (keys : Keys f ks) (firsts : Firsts f list n) where
-  first-at : (k : ℕ) → k < n → (1 ≤ target (getD list k 0)) × (target (getD list k 0) ≤ lettersOf f) × (target (getD list k 0) ≡ getD list k 0)
-  first-at k h =
-      let b = first-letter f (getD list k 0) (firsts .is k h) in
-      let low = b .0 in
-      let high = b .1 in
-      let few = valid .head .letters-high in
-      (omega arith, omega arith, omega arith)
+  first-at : (k : ℕ) → k < n → (1 ≤ getD list k 0) × (getD list k 0 ≤ lettersOf f)
+  first-at k h = first-letter f (getD list k 0) (firsts .is k h)
 
   pub firsts-looked : Looked list ks 0 n
   firsts-looked =
@@ -121,13 +125,12 @@ module _ (f ks list : List ℕ) (n : ℕ) (valid : Valid f) (keys : Keys f ks) (
       least-same (ByArc (view f) (keyOf ks) 0 0)
       (λ v o.
       let t = first-at (o .0) (o .2) in
-      let x = valid .letter (getD list (o .0) 0) (rw (t .2) at (t .0)) (rw (t .2) at (t .1)) .low in
-      (getD list (o .0) 0, firsts .is (o .0) (o .2), λ z. omega arith, o .3 ∙ ap (keyOf ks) (t .2)))
+      let x = valid .letter (getD list (o .0) 0) (t .0) (t .1) .low in
+      (getD list (o .0) 0, firsts .is (o .0) (o .2), λ z. omega arith, o .3))
       (λ v o.
       let b = first-letter f (o .0) (o .1) .1 in
       let k = firsts .all (o .0) (omega arith) (o .1) in
-      let t = first-at (k .0) (k .1) in
-      (k .0, omega arith, k .1, o .3 ∙ sym (ap (keyOf ks) (t .2 ∙ k .2))))
+      (k .0, omega arith, k .1, o .3 ∙ sym (ap (keyOf ks) (k .2))))
 
 -- The price of a least key is the least price, if the keys' prices are those of `c`, held at TOP.
 pub least-price :

@@ -1,13 +1,14 @@
 // What letters offer to a state: the least key along a letter's arcs, with or without those to its own label, and the least key of the
 // letters that may be first.
-use form_words::target;
 use numbers::least_size;
+use numbers::narrow_byte;
+use numbers::wide;
 ghost use mathlib.Core.Path.{_≡_};
-ghost use Prim.Native.Nat.{_-_, _<_, _≤_};
+ghost use Prim.Native.Nat.{_-_, _%_, _<_};
 ghost use lib.ListN.{length, getD};
 ghost use Rattle.lists.specs.Memory.{old};
 ghost use Rattle.lists.specs.Least.{Least, Among};
-ghost use Rattle.automaton.specs.Form.{lettersOf, labelOf, target as targetOf};
+ghost use Rattle.automaton.specs.Form.{labelOf};
 ghost use Rattle.automaton.specs.Valid.{Valid};
 ghost use Rattle.form_arcs.specs.Equal.{EqualArcs};
 ghost use Rattle.form_arcs.specs.Firsts.{Firsts};
@@ -17,90 +18,118 @@ ghost use Rattle.trellis_offers.specs.Offers.{FAR as far, keyAt, Looked,
 // The key that means 'impossible'. Its price is TOP, and no letter has its label.
 const FAR: usize = 256000000255;
 
-// The key of the target of the word at k.
-fn key_at(words: &[u32], keys: &[usize], k: usize) -> usize
-    requires { ⌜ (k < length (now words)) × (targetOf (getD (now words) k 0) < length (now keys)) ⌝ }
-    ensures { λ r. ⌜ r ≡ keyAt (old words) (old keys) k ⌝ }
+// The label of a key.
+fn label_of(key: usize) -> u8
+    ensures { λ r. ⌜ r ≡ key % 256 ⌝ }
 {
-    keys[target(words, k)]
+    narrow_byte(key % 256)
 }
 
-// The least key of the targets of the words from b up to e, or FAR. It goes by pairs: this compiles to fewer dependent steps.
-fn least_key(words: &[u32], keys: &[usize], b: usize, e: usize) -> usize
-    requires { ⌜ Looked (now words) (now keys) b e ⌝ }
-    ensures { λ r. ⌜ Least far (Among b e (KeyAt (old words) (old keys))) r ⌝ }
+// The key of the letter that the list has at k.
+fn key_at(list: &[u8], keys: &[usize], k: usize) -> usize
+    requires { ⌜ (k < length (now list)) × (getD (now list) k 0 < length (now keys)) ⌝ }
+    ensures { λ r. ⌜ r ≡ keyAt (old list) (old keys) k ⌝ }
 {
+    keys[wide(list[k])]
+}
+
+// The least key of the letters from place b of the list up to e, or FAR. It goes by pairs, since then each key waits for half as many
+// comparisons, and the compiler makes no jumps of them.
+fn least_key(list: &[u8], keys: &[usize], b: usize, e: usize) -> usize
+    requires { ⌜ Looked (now list) (now keys) b e ⌝ }
+    ensures { λ r. ⌜ Least far (Among b e (KeyAt (old list) (old keys))) r ⌝ }
+{
+    let end = e - (e - b) % 2;
     let mut m = FAR;
     let mut k = b;
-    while k + 1 < e {
-        let pair = least_size(key_at(words, keys, k), key_at(words, keys, k + 1));
+    while k < end {
+        let pair = least_size(key_at(list, keys, k), key_at(list, keys, k + 1));
         m = least_size(m, pair);
         k += 2;
     }
     if k < e {
-        return least_size(m, key_at(words, keys, k));
+        return least_size(m, key_at(list, keys, k));
     }
     m
 }
 
-// The key, or FAR if its label is `own`, the label that the path is on.
-fn unless_own(key: usize, own: usize) -> usize
-    ensures { λ r. ⌜ r ≡ unless-own key own ⌝ }
+// The key of the letter that the list has at k, or FAR if its label is `own`, the label that the path is on.
+fn other_at(list: &[u8], keys: &[usize], own: u8, k: usize) -> usize
+    requires { ⌜ (k < length (now list)) × (getD (now list) k 0 < length (now keys)) ⌝ }
+    ensures { λ r. ⌜ r ≡ unless-own (keyAt (old list) (old keys) k) own ⌝ }
 {
-    if key % 256 == own {
+    let key = key_at(list, keys, k);
+    if label_of(key) == own {
         return FAR;
     }
     key
 }
 
-// The least key of the targets of the words from b up to e that has another label than `own`, or FAR.
-fn least_other(words: &[u32], keys: &[usize], own: usize, b: usize, e: usize) -> usize
-    requires { ⌜ Looked (now words) (now keys) b e ⌝ }
-    ensures { λ r. ⌜ Least far (Among b e (OtherAt (old words) (old keys) own)) r ⌝ }
+// The least key of the letters from place b of the list up to e that have another label than `own`, or FAR; by pairs too.
+fn least_other(list: &[u8], keys: &[usize], own: u8, b: usize, e: usize) -> usize
+    requires { ⌜ Looked (now list) (now keys) b e ⌝ }
+    ensures { λ r. ⌜ Least far (Among b e (OtherAt (old list) (old keys) own)) r ⌝ }
 {
+    let end = e - (e - b) % 2;
     let mut m = FAR;
     let mut k = b;
-    while k < e {
-        m = least_size(m, unless_own(key_at(words, keys, k), own));
-        k += 1;
+    while k < end {
+        let pair = least_size(
+            other_at(list, keys, own, k),
+            other_at(list, keys, own, k + 1),
+        );
+        m = least_size(m, pair);
+        k += 2;
+    }
+    if k < e {
+        return least_size(m, other_at(list, keys, own, k));
     }
     m
 }
 
-// The least key along the arcs of letter i; `before` is that of the letter before it, which may have the same arcs.
+// The least key along the arcs of letter i of the form; `before` is that of the letter before it, which may have the same arcs. The form
+// is known by its targets and by where each letter's arcs start.
 pub fn next_key(
     form: &[u32],
+    targets: &[u8],
     starts: &[usize],
     same: &[bool],
     keys: &[usize],
     i: usize,
     before: usize,
 ) -> usize
-    requires { ⌜ Known (now form) (now starts) (now keys) i × EqualArcs (now form) (now starts) (now same)
+    requires { ⌜ Known (now form) (now targets) (now starts) (now keys) i × EqualArcs (now form) (now starts) (now same)
         × LeastKey (now form) (now keys) (i - 1) before ⌝ }
     ensures { λ r. ⌜ LeastKey (old form) (old keys) i r ⌝ }
 {
     if same[i] {
         return before;
     }
-    least_key(form, keys, starts[i], starts[i + 1])
+    least_key(targets, keys, starts[i], starts[i + 1])
 }
 
 // The least key along the arcs of letter i to another label; `least` is that along all its arcs. Only if it has the letter's own label
 // the arcs are gone through once more.
-pub fn other_key(form: &[u32], starts: &[usize], keys: &[usize], i: usize, least: usize) -> usize
-    requires { ⌜ Known (now form) (now starts) (now keys) i × LeastKey (now form) (now keys) i least ⌝ }
+pub fn other_key(
+    form: &[u32],
+    targets: &[u8],
+    starts: &[usize],
+    keys: &[usize],
+    i: usize,
+    least: usize,
+) -> usize
+    requires { ⌜ Known (now form) (now targets) (now starts) (now keys) i × LeastKey (now form) (now keys) i least ⌝ }
     ensures { λ r. ⌜ LeastOther (old form) (old keys) i (labelOf (old form) i) r ⌝ }
 {
-    let own = keys[i] % 256;
-    if least % 256 == own {
-        return least_other(form, keys, own, starts[i], starts[i + 1]);
+    let own = label_of(keys[i]);
+    if label_of(least) == own {
+        return least_other(targets, keys, own, starts[i], starts[i + 1]);
     }
     least
 }
 
-// The least key of the letters that may be first, the first n words of the list.
-pub fn first_key(form: &[u32], keys: &[usize], list: &[u32], n: usize) -> usize
+// The least key of the letters that may be first, the first n of the list.
+pub fn first_key(form: &[u32], keys: &[usize], list: &[u8], n: usize) -> usize
     requires { ⌜ Valid (now form) × Keys (now form) (now keys) × Firsts (now form) (now list) n ⌝ }
     ensures { λ r. ⌜ LeastKey (old form) (old keys) 0 r ⌝ }
 {

@@ -9,6 +9,7 @@ use Rattle.automaton.specs.Form.{lettersOf, labelOf}
 use Rattle.automaton.specs.Valid.{Valid}
 use Rattle.form_starts.specs.Starts.{ArcStarts}
 use Rattle.form_arcs.specs.Equal.{EqualArcs}
+use Rattle.form_arcs.specs.Targets.{Targets}
 use Rattle.trellis_keys.specs.Keys.{Keys}
 use Rattle.trellis_offers.specs.Offers.{keyOf, Known, LeastKey, LeastOther}
 
@@ -18,8 +19,8 @@ states f = 2 * lettersOf f + 1
 
 -- what the states of letter i are computed from, in its blanks at p: its arcs, the keys, the least key of the letter before, and a number
 -- `stride` further on
-pub record LetterReady (f s : List ℕ) (same : List Bool) (ks work : List ℕ) (p stride i least : ℕ) : Type 0 where
-  pub known : Known f s ks i
+pub record LetterReady (f ts s : List ℕ) (same : List Bool) (ks work : List ℕ) (p stride i least : ℕ) : Type 0 where
+  pub known : Known f ts s ks i
   pub equal : EqualArcs f s same
   pub before : LeastKey f ks (i - 1) least
   pub low : 1 ≤ p
@@ -39,8 +40,9 @@ pub record LetterFilled (f ks : List ℕ) (blank : ℕ) (before after : List ℕ
   pub outside : Outside (p - 1) (p + 1) before after
 
 -- what the states of all letters are computed from; the row to be written is at `here`, that of the next column `stride` further on
-pub record LettersReady (f s : List ℕ) (same : List Bool) (ks work : List ℕ) (here stride first : ℕ) : Type 0 where
+pub record LettersReady (f ts s : List ℕ) (same : List Bool) (ks work : List ℕ) (here stride first : ℕ) : Type 0 where
   pub valid : Valid f
+  pub targets : Targets f ts
   pub starts : ArcStarts f s
   pub equal : EqualArcs f s same
   pub keys : Keys f ks

@@ -42,12 +42,12 @@ letter-filled f ks blank work p q i least other low room all others on blanks re
 
 -- what a letter's states are computed from, where the rows are
 pub letter-ready :
-    {f s : List ℕ} {same : List Bool} {ks work : List ℕ} {here stride first : ℕ} → LettersReady f s same ks work here stride first
+    {f ts s : List ℕ} {same : List Bool} {ks work : List ℕ} {here stride first : ℕ} → LettersReady f ts s same ks work here stride first
     → (after : List ℕ) (p i least : ℕ) → length after ≡ length work → p ≡ here + 2 * i → 1 ≤ i → i ≤ lettersOf f → LeastKey f ks (i - 1) least
-    → LetterReady f s same ks after p stride i least
+    → LetterReady f ts s same ks after p stride i least
 letter-ready r after p i least size at low high before =
     record {
-      known = record { valid = r .valid; starts = r .starts; keys = r .keys; low = low; high = high };
+      known = record { valid = r .valid; targets = r .targets; starts = r .starts; keys = r .keys; low = low; high = high };
       equal = r .equal;
       before = before;
       low = omega arith;

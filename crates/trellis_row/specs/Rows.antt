@@ -10,13 +10,15 @@ use Rattle.automaton.specs.Form.{lettersOf, labelOf, view}
 use Rattle.form_starts.specs.Starts.{ArcStarts}
 use Rattle.form_arcs.specs.Equal.{EqualArcs}
 use Rattle.form_arcs.specs.Firsts.{Firsts}
+use Rattle.form_arcs.specs.Targets.{Targets}
 use Rattle.trellis.specs.Impossible.{TOP, plus}
 use Rattle.trellis.specs.Cells.{ByArc}
 use Rattle.trellis_keys.specs.Keys.{Ahead}
 use Rattle.trellis_row.specs.Letters.{states}
 
 -- what a row is computed from
-pub record RowReady (f s : List ℕ) (same : List Bool) (list : List ℕ) (n : ℕ) (column work : List ℕ) (here stride : ℕ) : Type 0 where
+pub record RowReady (f ts s : List ℕ) (same : List Bool) (list : List ℕ) (n : ℕ) (column work : List ℕ) (here stride : ℕ) : Type 0 where
+  pub targets : Targets f ts
   pub starts : ArcStarts f s
   pub equal : EqualArcs f s same
   pub firsts : Firsts f list n

@@ -28,6 +28,7 @@ fn price(key: usize, rest: usize) -> u32
 // Returns the least key along its arcs; `before` is that of the letter before it.
 fn fill_letter(
     form: &[u32],
+    targets: &[u8],
     starts: &[usize],
     same: &[bool],
     keys: &[usize],
@@ -38,11 +39,11 @@ fn fill_letter(
     i: usize,
     before: usize,
 ) -> usize
-    requires { ⌜ LetterReady (now form) (now starts) (now same) (now keys) (now work) p stride i before ⌝ }
+    requires { ⌜ LetterReady (now form) (now targets) (now starts) (now same) (now keys) (now work) p stride i before ⌝ }
     ensures { λ r. ⌜ LetterFilled (old form) (old keys) blank (old work) (new work) p (p + stride) i r ⌝ }
 {
-    let least = next_key(form, starts, same, keys, i, before);
-    let other = other_key(form, starts, keys, i, least);
+    let least = next_key(form, targets, starts, same, keys, i, before);
+    let other = other_key(form, targets, starts, keys, i, least);
     let rest = sum(blank, work[p + stride]);
     work[p - 1] = price(least_size(keys[i], other), rest);
     work[p] = price(least, rest);
@@ -53,6 +54,7 @@ fn fill_letter(
 // the letters that may be first.
 fn fill_letters(
     form: &[u32],
+    targets: &[u8],
     starts: &[usize],
     same: &[bool],
     keys: &[usize],
@@ -62,7 +64,7 @@ fn fill_letters(
     stride: usize,
     first: usize,
 )
-    requires { ⌜ LettersReady (now form) (now starts) (now same) (now keys) (now work) here stride first ⌝ }
+    requires { ⌜ LettersReady (now form) (now targets) (now starts) (now same) (now keys) (now work) here stride first ⌝ }
     ensures { λ _. ⌜ LettersFilled (old form) (old keys) blank (old work) (new work) here (here + stride) (lettersOf (old form) + 1) ⌝ }
 {
     let l = letters(form);
@@ -70,19 +72,33 @@ fn fill_letters(
     let mut p = here + 2;
     let mut i = 1;
     while i <= l {
-        least = fill_letter(form, starts, same, keys, blank, work, p, stride, i, least);
+        least = fill_letter(
+            form,
+            targets,
+            starts,
+            same,
+            keys,
+            blank,
+            work,
+            p,
+            stride,
+            i,
+            least,
+        );
         p += 2;
         i += 1;
     }
 }
 
-// Writes the row at `here` for a column of costs, by the row of the next column, `stride` further on. `same` has the letters that share
-// their arcs with the letter before them, `list` the n letters that may be first; the memory of the keys may hold anything.
+// Writes the row at `here` for a column of costs, by the row of the next column, `stride` further on. What is looked up once in the form:
+// the targets of its words, where each letter's arcs start, which letters share theirs with the letter before, and the n letters that may
+// be first, in `list`. The memory of the keys may hold anything.
 pub fn fill_row(
     form: &[u32],
+    targets: &[u8],
     starts: &[usize],
     same: &[bool],
-    list: &[u32],
+    list: &[u8],
     n: usize,
     column: &[u32],
     work: &mut [u32],
@@ -90,13 +106,25 @@ pub fn fill_row(
     stride: usize,
     keys: &mut [usize; 128],
 )
-    requires { ⌜ RowReady (now form) (now starts) (now same) (now list) n (now column) (now work) here stride × (length (now keys) ≡ 128) ⌝ }
+    requires { ⌜ RowReady (now form) (now targets) (now starts) (now same) (now list) n (now column) (now work) here stride
+        × (length (now keys) ≡ 128) ⌝ }
     ensures { λ _. ⌜ RowFilled (old form) (old column) (old work) (new work) here (here + stride) × (length (new keys) ≡ 128) ⌝ }
 {
     let blank = column[0];
     fill_keys(form, column, work, here + stride, keys);
     let first = first_key(form, keys, list, n);
     let start = price(first, sum(blank, work[here + stride]));
-    fill_letters(form, starts, same, keys, blank, work, here, stride, first);
+    fill_letters(
+        form,
+        targets,
+        starts,
+        same,
+        keys,
+        blank,
+        work,
+        here,
+        stride,
+        first,
+    );
     work[here] = start;
 }

@@ -11,6 +11,7 @@ use Rattle.automaton.specs.Valid.{Valid}
 use Rattle.form_starts.specs.Starts.{ArcStarts}
 use Rattle.form_arcs.specs.Equal.{EqualArcs}
 use Rattle.form_arcs.specs.Firsts.{Firsts}
+use Rattle.form_arcs.specs.Targets.{Targets}
 use Rattle.trellis.specs.CostToGo.{CostToGo}
 use Rattle.trellis.specs.Extended.{extended}
 use Rattle.trellis.specs.Table.{Row, Table}
@@ -24,8 +25,10 @@ pub record Sized (f : List ℕ) (M : Matrix) (work : List ℕ) (stride : ℕ) : 
   pub row : states f ≤ stride
   pub room : (M .count + 1) * stride ≤ length work
 
--- what is looked up once in the form: where each letter's arcs start, which letters share theirs, and the letters that may be first
-pub record LookedUp (f s : List ℕ) (same : List Bool) (list : List ℕ) (n : ℕ) : Type 0 where
+-- what is looked up once in the form: the targets of its words, where each letter's arcs start, which letters share theirs, and the
+-- letters that may be first
+pub record LookedUp (f ts s : List ℕ) (same : List Bool) (list : List ℕ) (n : ℕ) : Type 0 where
+  pub targets : Targets f ts
   pub starts : ArcStarts f s
   pub equal : EqualArcs f s same
   pub firsts : Firsts f list n

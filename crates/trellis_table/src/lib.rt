@@ -1,6 +1,8 @@
 // The table of costs to go of Decode, filled from the last row to the first (document 01, "Extended states and decoding").
 use form_arcs::equal_arcs;
 use form_arcs::list_firsts;
+use form_arcs::list_targets;
+use form_arcs::no_targets;
 use form_starts::arc_starts;
 use form_words::letters;
 use trellis_costs::last_cost;
@@ -35,9 +37,10 @@ fn fill_last(form: &[u32], work: &mut [u32], base: usize)
 // Writes the rows of all columns, `stride` apart, from the last column to the first. The last row is after them, and already written.
 fn fill_columns(
     form: &[u32],
+    targets: &[u8],
     starts: &[usize],
     same: &[bool],
-    list: &[u32],
+    list: &[u8],
     n: usize,
     costs: &[u32],
     width: usize,
@@ -48,7 +51,7 @@ fn fill_columns(
 )
     requires { ⌜ Sized (now form) (matrix (now costs) width count) (now work) stride
         × Row (view (now form)) (matrix (now costs) width count) (now work) (count * stride) count 0
-        × LookedUp (now form) (now starts) (now same) (now list) n × (length (now keys) ≡ 128) ⌝ }
+        × LookedUp (now form) (now targets) (now starts) (now same) (now list) n × (length (now keys) ≡ 128) ⌝ }
     ensures { λ _. ⌜ RowsFilled (old form) (matrix (old costs) width count) (old work) (new work) stride 0 ⌝ }
 {
     let mut t = count;
@@ -58,6 +61,7 @@ fn fill_columns(
         let end = at + width;
         fill_row(
             form,
+            targets,
             starts,
             same,
             list,
@@ -84,6 +88,8 @@ fn fill_rows(
         (matrix (now costs) width count) (now work) (count * stride) count 0 ⌝ }
     ensures { λ _. ⌜ RowsFilled (old form) (matrix (old costs) width count) (old work) (new work) stride 0 ⌝ }
 {
+    let mut targets = no_targets();
+    list_targets(form, &mut targets);
     let starts = arc_starts(form);
     let same = equal_arcs(form, &starts);
     let mut list = [0; 128];
@@ -91,6 +97,7 @@ fn fill_rows(
     let mut keys = [0; 128];
     fill_columns(
         form,
+        &targets,
         &starts,
         &same,
         &list,

@@ -12,17 +12,10 @@ use Rattle.form_arcs.proofs.list_first.Tie as tie
 may-be-first-requires : tie.Need-may-be-first-requires
 may-be-first-requires c κs = search needs
 
-narrow-requires : tie.Need-narrow-requires
-narrow-requires c κs =
+narrow-byte-requires : tie.Need-narrow-byte-requires
+narrow-byte-requires c κs =
     let few = c .before .before .before .pre .0 .head .letters-high in
     let h = c .before .before .before .pre .2 in
-    omega arith
-
-mul-list : tie.Need-mul-list
-mul-list c =
-    let few = c .before .before .before .before .pre .0 .head .letters-high in
-    let h = c .before .before .before .before .pre .2 in
-    let n = c .before .before .before .before .pre .3 .few in
     omega arith
 
 element-write-list : tie.Need-element-write-list
@@ -47,7 +40,7 @@ returns c =
     let few = p .0 .head .letters-high in
     let h = p .2 in
     let made = firsts-more (now (a .form)) (now (a .list)) (a .j) (a .n) (p .3) (omega arith) (sym (c .before .before .may-be-first .ensures) ∙ c .before .if1 .taken) in
-    rw (c .narrow .ensures) made
+    rw (c .narrow-byte .ensures) made
 
 returns-2 : tie.Need-returns-2
 returns-2 c =
@@ -59,8 +52,7 @@ list-first-spec =
     tie.close
     (tie.spec
     may-be-first-requires
-    narrow-requires
-    mul-list
+    narrow-byte-requires
     element-write-list
     add-result
     returns

@@ -11,7 +11,7 @@ use Rattle.trellis_offers.proofs.next_key.Tie as tie
 
 shared-slice-read-if1 : tie.Need-shared-slice-read-if1
 shared-slice-read-if1 c =
-    let p = c .before .before .before .before .before .pre in
+    let p = c .before .before .before .before .before .before .pre in
     let few = p .0 .valid .head .letters-high in
     let h = p .0 .high in
     let s = p .1 .size in
@@ -19,8 +19,8 @@ shared-slice-read-if1 c =
 
 returns : tie.Need-returns
 returns c =
-    let a = c .before .before .before .before .before .before .args in
-    let p = c .before .before .before .before .before .before .pre in
+    let a = c .before .before .before .before .before .before .before .args in
+    let p = c .before .before .before .before .before .before .before .pre in
     least-equal (now (a .form)) (now (a .keys)) (a .i - 1) (a .i) (a .before) (equal-letters (now (a .form)) (now (a .starts)) (now (a .same)) (p .0 .valid) (p .0 .starts) (p .1) (a .i) (c .if1 .taken)) (p .2)
 
 mul-least-key : tie.Need-mul-least-key
@@ -28,7 +28,7 @@ mul-least-key c = search needs
 
 shared-slice-read-least-key : tie.Need-shared-slice-read-least-key
 shared-slice-read-least-key c =
-    let p = c .before .before .before .before .before .before .before .pre in
+    let p = c .before .before .before .before .before .before .before .before .pre in
     let few = p .0 .valid .head .letters-high in
     let h = p .0 .high in
     let s = p .0 .starts .size in
@@ -42,17 +42,17 @@ mul-least-key-2 c = search needs
 
 shared-slice-read-least-key-2 : tie.Need-shared-slice-read-least-key-2
 shared-slice-read-least-key-2 c =
-    let p = c .before .before .before .before .before .before .before .before .pre in
+    let p = c .before .before .before .before .before .before .before .before .before .pre in
     let few = p .0 .valid .head .letters-high in
     let h = p .0 .high in
     let s = p .0 .starts .size in
     omega arith
 
 least-key-requires : tie.Need-least-key-requires
-least-key-requires c κs = arcs-looked (c .before .before .before .before .before .before .before .before .pre .0)
+least-key-requires c κs = arcs-looked (c .before .before .before .before .before .before .before .before .before .pre .0)
 
 returns-2 : tie.Need-returns-2
-returns-2 c = arcs-all (c .before .before .before .before .before .before .before .before .before .pre .0) (c .least-key .ensures)
+returns-2 c = arcs-all (c .before .before .before .before .before .before .before .before .before .before .pre .0) (c .least-key .ensures)
 
 pub next-key-spec : {M : Type 1} → statement M
 next-key-spec =

@@ -11,36 +11,36 @@ use Rattle.trellis_table.proofs.fill_columns.Statement.{statement}
 use Rattle.trellis_table.proofs.fill_columns.Tie as tie
 
 abbrev Inv-loop : tie.InvT-loop
-Inv-loop form starts same list n costs width count work₀ stride keys₀ t₀ work keys t = (t ≤ count) × RowsFilled form (matrix costs width count) work₀ work stride t × (length keys ≡ 128)
+Inv-loop form targets starts same list n costs width count work₀ stride keys₀ t₀ work keys t = (t ≤ count) × RowsFilled form (matrix costs width count) work₀ work stride t × (length keys ≡ 128)
 
 abbrev μ-loop : tie.MeasureT-loop
-μ-loop form starts same list n costs width count work₀ stride keys₀ t₀ work keys t = t
+μ-loop form targets starts same list n costs width count work₀ stride keys₀ t₀ work keys t = t
 
 loop-holds : tie.Need-loop-holds Inv-loop μ-loop
 loop-holds c =
-    let a = c .before .before .before .before .before .before .args in
-    (omega arith, rows-last (matrix (now (a .costs)) (a .width) (a .count)) (now (a .work)) (a .stride) (c .before .before .before .before .before .before .pre .1), c .before .before .before .before .before .before .pre .3)
+    let a = c .before .before .before .before .before .before .before .args in
+    (omega arith, rows-last (matrix (now (a .costs)) (a .width) (a .count)) (now (a .work)) (a .stride) (c .before .before .before .before .before .before .before .pre .1), c .before .before .before .before .before .before .before .pre .3)
 
 sub-t : tie.Need-sub-t Inv-loop μ-loop
 sub-t c = omega (arith, c .loop-test .taken)
 
 -- the column before t, and the places of its costs and rows
-column : (c : tie.In-loop Inv-loop μ-loop) → c .before .loop .t - 1 < c .before .before .before .before .before .before .before .before .args .count
+column : (c : tie.In-loop Inv-loop μ-loop) → c .before .loop .t - 1 < c .before .before .before .before .before .before .before .before .before .args .count
 column c = omega (arith, c .loop-test .taken, c .before .loop .inv .0)
 
 costs : (c : tie.In-loop Inv-loop μ-loop)
-    → (c .before .loop .t - 1) * c .before .before .before .before .before .before .before .before .args .width + c .before .before .before .before .before .before .before .before .args .width ≤ length (now (c .before .before .before .before .before .before .before .before .args .costs))
-costs c = let a = c .before .before .before .before .before .before .before .before .args in column-inside (matrix (now (a .costs)) (a .width) (a .count)) (now (a .work)) (a .stride) (c .before .before .before .before .before .before .before .before .pre .0) (c .before .loop .t - 1) (column c)
+    → (c .before .loop .t - 1) * c .before .before .before .before .before .before .before .before .before .args .width + c .before .before .before .before .before .before .before .before .before .args .width ≤ length (now (c .before .before .before .before .before .before .before .before .before .args .costs))
+costs c = let a = c .before .before .before .before .before .before .before .before .before .args in column-inside (matrix (now (a .costs)) (a .width) (a .count)) (now (a .work)) (a .stride) (c .before .before .before .before .before .before .before .before .before .pre .0) (c .before .loop .t - 1) (column c)
 
 rows : (c : tie.In-loop Inv-loop μ-loop)
-    → (c .before .loop .t - 1) * c .before .before .before .before .before .before .before .before .args .stride + c .before .before .before .before .before .before .before .before .args .stride + c .before .before .before .before .before .before .before .before .args .stride ≤ length (now (c .before .before .before .before .before .before .before .before .args .work))
-rows c = let a = c .before .before .before .before .before .before .before .before .args in row-inside (matrix (now (a .costs)) (a .width) (a .count)) (now (a .work)) (a .stride) (c .before .before .before .before .before .before .before .before .pre .0) (c .before .loop .t - 1) (column c)
+    → (c .before .loop .t - 1) * c .before .before .before .before .before .before .before .before .before .args .stride + c .before .before .before .before .before .before .before .before .before .args .stride + c .before .before .before .before .before .before .before .before .before .args .stride ≤ length (now (c .before .before .before .before .before .before .before .before .before .args .work))
+rows c = let a = c .before .before .before .before .before .before .before .before .before .args in row-inside (matrix (now (a .costs)) (a .width) (a .count)) (now (a .work)) (a .stride) (c .before .before .before .before .before .before .before .before .before .pre .0) (c .before .loop .t - 1) (column c)
 
 done :
     (c : tie.In-loop Inv-loop μ-loop)
-    → RowsFilled (now (c .before .before .before .before .before .before .before .before .args .form)) (matrix (now (c .before .before .before .before .before .before .before .before .args .costs)) (c .before .before .before .before .before .before .before .before .args .width) (c .before .before .before .before .before .before .before .before .args .count)) (now (c .before .before .before .before .before .before .before .before .args .work)) (c .before .loop .work) (c .before .before .before .before .before .before .before .before .args .stride) (c .before .loop .t - 1 + 1)
+    → RowsFilled (now (c .before .before .before .before .before .before .before .before .before .args .form)) (matrix (now (c .before .before .before .before .before .before .before .before .before .args .costs)) (c .before .before .before .before .before .before .before .before .before .args .width) (c .before .before .before .before .before .before .before .before .before .args .count)) (now (c .before .before .before .before .before .before .before .before .before .args .work)) (c .before .loop .work) (c .before .before .before .before .before .before .before .before .before .args .stride) (c .before .loop .t - 1 + 1)
 done c =
-    let a = c .before .before .before .before .before .before .before .before .args in
+    let a = c .before .before .before .before .before .before .before .before .before .args in
     let l = c .before .loop in
     let e : l .t ≡ l .t - 1 + 1 = omega (arith, c .loop-test .taken) in
     subst (RowsFilled (now (a .form)) (matrix (now (a .costs)) (a .width) (a .count)) (now (a .work)) (l .work) (a .stride)) e (l .inv .1)
@@ -48,17 +48,17 @@ done c =
 mul-at : tie.Need-mul-at Inv-loop μ-loop
 mul-at c =
     let h = costs (c) in
-    omega (arith, c .before .before .before .before .before .before .before .before .good)
+    omega (arith, c .before .before .before .before .before .before .before .before .before .good)
 
 add-end : tie.Need-add-end Inv-loop μ-loop
 add-end c =
     let h = costs (c) in
-    omega (arith, c .before .before .before .before .before .before .before .before .good)
+    omega (arith, c .before .before .before .before .before .before .before .before .before .good)
 
 mul-fill-row : tie.Need-mul-fill-row Inv-loop μ-loop
 mul-fill-row c =
     let h = costs (c) in
-    omega (arith, c .before .before .before .before .before .before .before .before .good)
+    omega (arith, c .before .before .before .before .before .before .before .before .before .good)
 
 sub-fill-row : tie.Need-sub-fill-row Inv-loop μ-loop
 sub-fill-row c =
@@ -78,52 +78,51 @@ part-fill-row-end c =
 mul-fill-row-2 : tie.Need-mul-fill-row-2 Inv-loop μ-loop
 mul-fill-row-2 c =
     let h = rows (c .before .before) in
-    omega (arith, c .before .before .before .before .before .before .before .before .before .before .good)
+    omega (arith, c .before .before .before .before .before .before .before .before .before .before .before .good)
 
 fill-row-requires : tie.Need-fill-row-requires Inv-loop μ-loop
 fill-row-requires c κs =
-    let a = c .before .before .before .before .before .before .before .before .before .before .before .args in
-    let p = c .before .before .before .before .before .before .before .before .before .before .before .pre in
+    let a = c .before .before .before .before .before .before .before .before .before .before .before .before .args in
+    let p = c .before .before .before .before .before .before .before .before .before .before .before .before .pre in
     let l = c .before .before .before .before .loop in
     let wide = p .0 .row in
     let M = matrix (now (a .costs)) (a .width) (a .count) in
     let first = (l .t - 1) * a .width in
     let size = l .inv .1 .outside .size in
-    let inside = rows (c .before .before .before) in (
-      record {
-        starts = p .2 .starts;
-        equal = p .2 .equal;
-        firsts = p .2 .firsts;
-        ahead =
-            record {
-              valid = p .0 .valid;
-              wide = column-wide M (now (a .work)) (a .stride) (p .0) (l .t - 1) (column (c .before .before .before)) first (first + a .width) refl refl;
-              room = omega arith;
-            };
-        apart = omega arith;
-      },
-      l .inv .2,
-    )
+    let inside = rows (c .before .before .before) in
+    (record {
+      targets = p .2 .targets;
+      starts = p .2 .starts;
+      equal = p .2 .equal;
+      firsts = p .2 .firsts;
+      ahead =
+          record {
+            valid = p .0 .valid;
+            wide = column-wide M (now (a .work)) (a .stride) (p .0) (l .t - 1) (column (c .before .before .before)) first (first + a .width) refl refl;
+            room = omega arith;
+          };
+      apart = omega arith;
+    }, l .inv .2)
 
 loop-less : tie.Need-loop-less Inv-loop μ-loop
 loop-less c = omega (arith, c .before .before .before .before .before .before .loop-test .taken)
 
 loop-again : tie.Need-loop-again Inv-loop μ-loop
 loop-again c =
-    let a = c .before .before .before .before .before .before .before .before .before .before .before .before .before .before .args in
-    let p = c .before .before .before .before .before .before .before .before .before .before .before .before .before .before .pre in
+    let a = c .before .before .before .before .before .before .before .before .before .before .before .before .before .before .before .args in
+    let p = c .before .before .before .before .before .before .before .before .before .before .before .before .before .before .before .pre in
     let l = c .before .before .before .before .before .before .before .loop in
     let M = matrix (now (a .costs)) (a .width) (a .count) in
     let first = (l .t - 1) * a .width in
     let new = c .before .before .fill-row in
-    (omega (arith, l .inv .0), rows-more M (now (a .work)) (a .stride) (p .0) (l .t - 1) (column (c .before .before .before .before .before .before)) (l .work) (done (c .before .before .before .before .before .before)) (take (first + a .width - first) (drop first (now (a .costs)))) (new .last .1 .1 .1 .1 .1 .1 .0) (column-of M (now (a .work)) (a .stride) (p .0) (l .t - 1) (column (c .before .before .before .before .before .before)) first (first + a .width) refl refl) (new .ensures .0), new .ensures .1)
+    (omega (arith, l .inv .0), rows-more M (now (a .work)) (a .stride) (p .0) (l .t - 1) (column (c .before .before .before .before .before .before)) (l .work) (done (c .before .before .before .before .before .before)) (take (first + a .width - first) (drop first (now (a .costs)))) (new .last .1 .1 .1 .1 .1 .1 .1 .0) (column-of M (now (a .work)) (a .stride) (p .0) (l .t - 1) (column (c .before .before .before .before .before .before)) first (first + a .width) refl refl) (new .ensures .0), new .ensures .1)
 
 same-length : tie.Need-same-length Inv-loop μ-loop
 same-length c = c .before .loop .inv .1 .outside .size
 
 returns : tie.Need-returns Inv-loop μ-loop
 returns c =
-    let a = c .before .before .before .before .before .before .before .before .args in
+    let a = c .before .before .before .before .before .before .before .before .before .args in
     let l = c .before .loop in
     let h = c .loop-test .left in
     let e : l .t ≡ 0 = omega arith in
