@@ -2,19 +2,20 @@
 -- and the five tests are made one after another.
 use Prim.Native.Nat.{ℕ, suc, _+_, _-_, _*_, _/_, _%_, _<_, _≤_}
 use mathlib.Core.Path.{_≡_, refl, sym, ap, ap₂, _∙_}
-use mathlib.Core.Bool.{Bool, true, false, _&&_}
+use mathlib.Core.Bool.{Bool, true, false, _&&_, and-assoc, and-true}
 use mathlib.Core.Logic.{_⊎_, inl, inr}
 use mathlib.Core.List.{List, [], _∷_}
 use native.Mathlib.Numerals.{add-one}
 use native.Mathlib.Omega.{arith}
-use lib.Dec.{ltb, eqb}
+use lib.Dec.{leb, ltb, eqb}
 use lib.ListN.{length, getD, take, drop, length-drop}
 use lib.Seq.{take-all}
 use borrow.Author.Tests.{eq-eqb, ne-eqb, lt-ltb, le-ltb}
 use Rattle.lists.specs.OrderLaws.{eq-or-ne}
+use Rattle.lists.specs.Lists.{in-range}
 use Rattle.lists.specs.EachLaws.{drop-here, drop-all}
 use Rattle.lists.specs.Each.{all}
-use Rattle.automaton.specs.Form.{bit, bit8, bit9, byte0, byte2, headWord, letterWord, isHead, isLetter, isArc, before, ordered, validForm, lettersOf, alphabetOf, letterWords, arcWords}
+use Rattle.automaton.specs.Form.{bit, bit8, bit9, byte0, byte2, source, target, headWord, letterWord, arcWord, isHead, isLetter, isArc, before, ordered, validForm, lettersOf, alphabetOf, letterWords, arcWords}
 use Rattle.automaton.specs.WordsLaws.{Arc, arc-true, before-less}
 
 -- the test of a bit, as a number, is the bit
@@ -30,6 +31,15 @@ head-sum w = omega (arith, parity (w / 0x100))
 
 pub letter-sum : (w : ℕ) → letterWord (byte0 w) (bit8 w) (bit9 w) ≡ 0x20000000 + w / 0x200 % 2 * 0x200 + w / 0x100 % 2 * 0x100 + byte0 w
 letter-sum w = omega (arith, parity (w / 0x100), parity (w / 0x200))
+
+-- the five comparisons of an arc, one after another
+pub arc-tests :
+    (l w : ℕ)
+    → (eqb w (arcWord (source w) (target w)) && leb 1 (source w) && leb (source w) l && leb 1 (target w) && leb (target w) l) ≡ isArc l w
+arc-tests l w =
+    let same = eqb w (arcWord (source w) (target w)) in
+    and-assoc (same && leb 1 (source w) && leb (source w) l) (leb 1 (target w)) (leb (target w) l)
+    ∙ ap (λ t. t && in-range 1 l (target w)) (and-assoc same (leb 1 (source w)) (leb (source w) l))
 
 -- arcs, each above the one before
 unfoldable pub beyond : ℕ → ℕ → List ℕ → Bool
@@ -63,25 +73,19 @@ module _ (l : ℕ) where
       (λ e. let a = arc-true l w e in let s = a .same in sym (lt-ltb 0 w (omega arith)))
       (λ e. beyond-arc w ws (arc-true l w e))
 
-  -- the loop over the arcs: what is left decides
-  module _ (ws : List ℕ) (last n : ℕ) (whole : Bool) (left : beyond l last (drop n ws) ≡ whole) where
-    pub beyond-end : length ws ≤ n → whole ≡ true
+  -- the loop over the arcs, without an early exit: the tests so far and the rest of the list decide
+  module _ (ws : List ℕ) (so-far : Bool) (last n : ℕ) (whole : Bool) (decide : (so-far && beyond l last (drop n ws)) ≡ whole) where
+    pub beyond-end : length ws ≤ n → so-far ≡ whole
     unfolding beyond
-    beyond-end h = sym left ∙ ap (beyond l last) (drop-all ws n h)
+    beyond-end h = sym (ap (λ rest. so-far && beyond l last rest) (drop-all ws n h) ∙ and-true so-far) ∙ decide
 
-    module _ (inside : n < length ws) where
-      here : (isArc l (getD ws n 0) && ltb last (getD ws n 0) && beyond l (getD ws n 0) (drop (n + 1) ws)) ≡ whole
-      unfolding beyond
-      here = sym (ap (beyond l last) (drop-here 0 ws n inside)) ∙ left
-
-      pub beyond-more : isArc l (getD ws n 0) ≡ true → last < getD ws n 0 → beyond l (getD ws n 0) (drop (n + 1) ws) ≡ whole
-      beyond-more e h = sym (ap₂ (λ a b. a && b && beyond l (getD ws n 0) (drop (n + 1) ws)) e (lt-ltb last (getD ws n 0) h)) ∙ here
-
-      pub beyond-bad : isArc l (getD ws n 0) ≡ false → whole ≡ false
-      beyond-bad e = sym here ∙ ap (λ a. a && ltb last (getD ws n 0) && beyond l (getD ws n 0) (drop (n + 1) ws)) e
-
-      pub beyond-late : isArc l (getD ws n 0) ≡ true → getD ws n 0 ≤ last → whole ≡ false
-      beyond-late e h = sym here ∙ ap₂ (λ a b. a && b && beyond l (getD ws n 0) (drop (n + 1) ws)) e (le-ltb last (getD ws n 0) h)
+    pub beyond-more : n < length ws → (so-far && isArc l (getD ws n 0) && ltb last (getD ws n 0) && beyond l (getD ws n 0) (drop (n + 1) ws)) ≡ whole
+    unfolding beyond
+    beyond-more h =
+        ap (λ t. t && beyond l (getD ws n 0) (drop (n + 1) ws)) (and-assoc so-far (isArc l (getD ws n 0)) (ltb last (getD ws n 0)))
+        ∙ and-assoc so-far (isArc l (getD ws n 0) && ltb last (getD ws n 0)) (beyond l (getD ws n 0) (drop (n + 1) ws))
+        ∙ ap (λ rest. so-far && beyond l last rest) (sym (drop-here 0 ws n h))
+        ∙ decide
 
 -- the five tests, in their order
 module _ (f : List ℕ) where

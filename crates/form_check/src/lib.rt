@@ -38,13 +38,7 @@ fn is_arc(l: u32, w: u32) -> bool
 {
     let i = w / 0x100 % 0x100;
     let j = w % 0x100;
-    if w != 0x30000000 + i * 0x100 + j {
-        return false;
-    }
-    if !in_range(1, l as usize, i as usize) {
-        return false;
-    }
-    in_range(1, l as usize, j as usize)
+    (w == 0x30000000 + i * 0x100 + j) & (1 <= i) & (i <= l) & (1 <= j) & (j <= l)
 }
 
 fn are_letters(k: u32, words: &[u32]) -> bool
@@ -60,24 +54,20 @@ fn are_letters(k: u32, words: &[u32]) -> bool
     true
 }
 
-// Are the words arcs, in order?
+// Are the words arcs, in order? One pass without an early exit, so that several words can be tested at once.
 fn are_arcs(l: u32, words: &[u32]) -> bool
     ensures { λ r. ⌜ r ≡ (all (isArc l) (old words) && ordered (old words)) ⌝ }
 {
+    let mut pass = true;
     let mut last: u32 = 0;
     let mut n = 0;
     while n < words.len() {
         let w = words[n];
-        if !is_arc(l, w) {
-            return false;
-        }
-        if w <= last {
-            return false;
-        }
+        pass = pass & is_arc(l, w) & (last < w);
         last = w;
         n += 1;
     }
-    true
+    pass
 }
 
 // Is the list a valid form?

@@ -1,23 +1,23 @@
--- `form_check::are_arcs` meets its contract: what is left of the list after the last arc decides.
-use Prim.Native.Nat.{_≤_, _-_}
-use mathlib.Core.Path.{_≡_, sym, _∙_}
+-- `form_check::are_arcs` meets its contract: the words so far and the rest of the list decide.
+use Prim.Native.Nat.{_+_, _-_, _≤_}
+use mathlib.Core.Path.{_≡_, ap, _∙_}
 use mathlib.Core.Bool.{_&&_}
 use native.Mathlib.Omega.{arith}
-use lib.ListN.{length, drop}
+use lib.Dec.{ltb}
+use lib.ListN.{length, getD, drop}
 use denote.Ref.{now}
 use borrow.Author.Needs.{needs}
-use borrow.Author.Tests.{not-true, not-false}
 use Rattle.lists.specs.Each.{all}
 use Rattle.automaton.specs.Form.{isArc, ordered}
-use Rattle.form_check.specs.ChecksLaws.{beyond, beyond-none, beyond-more, beyond-bad, beyond-late, beyond-end}
+use Rattle.form_check.specs.ChecksLaws.{beyond, beyond-none, beyond-more, beyond-end}
 use Rattle.form_check.proofs.are_arcs.Statement.{statement}
 use Rattle.form_check.proofs.are_arcs.Tie as tie
 
 abbrev Inv-loop : tie.InvT-loop
-Inv-loop l words last₀ n₀ last n = (n ≤ length words) × (beyond l last (drop n words) ≡ (all (isArc l) words && ordered words))
+Inv-loop l words pass₀ last₀ n₀ pass last n = (n ≤ length words) × ((pass && beyond l last (drop n words)) ≡ (all (isArc l) words && ordered words))
 
 abbrev μ-loop : tie.MeasureT-loop
-μ-loop l words last₀ n₀ last n = length words - n
+μ-loop l words pass₀ last₀ n₀ pass last n = length words - n
 
 loop-holds : tie.Need-loop-holds Inv-loop μ-loop
 loop-holds c = let a = c .before .args in (omega arith, beyond-none (a .l) (now (a .words)))
@@ -31,18 +31,6 @@ shared-slice-read-w c = omega arith
 is-arc-requires : tie.Need-is-arc-requires Inv-loop μ-loop
 is-arc-requires c κs = search needs
 
-returns : tie.Need-returns Inv-loop μ-loop
-returns c =
-    let a = c .before .before .before .before .before .before .args in
-    let l = c .before .before .before .before .loop in
-    sym (beyond-bad (a .l) (now (a .words)) (l .last) (l .n) _ (l .inv .1) (omega arith) (sym (c .before .is-arc .ensures) ∙ not-true _ (c .if1 .taken)))
-
-returns-2 : tie.Need-returns-2 Inv-loop μ-loop
-returns-2 c =
-    let a = c .before .before .before .before .before .before .before .args in
-    let l = c .before .before .before .before .before .loop in
-    sym (beyond-late (a .l) (now (a .words)) (l .last) (l .n) _ (l .inv .1) (omega arith) (sym (c .before .before .is-arc .ensures) ∙ not-false _ (c .before .if1 .left)) (c .if2 .taken))
-
 add-n : tie.Need-add-n Inv-loop μ-loop
 add-n c = omega arith
 
@@ -51,15 +39,19 @@ loop-less c = omega arith
 
 loop-again : tie.Need-loop-again Inv-loop μ-loop
 loop-again c =
-    let a = c .before .before .before .before .before .before .before .args in
-    let l = c .before .before .before .before .before .loop in
-    (omega arith, beyond-more (a .l) (now (a .words)) (l .last) (l .n) _ (l .inv .1) (omega arith) (sym (c .before .before .is-arc .ensures) ∙ not-false _ (c .before .if1 .left)) (c .if2 .left))
+    let a = c .before .before .before .before .before .args in
+    let l = c .before .before .before .loop in
+    let w = getD (now (a .words)) (l .n) 0 in (
+      omega arith,
+      ap (λ t. l .pass && t && ltb (l .last) w && beyond (a .l) w (drop (l .n + 1) (now (a .words)))) (c .is-arc .ensures)
+          ∙ beyond-more (a .l) (now (a .words)) (l .pass) (l .last) (l .n) _ (l .inv .1) (omega arith),
+    )
 
-returns-3 : tie.Need-returns-3 Inv-loop μ-loop
-returns-3 c =
+returns : tie.Need-returns Inv-loop μ-loop
+returns c =
     let a = c .before .before .before .args in
     let l = c .before .loop in
-    sym (beyond-end (a .l) (now (a .words)) (l .last) (l .n) _ (l .inv .1) (omega arith))
+    beyond-end (a .l) (now (a .words)) (l .pass) (l .last) (l .n) _ (l .inv .1) (omega arith)
 
 pub are-arcs-spec : {M : Type 1} → statement M
 are-arcs-spec =
@@ -71,9 +63,7 @@ are-arcs-spec =
     mul-w
     shared-slice-read-w
     is-arc-requires
-    returns
-    returns-2
     add-n
     loop-less
     loop-again
-    returns-3)
+    returns)
