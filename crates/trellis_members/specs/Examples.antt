@@ -18,7 +18,7 @@ record Examples : Type 0 where
   listed : Listed three 2 3
   not-listed : Listed three 2 9 → ⊥
   -- state 5, then state 3
-  two : Members (put (put (replicate 255 false) 5 true) 3 true) (put (put (replicate 255 0) 0 5) 1 3) 2
+  two : Members (put (put (replicate 255 false) 5 true) 3 true) (put (put (replicate 256 0) 0 5) 1 3) 2
 
 not-among : (k : ℕ) → k < 2 → getD three k 0 ≡ 9 → ⊥
 not-among zero h e = omega arith
@@ -31,5 +31,5 @@ examples = record {
   numbers = refl;
   listed = (1, omega arith, refl);
   not-listed = λ l. not-among (l .0) (l .1) (l .2);
-  two = members-more (members-more (members-none (replicate 255 0) refl) 5 (omega arith) refl) 3 (omega arith) refl;
+  two = members-more (members-more (members-none (replicate 256 0) refl) 5 (omega arith) refl) 3 (omega arith) refl;
 }

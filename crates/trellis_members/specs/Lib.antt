@@ -1,3 +1,4 @@
 pub mod Members
 pub mod MembersLaws
+pub mod Loops
 pub mod Examples

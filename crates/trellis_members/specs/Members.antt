@@ -16,7 +16,7 @@ trues (false ∷ s) = trues s
 -- the first n elements of the list are the members of the set, each of them once
 pub record Members (set : List Bool) (list : List ℕ) (n : ℕ) : Type 0 where
   pub size : length set ≡ 255
-  pub room : length list ≡ 255
+  pub room : length list ≡ 256
   pub number : n ≡ trues set
   pub has : (k : ℕ) → k < n → Has set (getD list k 0)
   pub all : (u : ℕ) → Has set u → Listed list n u
@@ -24,3 +24,12 @@ pub record Members (set : List Bool) (list : List ℕ) (n : ℕ) : Type 0 where
 -- the place u and no other
 abbrev pub Just : (u k : ℕ) → Type 0
 Just u k = k ≡ u
+
+-- the same, if it fits; else no place
+abbrev pub JustIf : (fits : Bool) → (u k : ℕ) → Type 0
+JustIf fits u k = (fits ≡ true) × Just u k
+
+-- the first k elements of the list were taken out of the set
+pub record TakenOut (list : List ℕ) (k : ℕ) (before after : List Bool) : Type 0 where
+  pub size : length after ≡ length before
+  pub left : (u : ℕ) → Has after u → Has before u × (Listed list k u → ⊥)

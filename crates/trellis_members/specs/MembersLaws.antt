@@ -1,24 +1,30 @@
--- Laws of a set with the list of its members: the number of members, no member, and one member more.
+-- Laws of a set with the list of its members: the number of members, no member, one member more, and a state put if it fits.
 use Prim.Native.Nat.{ℕ, zero, suc, _+_, _<_, _≤_}
 use mathlib.Core.Path.{_≡_, refl, sym, ap, subst, _∙_}
-use mathlib.Core.Bool.{Bool, true, false}
+use mathlib.Core.Bool.{Bool, true, false, cond, not, _&&_, _||_, false≢true}
 use mathlib.Core.Logic.{_⊎_, inl, inr}
 use mathlib.Core.List.{List, [], _∷_}
 use native.Mathlib.Omega.{arith}
 use lib.ListN.{length, getD, set as put, replicate, length-set, length-replicate}
-use lib.Seq.{getD-set-same, getD-set-other}
+use lib.Seq.{getD-set-same, getD-set-other, set-getD}
 use Rattle.lists.specs.OrderLaws.{eq-or-ne}
-use Rattle.lists.specs.MarksLaws.{has-none, marks-one}
+use Rattle.lists.specs.MarksLaws.{has-none, marks-none, marks-one, marks-same}
 use Rattle.lists.specs.Marks.{Has, Marks}
 use Rattle.lists.specs.Lists.{Listed}
-use Rattle.trellis_members.specs.Members.{trues, Members, Just}
+use Rattle.trellis_members.specs.Members.{trues, Members, Just, JustIf}
+
+pub has-inside : (s : List Bool) (u : ℕ) → Has s u → u < length s
+has-inside [] u h = absurd (false≢true h)
+has-inside (x ∷ s) zero h = omega arith
+has-inside (x ∷ s) (suc u) h = let l = has-inside s u h in omega arith
 
 -- The number of members.
 
-pub trues-none : (n : ℕ) → trues (replicate n false) ≡ 0
+pub trues-none : (s : List Bool) → ((u : ℕ) → Has s u → ⊥) → trues s ≡ 0
 unfolding trues
-trues-none zero = refl
-trues-none (suc n) = trues-none n
+trues-none [] f = refl
+trues-none (true ∷ s) f = absurd (f 0 refl)
+trues-none (false ∷ s) f = trues-none s (λ u. f (suc u))
 
 pub trues-most : (s : List Bool) → trues s ≤ length s
 unfolding trues
@@ -45,19 +51,18 @@ trues-put (false ∷ s) (suc u) h e = trues-put s u (omega arith) e
 
 -- No member.
 
-pub members-none : (list : List ℕ) → length list ≡ 255 → Members (replicate 255 false) list 0
-members-none list room =
+pub members-empty : (s : List Bool) (list : List ℕ) → length s ≡ 255 → length list ≡ 256 → ((u : ℕ) → Has s u → ⊥) → Members s list 0
+members-empty s list size room f =
     record {
-      size = length-replicate 255 false;
+      size = size;
       room = room;
-      number = sym (trues-none 255);
+      number = sym (trues-none s f);
       has = λ k h. absurd (omega arith);
-      all = λ u h. absurd (has-none 255 u h);
+      all = λ u h. absurd (f u h);
     }
 
--- a place that is marked already
-pub marks-there : (u : ℕ) (s : List Bool) → Has s u → Marks (Just u) s s
-marks-there u s h = record { size = refl; kept = λ k g. g; marked = λ k e. subst (Has s) (sym e) h; only = λ k g. inl g }
+pub members-none : (list : List ℕ) → length list ≡ 256 → Members (replicate 255 false) list 0
+members-none list room = members-empty (replicate 255 false) list (length-replicate 255 false) room (has-none 255)
 
 module _ {s : List Bool} {list : List ℕ} {n : ℕ} (members : Members s list n) where
   pub members-most : n ≤ 255
@@ -66,16 +71,36 @@ module _ {s : List Bool} {list : List ℕ} {n : ℕ} (members : Members s list n
   pub listed-has : (u : ℕ) → Listed list n u → Has s u
   listed-has u (k, h, e) = subst (Has s) e (members .has k h)
 
+  pub listed-low : (k : ℕ) → k < n → getD list k 0 < 255
+  listed-low k h = let l = has-inside s (getD list k 0) (members .has k h) in let z = members .size in omega arith
+
+  -- a number written after the last member changes nothing
+  members-same : (x : ℕ) → Members s (put list n x) n
+  members-same x =
+      record {
+        size = members .size;
+        room = length-set list n x ∙ members .room;
+        number = members .number;
+        has = λ k h. subst (Has s) (sym (earlier k h)) (members .has k h);
+        all = λ u h. listed u (members .all u h);
+      }
+    where
+      earlier : (k : ℕ) → k < n → getD (put list n x) k 0 ≡ getD list k 0
+      earlier k h = getD-set-other list n k x 0 (λ e. omega arith)
+
+      listed : (u : ℕ) → Listed list n u → Listed (put list n x) n u
+      listed u (k, h, e) = (k, h, earlier k h ∙ e)
+
   -- One member more.
   module _ (u : ℕ) (inside : u < 255) (absent : getD s u false ≡ false) where
     within : u < length s
     within = let z = members .size in omega arith
 
     -- there is room for it in the list
-    pub members-room : n < 255
+    members-room : n < 255
     members-room = let t = trues-fewer s u within absent in let z = members .size in let m = members .number in omega arith
 
-    pub marks-absent : Marks (Just u) s (put s u true)
+    marks-absent : Marks (Just u) s (put s u true)
     marks-absent = marks-one u s within
 
     last : getD (put list n u) n 0 ≡ u
@@ -106,3 +131,41 @@ module _ {s : List Bool} {list : List ℕ} {n : ℕ} (members : Members s list n
         all : (w : ℕ) → Has s w ⊎ Just u w → Listed (put list n u) (n + 1) w
         all w (inl h) = listed w (members .all w h)
         all w (inr e) = (n, omega arith, last ∙ sym e)
+
+-- A state put if it fits; `there` says if the set has it already.
+
+module _ (s : List Bool) (u : ℕ) where
+  put-same : (there : Bool) → getD s u false ≡ there → put s u there ≡ s
+  put-same there e = ap (put s u) (sym e) ∙ set-getD s u false
+
+  pub marks-put : u < length s → (fits there : Bool) → getD s u false ≡ there → Marks (JustIf fits u) s (put s u (there || fits))
+  marks-put within fits there e = by fits there e
+    where
+      fit : Marks (JustIf true u) s (put s u true)
+      fit = marks-same (Just u) (JustIf true u) s (put s u true) (λ k e. (refl, e)) (λ k q. q .1) (marks-one u s within)
+
+      unfit : (there : Bool) → getD s u false ≡ there → Marks (JustIf false u) s (put s u there)
+      unfit there e =
+          subst (Marks (JustIf false u) s) (sym (put-same there e)) (marks-none (JustIf false u) s (λ k q. false≢true (q .0)))
+
+      by : (fits there : Bool) → getD s u false ≡ there → Marks (JustIf fits u) s (put s u (there || fits))
+      by true true e = fit
+      by true false e = fit
+      by false true e = unfit true e
+      by false false e = unfit false e
+
+  pub members-put :
+      {list : List ℕ} {n : ℕ} → Members s list n → u < 255 → (fits there : Bool) → getD s u false ≡ there
+      → Members (put s u (there || fits)) (put list n u) (n + cond (fits && not there) 1 0)
+  members-put {list = list} {n = n} members inside fits there e = by fits there e
+    where
+      as-it-was : (there : Bool) → getD s u false ≡ there → Members (put s u there) (put list n u) (n + 0)
+      as-it-was there e =
+          let z : n ≡ n + 0 = omega arith in
+          subst (λ t. Members t (put list n u) (n + 0)) (sym (put-same there e)) (subst (Members s (put list n u)) z (members-same members u))
+
+      by : (fits there : Bool) → getD s u false ≡ there → Members (put s u (there || fits)) (put list n u) (n + cond (fits && not there) 1 0)
+      by true false e = members-more members u inside e
+      by true true e = as-it-was true e
+      by false true e = as-it-was true e
+      by false false e = as-it-was false e

@@ -1,12 +1,14 @@
 -- The kept states that steps lead to, one iteration at a time of the loops over letters, arcs and states.
 use Prim.Native.Nat.{ℕ, _+_, _*_, _-_, _/_, _≤_, _<_}
 use mathlib.Core.Path.{_≡_, refl, sym, ap, _∙_, subst}
-use mathlib.Core.Bool.{Bool, true, false}
+use mathlib.Core.Bool.{Bool, true, false, not, _&&_}
 use mathlib.Core.List.{List}
-use mathlib.Core.Logic.{_⊎_, inl, inr}
+use mathlib.Core.Logic.{_⊎_, inl, inr, _↔_}
 use native.Mathlib.Omega.{arith}
+use lib.Dec.{eqb}
 use lib.ListN.{getD}
-use Rattle.lists.specs.OrderLaws.{not-both}
+use borrow.Author.Tests.{eqb-true, eqb-false, not-true, eq-eqb, ne-eqb}
+use Rattle.lists.specs.OrderLaws.{not-both, and-left, and-right, and-both}
 use Rattle.lists.specs.MarksLaws.{marks-none, marks-same, marks-then, iterations-more}
 use Rattle.lists.specs.Marks.{Marks, Iterations}
 use Rattle.automaton.specs.Automaton.{Automaton}
@@ -16,14 +18,14 @@ use Rattle.automaton.specs.Valid.{Valid}
 use Rattle.automaton.specs.ValidLaws.{ArcAt, follow-arc, arc-follow, follow-target, valid-proper}
 use Rattle.form_starts.specs.Starts.{StartsAt}
 use Rattle.form_starts.specs.Loops.{range-source, source-range}
-use Rattle.trellis.specs.Impossible.{TOP, plus}
-use Rattle.trellis.specs.Extended.{stay, pass, arc, rest, leave}
+use Rattle.trellis.specs.Impossible.{TOP}
+use Rattle.trellis.specs.Extended.{OnLetter, stay, pass, arc, rest, leave}
 use Rattle.trellis.specs.ExtendedLaws.{AtLetter, at-letter}
 use Rattle.trellis.specs.Reached.{entering, Reached}
 use Rattle.trellis.specs.ReachedLaws.{entering-blanks, entering-letter}
 use Rattle.lists.specs.Lists.{Listed}
-use Rattle.trellis_members.specs.Members.{Just}
-use Rattle.trellis_steps.specs.Steps.{Keeps, KeptIn, KeptOf, KeptAt, Onto, OtherLetter, Led, Following, TargetOf, From}
+use Rattle.trellis_members.specs.Members.{Just, JustIf}
+use Rattle.trellis_steps.specs.Steps.{AddUp, Keeps, KeptIn, KeptOf, KeptAt, Onto, OtherLetter, Led, Following, TargetOf, From}
 
 -- a state is entered by the blank or by a label of the alphabet
 pub entering-high : (f : List ℕ) → Valid f → (u : ℕ) → u ≤ 2 * lettersOf f → entering (view f) u ≤ alphabetOf f
@@ -64,14 +66,17 @@ module _ {k : ℕ} {A : Automaton} (proper : Proper k A) (i s u : ℕ) where
       let b = entering-blanks A m s d in
       inr (j, (rw z at f, (d′, λ q. omega arith)))
 
--- The state u, entered by label x, put or not.
+-- The state u, entered by label x, put if the test holds.
 
-module _ (column row : List ℕ) (v x u : ℕ) (below : v < TOP) (set : List Bool) where
-  pub at-kept : (after : List Bool) → getD column x 0 + getD row u 0 ≡ v → Marks (Just u) set after → Marks (KeptAt column row v x u) set after
-  at-kept after e = marks-same (Just u) (KeptAt column row v x u) set after (λ k q. (q, omega arith)) (λ k q. q .0)
+module _ (column row : List ℕ) (v x u : ℕ) where
+  pub add-up : v < TOP → (sum : ℕ) → sum ≡ getD column x 0 + getD row u 0 → (eqb sum v ≡ true) ↔ AddUp column row v x u
+  add-up below sum is = (λ t. let e = eqb-true sum v t in omega arith, λ e. eq-eqb sum v (omega arith))
 
-  pub at-not : (getD column x 0 + getD row u 0 ≡ v → ⊥) → Marks (KeptAt column row v x u) set set
-  at-not d = marks-none (KeptAt column row v x u) set (λ k q. d (let e = q .1 in omega arith))
+  pub at-put :
+      (kept : Bool) (set after : List Bool) → (kept ≡ true) ↔ AddUp column row v x u → Marks (JustIf kept u) set after
+      → Marks (KeptAt column row v x u) set after
+  at-put kept set after is =
+      marks-same (JustIf kept u) (KeptAt column row v x u) set after (λ k q. (q .1, is .0 (q .0))) (λ k q. (is .1 (q .1), q .0))
 
 module _ (A : Automaton) (column row : List ℕ) (v : ℕ) where
   -- Kept states of some set: of the same set by another name, of none, of one state, of two sets, and of the iterations of a loop.
@@ -89,14 +94,11 @@ module _ (A : Automaton) (column row : List ℕ) (v : ℕ) where
       (x u : ℕ) (s t : List Bool) → x ≡ entering A u → Marks (KeptAt column row v x u) s t → Marks (KeptIn A column row v (Just u)) s t
   kept-one x u s t is = marks-same (KeptAt column row v x u) (KeptIn A column row v (Just u)) s t there back
     where
-      at : getD column x 0 ≡ getD column (entering A u) 0
-      at = ap (λ y. getD column y 0) is
-
       there : (k : ℕ) → KeptAt column row v x u k → KeptIn A column row v (Just u) k
-      there k (e, q) = (e, subst (Keeps A column row v) (sym e) (subst (λ c. plus c (getD row u 0) ≡ v) at q))
+      there k (e, q) = (e, subst (Keeps A column row v) (sym e) (subst (λ y. AddUp column row v y u) is q))
 
       back : (k : ℕ) → KeptIn A column row v (Just u) k → KeptAt column row v x u k
-      back k (e, q) = (e, subst (λ c. plus c (getD row u 0) ≡ v) (sym at) (subst (Keeps A column row v) e q))
+      back k (e, q) = (e, subst (λ y. AddUp column row v y u) (sym is) (subst (Keeps A column row v) e q))
 
   kept-then :
       (P Q : ℕ → Type 0) (s t u : List Bool) → Marks (KeptIn A column row v P) s t → Marks (KeptIn A column row v Q) t u
@@ -131,13 +133,34 @@ module _ (A : Automaton) (column row : List ℕ) (v : ℕ) where
         marks-same (Iterations R m (n + 1)) (KeptIn A column row v (Iterations Q m (n + 1))) s u (outward (n + 1)) (inward (n + 1))
         (iterations-more R m n s t u l (marks-same (KeptIn A column row v (Iterations Q m n)) (Iterations R m n) s t (inward n) (outward n) a) b)
 
-  -- One letter, put or not.
+  -- One letter, put if the test holds.
 
   module _ (own j : ℕ) (set after : List Bool) where
     pub letter-put :
-        1 ≤ j → (A .label j ≡ own → ⊥) → Marks (KeptIn A column row v (Just (2 * j - 1))) set after
-        → Marks (KeptIn A column row v (OtherLetter A own j)) set after
-    letter-put l n = kept-same (Just (2 * j - 1)) (OtherLetter A own j) set after (λ u e. (omega arith, n)) (λ u q. let o = q .0 in omega arith)
+        (x : ℕ) (kept : Bool) → 1 ≤ j → x ≡ A .label j → (kept ≡ true) ↔ AddUp column row v x (2 * j - 1)
+        → Marks (JustIf (not (eqb x own) && kept) (2 * j - 1)) set after → Marks (KeptIn A column row v (OtherLetter A own j)) set after
+    letter-put x kept low is add =
+        marks-same (JustIf other (2 * j - 1)) (KeptIn A column row v (OtherLetter A own j)) set after there back
+      where
+        other : Bool
+        other = not (eqb x own) && kept
+
+        enters : (u : ℕ) → OnLetter j u → x ≡ entering A u
+        enters u o = is ∙ sym (entering-letter A j u o)
+
+        there : (u : ℕ) → JustIf other (2 * j - 1) u → KeptIn A column row v (OtherLetter A own j) u
+        there u (e, z) =
+            let o : OnLetter j u = omega arith in
+            let sum = add .0 (and-right (not (eqb x own)) kept e) in (
+              (o, λ q. eqb-false x own (not-true (eqb x own) (and-left (not (eqb x own)) kept e)) (is ∙ q)),
+              subst (λ y. AddUp column row v y u) (enters u o) (subst (AddUp column row v x) (sym z) sum),
+            )
+
+        back : (u : ℕ) → KeptIn A column row v (OtherLetter A own j) u → JustIf other (2 * j - 1) u
+        back u ((o, d), p) =
+            let z : u ≡ 2 * j - 1 = omega arith in
+            let sum = subst (AddUp column row v x) z (subst (λ y. AddUp column row v y u) (sym (enters u o)) p) in
+            (and-both (not (eqb x own)) kept (ap not (ne-eqb x own (λ q. d (sym is ∙ q)))) (add .1 sum), z)
 
     pub led-put :
         (i : ℕ) → A .follow i j ≡ true → Marks (KeptIn A column row v (OtherLetter A own j)) set after
@@ -145,9 +168,6 @@ module _ (A : Automaton) (column row : List ℕ) (v : ℕ) where
     led-put i f = kept-same (OtherLetter A own j) (Led A own i j) set after (λ u q. (f, q)) (λ u q. q .1)
 
   module _ (own j : ℕ) (set : List Bool) where
-    pub letter-equal : A .label j ≡ own → Marks (KeptIn A column row v (OtherLetter A own j)) set set
-    letter-equal e = kept-none (OtherLetter A own j) set (λ u q. q .1 e)
-
     pub led-not : (i : ℕ) → A .follow i j ≡ false → Marks (KeptIn A column row v (Led A own i j)) set set
     led-not i f = kept-none (Led A own i j) set (λ u q. not-both (A .follow i j) (q .0) f)
 

@@ -20,9 +20,13 @@ pub record Sized (f column row : List ℕ) (v : ℕ) : Type 0 where
   pub long : 2 * lettersOf f < length row
   pub below : v < TOP
 
--- state u lies on a cheapest path: the cost of its label in this column and its cost to go add up to v
+-- the cost of label x in this column and the cost to go of state u add up to v
+abbrev pub AddUp : (column row : List ℕ) → (v x u : ℕ) → Type 0
+AddUp column row v x u = plus (getD column x 0) (getD row u 0) ≡ v
+
+-- state u lies on a cheapest path: the cost of its label and its cost to go add up to v
 abbrev pub Keeps : Automaton → (column row : List ℕ) → (v u : ℕ) → Type 0
-Keeps A column row v u = plus (getD column (entering A u) 0) (getD row u 0) ≡ v
+Keeps A column row v u = AddUp column row v (entering A u) u
 
 -- u is one of the states that P names, and it lies on a cheapest path
 abbrev pub KeptIn : Automaton → (column row : List ℕ) → ℕ → (ℕ → Type 0) → ℕ → Type 0
@@ -34,7 +38,7 @@ KeptOf A column row v In u = KeptIn A column row v (Reached A In) u
 
 -- k is state u, which lies on a cheapest path if its label is x
 abbrev pub KeptAt : (column row : List ℕ) → (v x u k : ℕ) → Type 0
-KeptAt column row v x u k = Just u k × (plus (getD column x 0) (getD row u 0) ≡ v)
+KeptAt column row v x u k = Just u k × AddUp column row v x u
 
 -- all states of the set are states of the form
 abbrev pub Within : List ℕ → (ℕ → Type 0) → Type 0

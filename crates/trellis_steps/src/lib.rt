@@ -7,8 +7,10 @@ use form_words::may_be_first;
 use form_words::target;
 use numbers::wide;
 use numbers::wide_word;
-use trellis_members::put;
+use trellis_members::put_if;
 ghost use mathlib.Core.Path.{_≡_};
+ghost use mathlib.Core.Bool.{true};
+ghost use mathlib.Core.Logic.{_↔_};
 ghost use Prim.Native.Nat.{_+_, _*_, _<_, _≤_};
 ghost use lib.ListN.{length};
 ghost use Rattle.lists.specs.Memory.{old, new};
@@ -19,7 +21,8 @@ ghost use Rattle.trellis.specs.Impossible.{TOP};
 ghost use Rattle.trellis.specs.Reached.{entering as enteringOf};
 ghost use Rattle.lists.specs.Lists.{Listed};
 ghost use Rattle.trellis_members.specs.Members.{Members};
-ghost use Rattle.trellis_steps.specs.Steps.{Sized, KeptIn, KeptOf, KeptAt, Within, Onto, OtherLetter, Led, Following, TargetOf};
+ghost use Rattle.trellis_steps.specs.Steps.{Sized, Within, AddUp, KeptIn, KeptOf, KeptAt};
+ghost use Rattle.trellis_steps.specs.Steps.{Onto, OtherLetter, Led, Following, TargetOf};
 
 // The label of every step into state u: the blank, or that of its letter.
 pub fn entering(form: &[u32], u: usize) -> usize
@@ -32,6 +35,14 @@ pub fn entering(form: &[u32], u: usize) -> usize
     label(form, (u + 1) / 2)
 }
 
+// Do the cost of label x and the cost to go of state u add up to v?
+fn keeps(column: &[u32], row: &[u32], v: usize, x: usize, u: usize) -> bool
+    requires { ⌜ (x < length (now column)) × (u < length (now row)) × (v < TOP) ⌝ }
+    ensures { λ r. ⌜ (r ≡ true) ↔ AddUp (old column) (old row) v x u ⌝ }
+{
+    wide_word(column[x]) + wide_word(row[u]) == v
+}
+
 // Puts state u, which is entered by label x, if it lies on a cheapest path. Here and below the set has n members, and the result is how
 // many it has then.
 fn put_kept_at(
@@ -41,16 +52,13 @@ fn put_kept_at(
     x: usize,
     u: usize,
     set: &mut [bool; 255],
-    list: &mut [u8; 255],
+    list: &mut [u8; 256],
     n: usize,
 ) -> usize
     requires { ⌜ (x < length (now column)) × (u < length (now row)) × (v < TOP) × (u < 255) × Members (now set) (now list) n ⌝ }
     ensures { λ r. ⌜ Marks (KeptAt (old column) (old row) v x u) (old set) (new set) × Members (new set) (new list) r ⌝ }
 {
-    if wide_word(column[x]) + wide_word(row[u]) == v {
-        return put(u, set, list, n);
-    }
-    n
+    put_if(keeps(column, row, v, x, u), u, set, list, n)
 }
 
 // Puts the state on letter j if it is kept, unless its label is `own`, the label that the path is on.
@@ -62,7 +70,7 @@ fn put_letter(
     own: usize,
     j: usize,
     set: &mut [bool; 255],
-    list: &mut [u8; 255],
+    list: &mut [u8; 256],
     n: usize,
 ) -> usize
     requires { ⌜ Sized (now form) (now column) (now row) v × (1 ≤ j) × (j ≤ lettersOf (now form)) × Members (now set) (now list) n ⌝ }
@@ -70,10 +78,8 @@ fn put_letter(
         × Members (new set) (new list) r ⌝ }
 {
     let x = label(form, j);
-    if x == own {
-        return n;
-    }
-    put_kept_at(column, row, v, x, 2 * j - 1, set, list, n)
+    let u = 2 * j - 1;
+    put_if((x != own) & keeps(column, row, v, x, u), u, set, list, n)
 }
 
 // Puts the state on letter j if it is kept and may be first, unless its label is `own`.
@@ -85,7 +91,7 @@ fn put_first(
     own: usize,
     j: usize,
     set: &mut [bool; 255],
-    list: &mut [u8; 255],
+    list: &mut [u8; 256],
     n: usize,
 ) -> usize
     requires { ⌜ Sized (now form) (now column) (now row) v × (1 ≤ j) × (j ≤ lettersOf (now form)) × Members (now set) (now list) n ⌝ }
@@ -106,7 +112,7 @@ fn put_firsts(
     v: usize,
     own: usize,
     set: &mut [bool; 255],
-    list: &mut [u8; 255],
+    list: &mut [u8; 256],
     n: usize,
 ) -> usize
     requires { ⌜ Sized (now form) (now column) (now row) v × Members (now set) (now list) n ⌝ }
@@ -133,7 +139,7 @@ fn put_targets(
     b: usize,
     e: usize,
     set: &mut [bool; 255],
-    list: &mut [u8; 255],
+    list: &mut [u8; 256],
     n: usize,
 ) -> usize
     requires { ⌜ Sized (now form) (now column) (now row) v × (lettersOf (now form) < b) × (b ≤ e) × (e ≤ length (now form))
@@ -161,7 +167,7 @@ fn put_after(
     b: usize,
     e: usize,
     set: &mut [bool; 255],
-    list: &mut [u8; 255],
+    list: &mut [u8; 256],
     n: usize,
 ) -> usize
     requires { ⌜ Sized (now form) (now column) (now row) v × StartsAt (now form) i b × StartsAt (now form) (i + 1) e
@@ -185,7 +191,7 @@ fn put_steps(
     v: usize,
     s: usize,
     set: &mut [bool; 255],
-    list: &mut [u8; 255],
+    list: &mut [u8; 256],
     n: usize,
 ) -> usize
     requires { ⌜ Sized (now form) (now column) (now row) v × ArcStarts (now form) (now starts) × (s ≤ 2 * lettersOf (now form))
@@ -209,10 +215,10 @@ pub fn put_kept(
     column: &[u32],
     row: &[u32],
     v: usize,
-    from: &[u8; 255],
+    from: &[u8; 256],
     n: usize,
     set: &mut [bool; 255],
-    list: &mut [u8; 255],
+    list: &mut [u8; 256],
 ) -> usize
     requires { ⌜ Sized (now form) (now column) (now row) v × ArcStarts (now form) (now starts) × Within (now form) (Listed (now from) n)
         × (n ≤ 255) × Members (now set) (now list) 0 ⌝ }
