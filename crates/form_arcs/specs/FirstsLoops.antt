@@ -18,6 +18,8 @@ firsts-none f list size =
     record {
       size = size;
       few = omega arith;
+      below = λ k h. absurd (omega arith);
+      rises = λ k h. absurd (omega arith);
       is = λ k h. absurd (omega arith);
       all = λ j h e. let b = first-letter f j e .0 in absurd (omega arith);
     }
@@ -29,6 +31,8 @@ module _ (f list : List ℕ) (j n : ℕ) (so-far : FirstsBelow f j list n) where
       record {
         size = so-far .size;
         few = let h = so-far .few in omega arith;
+        below = λ k h. let b = so-far .below k h in omega arith;
+        rises = so-far .rises;
         is = so-far .is;
         all = λ i h e. by i h e (eq-or-ne i j);
       }
@@ -43,12 +47,23 @@ module _ (f list : List ℕ) (j n : ℕ) (so-far : FirstsBelow f j list n) where
       record {
         size = length-set list n j ∙ so-far .size;
         few = let h = so-far .few in omega arith;
+        below = λ k h. below k h (eq-or-ne k n);
+        rises = λ k h. rises k h (eq-or-ne (k + 1) n);
         is = λ k h. is k h (eq-or-ne k n);
         all = λ i h e. by i h e (eq-or-ne i j);
       }
     where
       here : getD (set list n j) n 0 ≡ j
       here = let s = so-far .size in let h = so-far .few in getD-set-same list n j 0 (omega arith)
+
+      below : (k : ℕ) → k < n + 1 → (k ≡ n) ⊎ (k ≡ n → ⊥) → getD (set list n j) k 0 < j + 1
+      below k h (inl q) = rw (q, here) (omega arith)
+      below k h (inr d) = rw (getD-set-other list n k j 0 d) (let b = so-far .below k (omega arith) in omega arith)
+
+      rises : (k : ℕ) → k + 1 < n + 1 → (k + 1 ≡ n) ⊎ (k + 1 ≡ n → ⊥) → getD (set list n j) k 0 < getD (set list n j) (k + 1) 0
+      rises k h (inl q) = rw (q, here, getD-set-other list n k j 0 (λ e. omega arith)) (so-far .below k (omega arith))
+      rises k h (inr d) =
+          rw (getD-set-other list n k j 0 (λ e. omega arith), getD-set-other list n (k + 1) j 0 d) (so-far .rises k (omega arith))
 
       is : (k : ℕ) → k < n + 1 → (k ≡ n) ⊎ (k ≡ n → ⊥) → followOf f 0 (getD (set list n j) k 0) ≡ true
       is k h (inl q) = rw (q, here) may

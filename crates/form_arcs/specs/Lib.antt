@@ -4,3 +4,5 @@ pub mod Firsts
 pub mod FirstsLoops
 pub mod Targets
 pub mod TargetsLaws
+pub mod LookedUp
+pub mod Examples

@@ -74,8 +74,8 @@ module _ (f before : List ℕ) where
       is k m (inr d) = getD-set-other ts n k v 0 d ∙ b .is k (omega arith)
 
 -- targets that were written are in the list
-pub targets-told : {f before after : List ℕ} → Valid f → length before ≡ 16384 → TargetsListed f before after → Targets f after
-targets-told {f} valid size listed =
+pub targets-there : {f before after : List ℕ} → Valid f → length before ≡ 16384 → TargetsListed f before after → Targets f after
+targets-there {f} valid size listed =
     let s = valid-short f valid in
     let z = listed .outside .size in
     record { long = omega arith; is = listed .is }

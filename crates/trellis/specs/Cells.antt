@@ -1,5 +1,5 @@
--- What the cells of the table of costs to go are computed from: the cost where no column is left, and the prices that a letter's arcs
--- offer. The price of a step to a letter is the letter's candidate, which is computed once for each column.
+-- What the cells of the table of costs to go are computed from: the cost where no column is left, and what the letters offer that a letter's
+-- arcs lead to: prices, or keys, which are prices with labels.
 use Prim.Native.Nat.{ℕ}
 use mathlib.Core.Path.{_≡_}
 use mathlib.Core.Bool.{Bool, true, false}
@@ -12,5 +12,5 @@ ending true = 0
 ending false = TOP
 
 -- what the arcs of letter i offer, without those to a letter of label `own`; if `own` is 0, what all of them offer
-abbrev pub ByArc : Automaton → (candidate : ℕ → ℕ) → (i own : ℕ) → ℕ → Type 0
-ByArc A candidate i own n = (j : ℕ) × (A .follow i j ≡ true) × (A .label j ≡ own → ⊥) × (n ≡ candidate j)
+abbrev pub ByArc : Automaton → (offer : ℕ → ℕ) → (i own : ℕ) → ℕ → Type 0
+ByArc A offer i own n = (j : ℕ) × (A .follow i j ≡ true) × (A .label j ≡ own → ⊥) × (n ≡ offer j)

@@ -31,7 +31,7 @@ pub record KeysBelow (f column work : List ℕ) (next : ℕ) (before after : Lis
 abbrev pub KeysFilled : (f column work : List ℕ) (next : ℕ) (before after : List ℕ) → Type 0
 KeysFilled f column work next before after = KeysBelow f column work next before after (lettersOf f + 1)
 
--- keys for the letters 1 to 127; of the form's letters they tell the labels
+-- keys for the letters 1 to 127; those of the form's letters have their labels as low bytes
 pub record Keys (f ks : List ℕ) : Type 0 where
   pub size : length ks ≡ 128
   pub label : (j : ℕ) → 1 ≤ j → j ≤ lettersOf f → getD ks j 0 % 256 ≡ labelOf f j

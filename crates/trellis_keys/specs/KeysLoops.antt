@@ -1,4 +1,4 @@
--- The keys of a column, one iteration of the loop over letters at a time; and that they tell the labels.
+-- The keys of a column, one iteration of the loop over letters at a time; and that their low bytes are the labels.
 use Prim.Native.Nat.{ℕ, _+_, _%_, _<_, _≤_}
 use mathlib.Core.Path.{_≡_, sym, subst, _∙_}
 use mathlib.Core.Logic.{_⊎_, inl, inr}
@@ -29,10 +29,10 @@ module _ (f column work : List ℕ) (next : ℕ) (before : List ℕ) where
       is j l m (inl q) = subst (λ i. getD (set ks n k) i 0 ≡ keyFor f column work next i) (sym q) (getD-set-same ks n k 0 h ∙ e)
       is j l m (inr d) = getD-set-other ks n j k 0 d ∙ b .is j l (omega arith)
 
--- keys that were written tell the labels
-pub keys-told :
+-- the low bytes of keys that were written are the labels
+pub keys-labels :
     {f column work : List ℕ} {next : ℕ} {before after : List ℕ} → Valid f → length before ≡ 128 → KeysFilled f column work next before after → Keys f after
-keys-told {f} {column} {work} {next} {before} {after} valid size filled =
+keys-labels {f} {column} {work} {next} {before} {after} valid size filled =
     record {
       size = filled .outside .size ∙ size;
       label = λ j l h. let e = filled .is j l (omega arith) in let x = valid .letter j l h .high in let k = valid .head .alphabet-high in omega arith;

@@ -1,5 +1,5 @@
 -- The least key that letters offer to a state.
-use Prim.Native.Nat.{ℕ, _+_, _%_, _<_, _≤_}
+use Prim.Native.Nat.{ℕ, _+_, _*_, _%_, _<_, _≤_}
 use mathlib.Core.Path.{_≡_}
 use mathlib.Core.Bool.{cond}
 use mathlib.Core.List.{List}
@@ -10,12 +10,13 @@ use Rattle.automaton.specs.Form.{lettersOf, view}
 use Rattle.automaton.specs.Valid.{Valid}
 use Rattle.form_starts.specs.Starts.{ArcStarts}
 use Rattle.form_arcs.specs.Targets.{Targets}
+use Rattle.trellis.specs.Impossible.{TOP}
 use Rattle.trellis.specs.Cells.{ByArc}
 use Rattle.trellis_keys.specs.Keys.{Keys}
 
 -- the key that means 'impossible': TOP, and a label that no letter has
 abbrev pub FAR : ℕ
-FAR = 256000000255
+FAR = TOP * 256 + 255
 
 -- the key of a letter
 abbrev pub keyOf : List ℕ → ℕ → ℕ

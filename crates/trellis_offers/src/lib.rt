@@ -87,8 +87,9 @@ fn least_other(list: &[u8], keys: &[usize], own: u8, b: usize, e: usize) -> usiz
     m
 }
 
-// The least key along the arcs of letter i of the form; `before` is that of the letter before it, which may have the same arcs. The form
-// is known by its targets and by where each letter's arcs start.
+// The least key along the arcs of letter i; `before` is that of the letter before it, which may have the same arcs. The form itself is only
+// named by the contract: its targets and the places where each letter's arcs start are looked up beforehand. That the share saves work is
+// measured (docs/FIGURES.md) and not promised.
 pub fn next_key(
     form: &[u32],
     targets: &[u8],

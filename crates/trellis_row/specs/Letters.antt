@@ -17,8 +17,8 @@ use Rattle.trellis_offers.specs.Offers.{keyOf, Known, LeastKey, LeastOther}
 abbrev pub states : List ℕ → ℕ
 states f = 2 * lettersOf f + 1
 
--- what the states of letter i are computed from, in its blanks at p: its arcs, the keys, the least key of the letter before, and a number
--- `stride` further on
+-- what the states of letter i are computed from: its arcs, the keys, the least key of the letter before, and the row of the next column;
+-- p is the place of its blanks, and that row is `stride` further on
 pub record LetterReady (f ts s : List ℕ) (same : List Bool) (ks work : List ℕ) (p stride i least : ℕ) : Type 0 where
   pub known : Known f ts s ks i
   pub equal : EqualArcs f s same
@@ -34,7 +34,7 @@ pub record LetterCells (f ks : List ℕ) (rest i least on blanks : ℕ) : Type 0
   pub on-is : on ≡ min (min (keyOf ks i) other / 256) rest
   pub blanks-is : blanks ≡ min (least / 256) rest
 
--- the states of letter i were written, and nothing else; the row of the next column has q for its blanks
+-- the states of letter i were written, and nothing else; p is the place of its blanks, q their place in the row of the next column
 pub record LetterFilled (f ks : List ℕ) (blank : ℕ) (before after : List ℕ) (p q i least : ℕ) : Type 0 where
   pub cells : LetterCells f ks (blank + getD before q 0) i least (getD after (p - 1) 0) (getD after p 0)
   pub outside : Outside (p - 1) (p + 1) before after

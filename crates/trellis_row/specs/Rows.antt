@@ -7,29 +7,23 @@ use lib.ListN.{getD}
 use Rattle.lists.specs.Least.{Least}
 use Rattle.lists.specs.Stored.{Outside}
 use Rattle.automaton.specs.Form.{lettersOf, labelOf, view}
-use Rattle.form_starts.specs.Starts.{ArcStarts}
-use Rattle.form_arcs.specs.Equal.{EqualArcs}
-use Rattle.form_arcs.specs.Firsts.{Firsts}
-use Rattle.form_arcs.specs.Targets.{Targets}
+use Rattle.form_arcs.specs.LookedUp.{LookedUp}
 use Rattle.trellis.specs.Impossible.{TOP, plus}
 use Rattle.trellis.specs.Cells.{ByArc}
-use Rattle.trellis_keys.specs.Keys.{Ahead}
+use Rattle.trellis_keys.specs.Keys.{Ahead, total}
 use Rattle.trellis_row.specs.Letters.{states}
 
 -- what a row is computed from
 pub record RowReady (f ts s : List ℕ) (same : List Bool) (list : List ℕ) (n : ℕ) (column work : List ℕ) (here stride : ℕ) : Type 0 where
-  pub targets : Targets f ts
-  pub starts : ArcStarts f s
-  pub equal : EqualArcs f s same
-  pub firsts : Firsts f list n
+  pub looked-up : LookedUp f ts s same list n
   pub ahead : Ahead f column work (here + stride)
   pub apart : 2 * lettersOf f < stride
 
 -- The numbers of a row, by the costs of its column and the row at `next`.
 
--- the cost of letter j's label, plus what there is to pay after it
+-- the price of a step to letter j and of all that comes after it, at most TOP
 abbrev pub onward : (f column work : List ℕ) (next j : ℕ) → ℕ
-onward f column work next j = plus (getD column (labelOf f j) 0) (getD work (next + (2 * j - 1)) 0)
+onward f column work next j = min TOP (total f column work next j)
 
 -- in the blanks after letter i, or in state 0 where i is 0: staying there, or going along any arc
 pub record BlanksCell (f column work : List ℕ) (next i v : ℕ) : Type 0 where

@@ -24,8 +24,8 @@ fn price(key: usize, rest: usize) -> u32
     narrow(least_size(key / 256, rest))
 }
 
-// Writes the costs to go of the two states of letter i, in its blanks at p and on it at the place before, by the row `stride` further on.
-// Returns the least key along its arcs; `before` is that of the letter before it.
+// Writes the costs to go of the two states of letter i, by the row of the next column, which is `stride` further on; p is the place of its
+// blanks, and the place before is that on the letter. Returns the least key along its arcs; `before` is that of the letter before it.
 fn fill_letter(
     form: &[u32],
     targets: &[u8],

@@ -1,17 +1,12 @@
 -- What filling the table, from the last row to the first, needs and what it promises.
 use Prim.Native.Nat.{ℕ, _+_, _*_, _≤_}
 use mathlib.Core.Path.{_≡_}
-use mathlib.Core.Bool.{Bool}
 use mathlib.Core.List.{List}
 use lib.ListN.{length, drop}
 use Rattle.lists.specs.Stored.{Outside}
 use Rattle.matrix.specs.Matrix.{Matrix}
 use Rattle.automaton.specs.Form.{alphabetOf, view}
 use Rattle.automaton.specs.Valid.{Valid}
-use Rattle.form_starts.specs.Starts.{ArcStarts}
-use Rattle.form_arcs.specs.Equal.{EqualArcs}
-use Rattle.form_arcs.specs.Firsts.{Firsts}
-use Rattle.form_arcs.specs.Targets.{Targets}
 use Rattle.trellis.specs.CostToGo.{CostToGo}
 use Rattle.trellis.specs.Extended.{extended}
 use Rattle.trellis.specs.Table.{Row, Table}
@@ -25,15 +20,7 @@ pub record Sized (f : List ℕ) (M : Matrix) (work : List ℕ) (stride : ℕ) : 
   pub row : states f ≤ stride
   pub room : (M .count + 1) * stride ≤ length work
 
--- what is looked up once in the form: the targets of its words, where each letter's arcs start, which letters share theirs, and the
--- letters that may be first
-pub record LookedUp (f ts s : List ℕ) (same : List Bool) (list : List ℕ) (n : ℕ) : Type 0 where
-  pub targets : Targets f ts
-  pub starts : ArcStarts f s
-  pub equal : EqualArcs f s same
-  pub firsts : Firsts f list n
-
--- the rows from that of column t on were written, and nothing after the table
+-- the rows from that of column t on were written, and nothing after the table; the words between rows may be written too
 pub record RowsFilled (f : List ℕ) (M : Matrix) (before after : List ℕ) (stride t : ℕ) : Type 0 where
   pub rows : (u n : ℕ) → t ≤ u → u + n ≡ M .count → Row (view f) M after (u * stride) u n
   pub outside : Outside 0 ((M .count + 1) * stride) before after

@@ -13,10 +13,11 @@ ghost use lib.ListN.{length};
 ghost use Rattle.lists.specs.Memory.{old, new};
 ghost use Rattle.automaton.specs.Form.{lettersOf, view};
 ghost use Rattle.automaton.specs.Valid.{Valid};
+ghost use Rattle.form_arcs.specs.LookedUp.{LookedUp};
 ghost use Rattle.matrix.specs.Matrix.{matrix};
 ghost use Rattle.trellis.specs.Table.{Row};
 ghost use Rattle.trellis_table.specs.Last.{LastFilled};
-ghost use Rattle.trellis_table.specs.Fill.{states, Sized, LookedUp, RowsFilled, Filled};
+ghost use Rattle.trellis_table.specs.Fill.{states, Sized, RowsFilled, Filled};
 
 // The value that means 'impossible': `fill` returns it where there is no path.
 pub use trellis_costs::TOP;

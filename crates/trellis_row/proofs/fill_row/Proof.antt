@@ -5,7 +5,7 @@ use native.Mathlib.Omega.{arith}
 use lib.ListN.{length, getD}
 use denote.Ref.{now}
 use Rattle.automaton.specs.Form.{lettersOf}
-use Rattle.trellis_keys.specs.KeysLoops.{keys-told}
+use Rattle.trellis_keys.specs.KeysLoops.{keys-labels}
 use Rattle.trellis_row.specs.RowsLaws.{row-filled}
 use borrow.Author.Needs.{needs}
 use Rattle.trellis_row.proofs.fill_row.Statement.{statement}
@@ -25,7 +25,7 @@ fill-keys-requires c κs = (c .before .before .before .before .before .before .b
 first-key-requires : tie.Need-first-key-requires
 first-key-requires c κs =
     let p = c .before .before .before .before .before .before .before .before .before .before .before .before .before .pre in
-    (p .0 .ahead .valid, keys-told (p .0 .ahead .valid) (p .1) (c .before .before .fill-keys .ensures), p .0 .firsts)
+    (p .0 .ahead .valid, keys-labels (p .0 .ahead .valid) (p .1) (c .before .before .fill-keys .ensures), p .0 .looked-up .firsts)
 
 add-sum : tie.Need-add-sum
 add-sum c = search needs
@@ -47,10 +47,10 @@ fill-letters-requires c κs =
     let p = c .before .before .before .before .before .before .before .before .before .before .before .before .before .before .before .before .before .before .before .before .pre in
     record {
       valid = p .0 .ahead .valid;
-      targets = p .0 .targets;
-      starts = p .0 .starts;
-      equal = p .0 .equal;
-      keys = keys-told (p .0 .ahead .valid) (p .1) (c .before .before .before .before .before .before .before .before .before .fill-keys .ensures);
+      targets = p .0 .looked-up .targets;
+      starts = p .0 .looked-up .starts;
+      equal = p .0 .looked-up .equal;
+      keys = keys-labels (p .0 .ahead .valid) (p .1) (c .before .before .before .before .before .before .before .before .before .fill-keys .ensures);
       apart = p .0 .apart;
       room = p .0 .ahead .room;
       least = c .before .before .before .before .before .before .first-key .ensures;

@@ -89,20 +89,19 @@ fill-row-requires c κs =
     let M = matrix (now (a .costs)) (a .width) (a .count) in
     let first = (l .t - 1) * a .width in
     let size = l .inv .1 .outside .size in
-    let inside = rows (c .before .before .before) in
-    (record {
-      targets = p .2 .targets;
-      starts = p .2 .starts;
-      equal = p .2 .equal;
-      firsts = p .2 .firsts;
-      ahead =
-          record {
-            valid = p .0 .valid;
-            wide = column-wide M (now (a .work)) (a .stride) (p .0) (l .t - 1) (column (c .before .before .before)) first (first + a .width) refl refl;
-            room = omega arith;
-          };
-      apart = omega arith;
-    }, l .inv .2)
+    let inside = rows (c .before .before .before) in (
+      record {
+        looked-up = p .2;
+        ahead =
+            record {
+              valid = p .0 .valid;
+              wide = column-wide M (now (a .work)) (a .stride) (p .0) (l .t - 1) (column (c .before .before .before)) first (first + a .width) refl refl;
+              room = omega arith;
+            };
+        apart = omega arith;
+      },
+      l .inv .2,
+    )
 
 loop-less : tie.Need-loop-less Inv-loop μ-loop
 loop-less c = omega (arith, c .before .before .before .before .before .before .loop-test .taken)

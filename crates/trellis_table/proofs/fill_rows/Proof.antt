@@ -2,7 +2,7 @@
 use mathlib.Core.Path.{_≡_, refl, sym, _∙_}
 use native.Mathlib.Omega.{arith}
 use denote.Ref.{now}
-use Rattle.form_arcs.specs.TargetsLaws.{targets-told}
+use Rattle.form_arcs.specs.TargetsLaws.{targets-there}
 use borrow.Author.Needs.{needs}
 use Rattle.trellis_table.proofs.fill_rows.Statement.{statement}
 use Rattle.trellis_table.proofs.fill_rows.Tie as tie
@@ -38,7 +38,7 @@ slice-aggregate-fill-columns-4 : tie.Need-slice-aggregate-fill-columns-4
 slice-aggregate-fill-columns-4 c = sym (c .before .before .before .before .list-firsts .ensures .size)
 
 fill-columns-requires : tie.Need-fill-columns-requires
-fill-columns-requires c κs = (c .before .before .before .before .before .before .before .before .before .before .before .before .before .before .before .before .before .pre .0, c .before .before .before .before .before .before .before .before .before .before .before .before .before .before .before .before .before .pre .1, record { targets = targets-told (c .before .before .before .before .before .before .before .before .before .before .before .before .before .before .before .before .before .pre .0 .valid) (c .before .before .before .before .before .before .before .before .before .before .before .before .before .no-targets .ensures) (c .before .before .before .before .before .before .before .before .before .before .before .list-targets .ensures); starts = c .before .before .before .before .before .before .before .before .before .before .arc-starts .ensures; equal = c .before .before .before .before .before .before .before .before .equal-arcs .ensures; firsts = c .before .before .before .before .before .before .list-firsts .ensures }, refl)
+fill-columns-requires c κs = (c .before .before .before .before .before .before .before .before .before .before .before .before .before .before .before .before .before .pre .0, c .before .before .before .before .before .before .before .before .before .before .before .before .before .before .before .before .before .pre .1, record { targets = targets-there (c .before .before .before .before .before .before .before .before .before .before .before .before .before .before .before .before .before .pre .0 .valid) (c .before .before .before .before .before .before .before .before .before .before .before .before .before .no-targets .ensures) (c .before .before .before .before .before .before .before .before .before .before .before .list-targets .ensures); starts = c .before .before .before .before .before .before .before .before .before .before .arc-starts .ensures; equal = c .before .before .before .before .before .before .before .before .equal-arcs .ensures; firsts = c .before .before .before .before .before .before .list-firsts .ensures }, refl)
 
 same-length : tie.Need-same-length
 same-length c = c .before .before .fill-columns .ensures .outside .size
