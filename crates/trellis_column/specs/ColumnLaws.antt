@@ -16,22 +16,10 @@ use Rattle.trellis.specs.Reached.{entering}
 use Rattle.trellis_steps.specs.Loops.{entering-high}
 use Rattle.lists.specs.Lists.{Listed}
 use Rattle.trellis_members.specs.Members.{Members}
-use Rattle.trellis_members.specs.MembersLaws.{listed-has}
+use Rattle.trellis_members.specs.MembersLaws.{listed-has, only-marked}
 use Rattle.trellis_steps.specs.Steps.{Sized, KeptOf, Within}
 use Rattle.trellis_column.specs.Column.{NONE, Blanks, LowEnough, LabelIn, OfLabel, SomeKept, Taken}
 use Rattle.trellis_column.specs.BlanksLaws.{blanks-kept, kept-blanks}
-
--- a set with no listed members has none
-members-empty : {set : List Bool} {list : List ℕ} → Members set list 0 → (u : ℕ) → Has set u → ⊥
-members-empty m u h = let l = m .all u h .1 in omega arith
-
--- what is marked in an empty set
-only-marked : {set after : List Bool} {list : List ℕ} (P : ℕ → Type 0) → Members set list 0 → Marks P set after → (u : ℕ) → Has after u → P u
-only-marked {set = set} P m k u h = by (k .only u h)
-  where
-    by : Has set u ⊎ P u → P u
-    by (inl z) = absurd (members-empty m u z)
-    by (inr p) = p
 
 -- Kept states, all those of the lowest label among them.
 

@@ -4,6 +4,8 @@ use mathlib.Core.Path.{_≡_, refl, sym, ap, _∙_}
 use mathlib.Core.Bool.{Bool}
 use mathlib.Core.List.{List}
 use native.Mathlib.Omega.{arith}
+use borrow.Author.Tests.{eqb-true, eq-eqb}
+use lib.Dec.{eqb}
 use lib.ListN.{getD}
 use Rattle.lists.specs.LeastLaws.{least-one, least-same}
 use Rattle.lists.specs.Least.{Least, Among}
@@ -16,19 +18,21 @@ use Rattle.trellis.specs.Impossible.{TOP}
 use Rattle.trellis.specs.Reached.{entering}
 use Rattle.trellis_steps.specs.Loops.{entering-high}
 use Rattle.lists.specs.Lists.{Listed}
-use Rattle.trellis_members.specs.Members.{Just}
-use Rattle.trellis_column.specs.Column.{NONE, blankAfter, BlankOf, BlankAt, Blanks, LabelIn, LabelAt, OfLabel, Picks, PicksAt}
+use Rattle.trellis_members.specs.Members.{JustIf}
+use Rattle.trellis_column.specs.Column.{NONE, blankAfter, BlankAt, Blanks, LabelIn, LabelAt, OfLabel, PicksAt}
 
--- The blanks after a state.
+-- State s, put if its value by g is x.
 
-module _ (row : List ℕ) (left s : ℕ) where
-  pub blank-put :
-      {set after : List Bool} → getD row (blankAfter s) 0 ≡ left → Marks (Just (blankAfter s)) set after → Marks (BlankOf row left s) set after
-  blank-put {set = set} {after = after} e =
-      marks-same (Just (blankAfter s)) (BlankOf row left s) set after (λ u q. (q, ap (λ k. getD row k 0) q ∙ e)) (λ u q. q .0)
+module _ (g : ℕ → ℕ) (x s : ℕ) where
+  pub put-valued :
+      {y : ℕ} {set after : List Bool} → y ≡ g s → Marks (JustIf (eqb y x) s) set after → Marks (λ u. (u ≡ s) × (g u ≡ x)) set after
+  put-valued {y = y} {set = set} {after = after} e = marks-same (JustIf (eqb y x) s) (λ u. (u ≡ s) × (g u ≡ x)) set after there back
+    where
+      there : (u : ℕ) → JustIf (eqb y x) s u → (u ≡ s) × (g u ≡ x)
+      there u (t, q) = (q, ap g q ∙ sym e ∙ eqb-true y x t)
 
-  pub blank-not : (set : List Bool) → (getD row (blankAfter s) 0 ≡ left → ⊥) → Marks (BlankOf row left s) set set
-  blank-not set d = marks-none (BlankOf row left s) set (λ u q. d (sym (ap (λ k. getD row k 0) (q .0)) ∙ q .1))
+      back : (u : ℕ) → (u ≡ s) × (g u ≡ x) → JustIf (eqb y x) s u
+      back u (q, z) = (eq-eqb y x (e ∙ sym (ap g q) ∙ z), q)
 
 -- The blanks after the listed states.
 
@@ -71,21 +75,14 @@ labels-all A list n = least-same (LabelIn A (Listed list n)) there back
 
 -- The listed states of a label.
 
-module _ (A : Automaton) (x : ℕ) where
-  pub pick-put : (s : ℕ) {set after : List Bool} → entering A s ≡ x → Marks (Just s) set after → Marks (Picks A x s) set after
-  pick-put s {set = set} {after = after} e = marks-same (Just s) (Picks A x s) set after (λ u q. (q, ap (entering A) q ∙ e)) (λ u q. q .0)
+pub picked-all :
+    (A : Automaton) (x : ℕ) (list : List ℕ) (n : ℕ) {set after : List Bool} → Marks (Iterations (PicksAt A x list) 0 n) set after
+    → Marks (OfLabel A x (Listed list n)) set after
+picked-all A x list n {set = set} {after = after} =
+    marks-same (Iterations (PicksAt A x list) 0 n) (OfLabel A x (Listed list n)) set after there back
+  where
+    there : (u : ℕ) → Iterations (PicksAt A x list) 0 n u → OfLabel A x (Listed list n) u
+    there u (k, low, high, q) = ((k, high, sym (q .0)), q .1)
 
-  pub pick-not : (s : ℕ) (set : List Bool) → (entering A s ≡ x → ⊥) → Marks (Picks A x s) set set
-  pick-not s set d = marks-none (Picks A x s) set (λ u q. d (sym (ap (entering A) (q .0)) ∙ q .1))
-
-  pub picked-all :
-      (list : List ℕ) (n : ℕ) {set after : List Bool} → Marks (Iterations (PicksAt A x list) 0 n) set after
-      → Marks (OfLabel A x (Listed list n)) set after
-  picked-all list n {set = set} {after = after} =
-      marks-same (Iterations (PicksAt A x list) 0 n) (OfLabel A x (Listed list n)) set after there back
-    where
-      there : (u : ℕ) → Iterations (PicksAt A x list) 0 n u → OfLabel A x (Listed list n) u
-      there u (k, low, high, q) = ((k, high, sym (q .0)), q .1)
-
-      back : (u : ℕ) → OfLabel A x (Listed list n) u → Iterations (PicksAt A x list) 0 n u
-      back u ((k, high, e), q) = (k, omega arith, high, (sym e, q))
+    back : (u : ℕ) → OfLabel A x (Listed list n) u → Iterations (PicksAt A x list) 0 n u
+    back u ((k, high, e), q) = (k, omega arith, high, (sym e, q))

@@ -4,7 +4,8 @@
 use numbers::least_size;
 use numbers::wide;
 use numbers::wide_word;
-use trellis_members::put;
+use trellis_members::clear;
+use trellis_members::put_if;
 use trellis_steps::entering;
 use trellis_steps::put_kept;
 ghost use Prim.Native.Nat.{_*_, _<_, _≤_};
@@ -39,17 +40,14 @@ fn put_blank(
     left: u32,
     s: usize,
     set: &mut [bool; 255],
-    list: &mut [u8; 255],
+    list: &mut [u8; 256],
     m: usize,
 ) -> usize
     requires { ⌜ (blankAfter s < 255) × (blankAfter s < length (now row)) × Members (now set) (now list) m ⌝ }
     ensures { λ r. ⌜ Marks (BlankOf (old row) left s) (old set) (new set) × Members (new set) (new list) r ⌝ }
 {
     let u = (s + 1) / 2 * 2;
-    if row[u] == left {
-        return put(u, set, list, m);
-    }
-    m
+    put_if(row[u] == left, u, set, list, m)
 }
 
 // Puts the blanks after the listed states that lie on a cheapest path into the empty set; returns the number of members.
@@ -57,10 +55,10 @@ fn put_blanks(
     column: &[u32],
     row: &[u32],
     v: u32,
-    from: &[u8; 255],
+    from: &[u8; 256],
     n: usize,
     set: &mut [bool; 255],
-    list: &mut [u8; 255],
+    list: &mut [u8; 256],
 ) -> usize
     requires { ⌜ (0 < length (now column)) × (v < TOP) × BlanksInside (now row) (Listed (now from) n) × (n ≤ 255)
         × Members (now set) (now list) 0 ⌝ }
@@ -88,10 +86,10 @@ fn put_lowest(
     column: &[u32],
     row: &[u32],
     v: u32,
-    from: &[u8; 255],
+    from: &[u8; 256],
     n: usize,
     set: &mut [bool; 255],
-    list: &mut [u8; 255],
+    list: &mut [u8; 256],
 ) -> usize
     requires { ⌜ Sized (now form) (now column) (now row) v × ArcStarts (now form) (now starts) × Within (now form) (Listed (now from) n)
         × (n ≤ 255) × SomeKept (view (now form)) (now column) (now row) v (Listed (now from) n) × Members (now set) (now list) 0 ⌝ }
@@ -106,7 +104,7 @@ fn put_lowest(
 }
 
 // The lowest label of the listed states.
-fn lowest(form: &[u32], near: &[u8; 255], n: usize) -> usize
+fn lowest(form: &[u32], near: &[u8; 256], n: usize) -> usize
     requires { ⌜ Valid (now form) × Within (now form) (Listed (now near) n) × (n ≤ 255) ⌝ }
     ensures { λ r. ⌜ Least none (LabelIn (view (old form)) (Listed (old near) n)) r ⌝ }
 {
@@ -125,26 +123,23 @@ fn pick(
     x: usize,
     s: usize,
     set: &mut [bool; 255],
-    list: &mut [u8; 255],
+    list: &mut [u8; 256],
     m: usize,
 ) -> usize
     requires { ⌜ Valid (now form) × (s ≤ 2 * lettersOf (now form)) × Members (now set) (now list) m ⌝ }
     ensures { λ r. ⌜ Marks (Picks (view (old form)) x s) (old set) (new set) × Members (new set) (new list) r ⌝ }
 {
-    if entering(form, s) == x {
-        return put(s, set, list, m);
-    }
-    m
+    put_if(entering(form, s) == x, s, set, list, m)
 }
 
 // Puts the listed states whose label is x into the empty set; returns the number of members.
 fn picked(
     form: &[u32],
-    near: &[u8; 255],
+    near: &[u8; 256],
     n: usize,
     x: usize,
     set: &mut [bool; 255],
-    list: &mut [u8; 255],
+    list: &mut [u8; 256],
 ) -> usize
     requires { ⌜ Valid (now form) × Within (now form) (Listed (now near) n) × (n ≤ 255) × Members (now set) (now list) 0 ⌝ }
     ensures { λ r. ⌜ Marks (OfLabel (view (old form)) x (Listed (old near) n)) (old set) (new set) × Members (new set) (new list) r ⌝ }
@@ -159,7 +154,7 @@ fn picked(
 }
 
 // Goes one column on: takes the lowest label of the reached states that lie on a cheapest path. The states of that label replace those in
-// the set and in its list.
+// the set and in its list. `near` and `nears` are lent for the states on the way to them: a set, empty before and after, and its list.
 pub fn advance(
     form: &[u32],
     starts: &[usize],
@@ -168,19 +163,21 @@ pub fn advance(
     v: u32,
     n: usize,
     set: &mut [bool; 255],
-    list: &mut [u8; 255],
+    list: &mut [u8; 256],
+    near: &mut [bool; 255],
+    nears: &mut [u8; 256],
 ) -> Front
     requires { ⌜ Sized (now form) (now column) (now row) v × ArcStarts (now form) (now starts) × Members (now set) (now list) n
-        × Within (now form) (Has (now set)) × SomeKept (view (now form)) (now column) (now row) v (Has (now set)) ⌝ }
+        × Within (now form) (Has (now set)) × SomeKept (view (now form)) (now column) (now row) v (Has (now set))
+        × Members (now near) (now nears) 0 ⌝ }
     ensures { λ r. ⌜ Taken (view (old form)) (old column) (old row) v (Has (old set)) (r .label) (r .left) (Has (new set))
-        × Members (new set) (new list) (r .count) ⌝ }
+        × Members (new set) (new list) (r .count) × Members (new near) (new nears) 0 ⌝ }
 {
-    let mut near = [false; 255];
-    let mut nears = [0; 255];
-    let m = put_lowest(form, starts, column, row, v, list, n, &mut near, &mut nears);
-    let x = lowest(form, &nears, m);
-    *set = [false; 255];
-    let count = picked(form, &nears, m, x, set, list);
+    let m = put_lowest(form, starts, column, row, v, list, n, near, nears);
+    let x = lowest(form, nears, m);
+    clear(set, list, n);
+    let count = picked(form, nears, m, x, set, list);
+    clear(near, nears, m);
     let paid = column[x];
     let left = v - paid;
     let label = x as u8;

@@ -64,6 +64,15 @@ members-empty s list size room f =
 pub members-none : (list : List ℕ) → length list ≡ 256 → Members (replicate 255 false) list 0
 members-none list room = members-empty (replicate 255 false) list (length-replicate 255 false) room (has-none 255)
 
+-- what is marked in a set of no member
+pub only-marked :
+    {before after : List Bool} {list : List ℕ} (P : ℕ → Type 0) → Members before list 0 → Marks P before after → (u : ℕ) → Has after u → P u
+only-marked {before = before} P none m u h = by (m .only u h)
+  where
+    by : Has before u ⊎ P u → P u
+    by (inl z) = let l = none .all u z .1 in absurd (omega arith)
+    by (inr p) = p
+
 module _ {s : List Bool} {list : List ℕ} {n : ℕ} (members : Members s list n) where
   pub members-most : n ≤ 255
   members-most = let t = trues-most s in let z = members .size in let m = members .number in omega arith

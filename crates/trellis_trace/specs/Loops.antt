@@ -1,17 +1,15 @@
 -- The trace, one iteration of the loop over columns at a time.
 use Prim.Native.Nat.{ℕ, _+_, _*_, _-_, _≤_, _<_}
 use mathlib.Core.Path.{_≡_, refl, sym, ap, ap₂, _∙_, subst}
-use mathlib.Core.Bool.{Bool, false}
+use mathlib.Core.Bool.{Bool, true}
 use mathlib.Core.List.{List, [], _∷_, _++_}
-use mathlib.Core.Logic.{_⊎_, inl, inr}
 use native.Mathlib.Nat.{mul-le-mul-right}
 use native.Mathlib.Omega.{arith}
-use lib.ListN.{length, getD, take, drop, set as put, replicate, length-append}
+use lib.ListN.{length, getD, take, drop, set as put, length-append}
 use lib.Seq.{take-at}
 use Rattle.lists.specs.PartLaws.{part-at, part-length}
 use Rattle.lists.specs.WrittenLaws.{written-none, written-more, length-written}
 use Rattle.lists.specs.Memory.{written}
-use Rattle.lists.specs.MarksLaws.{has-none}
 use Rattle.lists.specs.Marks.{Has, Marks}
 use Rattle.automaton.specs.Automaton.{Automaton}
 use Rattle.automaton.specs.Form.{lettersOf, alphabetOf, view}
@@ -24,7 +22,8 @@ use Rattle.trellis.specs.Extended.{extended}
 use Rattle.trellis.specs.ExtendedLaws.{step-within}
 use Rattle.trellis.specs.Reached.{entering, Reached}
 use Rattle.trellis.specs.ReachedLaws.{Kept, Picked, picked-chosen, next-row, some-kept}
-use Rattle.trellis_members.specs.Members.{Members, Just}
+use Rattle.trellis_members.specs.Members.{Members, JustIf}
+use Rattle.trellis_members.specs.MembersLaws.{only-marked}
 use Rattle.trellis_steps.specs.Steps.{Sized, KeptOf, Within}
 use Rattle.trellis_steps.specs.Loops.{entering-high}
 use Rattle.trellis_column.specs.Column.{SomeKept, Taken}
@@ -65,13 +64,13 @@ pub record PartsOf (f : List ℕ) (M : Matrix) (work : List ℕ) (base stride t 
 module _ {f : List ℕ} {M : Matrix} {work : List ℕ} {base stride : ℕ} (ready : Ready f M work base stride) where
   -- no label is written yet
   pub standing-none :
-      (before : List ℕ) {set : List Bool} {list : List ℕ} {n : ℕ} → Marks (Just 0) (replicate 255 false) set → Members set list n
-      → Standing f M before 0 set list n (getD work base 0) before
-  standing-none before {set = set} start members =
-      let only : (s : ℕ) → Has set s → s ≡ 0 = λ s h. by s (start .only s h) in
+      (before : List ℕ) {empty set : List Bool} {none list : List ℕ} {n : ℕ} → Members empty none 0 → Marks (JustIf true 0) empty set
+      → Members set list n → Standing f M before 0 set list n (getD work base 0) before
+  standing-none before {set = set} nothing start members =
+      let only : (s : ℕ) → Has set s → s ≡ 0 = λ s h. only-marked (JustIf true 0) nothing start s h .1 in
       let togo : CostToGo (extended (view f)) M 0 (M .count) 0 (getD work (base + 0 * stride + 0) 0) = ready .table 0 (M .count) (omega arith) 0 (omega arith) in
       let at : base + 0 * stride + 0 ≡ base = omega arith in
-      let none : M .count ≡ M .count - 0 = omega arith in
+      let all : M .count ≡ M .count - 0 = omega arith in
       record {
         so-far = omega arith;
         done = [];
@@ -80,14 +79,10 @@ module _ {f : List ℕ} {M : Matrix} {work : List ℕ} {base stride : ℕ} (read
         members = members;
         within = λ s h. let e = only s h in omega arith;
         tracing =
-            subst (λ n. Tracing (extended (view f)) M 0 (M .count) 0 n (Has set) (getD work base 0) []) none
-            (tracing-start (extended (view f)) M 0 (M .count) (getD work base 0) (Has set) (start .marked 0 refl) only
+            subst (λ n. Tracing (extended (view f)) M 0 (M .count) 0 n (Has set) (getD work base 0) []) all
+            (tracing-start (extended (view f)) M 0 (M .count) (getD work base 0) (Has set) (start .marked 0 (refl, refl)) only
             (subst (λ n. CostToGo (extended (view f)) M 0 (M .count) 0 (getD work n 0)) at togo) (ready .below));
       }
-    where
-      by : (s : ℕ) → Has (replicate 255 false) s ⊎ (s ≡ 0) → s ≡ 0
-      by s (inl h) = absurd (has-none 255 s h)
-      by s (inr e) = e
 
   -- every column is done
   pub standing-all :

@@ -1,7 +1,10 @@
--- `trellis_column::put_blank` meets its contract, in both branches.
+-- `trellis_column::put_blank` meets its contract: the blanks are put if they have the cost to go.
+use mathlib.Core.Path.{refl}
+use lib.ListN.{getD}
 use denote.Ref.{now}
+use Rattle.trellis_column.specs.Column.{blankAfter}
+use Rattle.trellis_column.specs.Loops.{put-valued}
 use borrow.Author.Needs.{needs}
-use Rattle.trellis_column.specs.Loops.{blank-put, blank-not}
 use Rattle.trellis_column.proofs.put_blank.Statement.{statement}
 use Rattle.trellis_column.proofs.put_blank.Tie as tie
 
@@ -11,24 +14,19 @@ add-u c = search needs
 mul-u : tie.Need-mul-u
 mul-u c = search needs
 
-mul-if1 : tie.Need-mul-if1
-mul-if1 c = search needs
+mul-put-if : tie.Need-mul-put-if
+mul-put-if c = search needs
 
-shared-slice-read-if1 : tie.Need-shared-slice-read-if1
-shared-slice-read-if1 c = search needs
+shared-slice-read-put-if : tie.Need-shared-slice-read-put-if
+shared-slice-read-put-if c = search needs
 
-put-requires : tie.Need-put-requires
-put-requires c κs = search needs
+put-if-requires : tie.Need-put-if-requires
+put-if-requires c κs = search needs
 
 returns : tie.Need-returns
 returns c =
-    let a = c .before .before .before .before .before .before .args in
-    (blank-put (now (a .row)) (a .left) (a .s) (c .before .before .before .if1 .taken) (c .put .ensures .0), c .put .ensures .1)
-
-returns-2 : tie.Need-returns-2
-returns-2 c =
-    let a = c .before .before .before .args in
-    (blank-not (now (a .row)) (a .left) (a .s) (now (a .set)) (c .if1 .left), c .before .before .before .pre .2)
+    let a = c .before .before .before .before .before .args in
+    (put-valued (λ u. getD (now (a .row)) u 0) (a .left) (blankAfter (a .s)) refl (c .put-if .ensures .0), c .put-if .ensures .1)
 
 pub put-blank-spec : {M : Type 1} → statement M
 put-blank-spec =
@@ -36,8 +34,7 @@ put-blank-spec =
     (tie.spec
     add-u
     mul-u
-    mul-if1
-    shared-slice-read-if1
-    put-requires
-    returns
-    returns-2)
+    mul-put-if
+    shared-slice-read-put-if
+    put-if-requires
+    returns)
