@@ -12,11 +12,11 @@ use Rattle.trellis.specs.Extended.{Step, stay, pass, arc, rest, leave}
 use Rattle.trellis.specs.ExtendedLaws.{AtLetter, at-letter}
 use Rattle.trellis.specs.Reached.{entering}
 use Rattle.trellis.specs.ReachedLaws.{entering-blanks}
-use Rattle.trellis_steps.specs.Steps.{Sized, KeptOf, Within}
+use Rattle.trellis_steps.specs.Steps.{ColumnReady, KeptOf, Within}
 use Rattle.trellis_column.specs.Column.{blankAfter, Blanks, BlanksInside, OfLabel}
 
 -- the blanks after a state of the form are a state of the form
-pub blanks-inside : {f column row : List ℕ} {v : ℕ} (In : ℕ → Type 0) → Sized f column row v → Within f In → BlanksInside row In
+pub blanks-inside : {f column row : List ℕ} {v : ℕ} (In : ℕ → Type 0) → ColumnReady f column row v → Within f In → BlanksInside row In
 blanks-inside In z w s i = let h = w s i in let l = z .long in let few = z .valid .head .letters-high in (omega arith, omega arith)
 
 module _ {k : ℕ} {A : Automaton} (proper : Proper k A) (column row : List ℕ) (v : ℕ) (In : ℕ → Type 0)

@@ -66,11 +66,11 @@ abbrev pub PicksAt : Automaton → (x : ℕ) → List ℕ → (k u : ℕ) → Ty
 PicksAt A x list k u = Picks A x (getD list k 0) u
 
 -- after the column: the lowest label of the kept states, what is left to pay, and the kept states of that label
-pub record Taken (A : Automaton) (column row : List ℕ) (v : ℕ) (In : ℕ → Type 0) (label rest : ℕ) (In′ : ℕ → Type 0) : Type 0 where
+pub record Taken (A : Automaton) (column row : List ℕ) (v : ℕ) (In : ℕ → Type 0) (label left : ℕ) (In′ : ℕ → Type 0) : Type 0 where
   pub lowest : (u : ℕ) → KeptOf A column row v In u → label ≤ entering A u
   pub one : ℕ
   pub kept : KeptOf A column row v In one
   pub by-label : entering A one ≡ label
   pub hit : (u : ℕ) → In′ u → KeptOf A column row v In u × (entering A u ≡ label)
   pub all : (u : ℕ) → KeptOf A column row v In u → entering A u ≡ label → In′ u
-  pub paid : rest ≡ v - getD column label 0
+  pub paid : left ≡ v - getD column label 0

@@ -17,7 +17,7 @@ use Rattle.trellis_steps.specs.Loops.{entering-high}
 use Rattle.lists.specs.Lists.{Listed}
 use Rattle.trellis_members.specs.Members.{Members}
 use Rattle.trellis_members.specs.MembersLaws.{listed-has, only-marked}
-use Rattle.trellis_steps.specs.Steps.{Sized, KeptOf, Within}
+use Rattle.trellis_steps.specs.Steps.{ColumnReady, KeptOf, Within}
 use Rattle.trellis_column.specs.Column.{NONE, Blanks, LowEnough, LabelIn, OfLabel, SomeKept, Taken}
 use Rattle.trellis_column.specs.BlanksLaws.{blanks-kept, kept-blanks}
 
@@ -26,7 +26,7 @@ use Rattle.trellis_column.specs.BlanksLaws.{blanks-kept, kept-blanks}
 module _ (f column row : List ℕ) (v : ℕ) (In : ℕ → Type 0) {set near : List Bool} {list : List ℕ} (empty : Members set list 0) where
   -- the blanks, if there are any
   pub lowest-blanks :
-      {nears : List ℕ} {m : ℕ} → Sized f column row v → Within f In → Marks (Blanks column row v In) set near → Members near nears m → 0 < m
+      {nears : List ℕ} {m : ℕ} → ColumnReady f column row v → Within f In → Marks (Blanks column row v In) set near → Members near nears m → 0 < m
       → LowEnough (view f) column row v In near
   lowest-blanks {nears = nears} z w k e h =
       let p = valid-proper f (z .valid) in
@@ -51,7 +51,7 @@ module _ (f column row : List ℕ) (v : ℕ) (In : ℕ → Type 0) {set near : L
 -- The column as a whole: kept states, all those of the lowest label among them, and the list of these states.
 
 pub record Nearby (f column row : List ℕ) (v : ℕ) (In : ℕ → Type 0) (near : List Bool) (nears : List ℕ) (n : ℕ) : Type 0 where
-  pub sized : Sized f column row v
+  pub sized : ColumnReady f column row v
   pub within : Within f In
   pub enough : LowEnough (view f) column row v In near
   pub members : Members near nears n
@@ -67,7 +67,7 @@ module _ (f column row : List ℕ) (v : ℕ) {set : List Bool} {list : List ℕ}
   listed-within w s i = w s (listed-has from s i)
 
   pub nearby :
-      {near : List Bool} {nears : List ℕ} {m : ℕ} → Sized f column row v → Within f (Has set)
+      {near : List Bool} {nears : List ℕ} {m : ℕ} → ColumnReady f column row v → Within f (Has set)
       → LowEnough (view f) column row v (Listed list n) near → Members near nears m → Nearby f column row v (Has set) near nears m
   nearby z w e k =
       record {

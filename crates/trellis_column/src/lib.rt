@@ -19,7 +19,7 @@ ghost use Rattle.form_starts.specs.Starts.{ArcStarts};
 ghost use Rattle.trellis.specs.Impossible.{TOP};
 ghost use Rattle.lists.specs.Lists.{Listed};
 ghost use Rattle.trellis_members.specs.Members.{Members};
-ghost use Rattle.trellis_steps.specs.Steps.{Sized, Within};
+ghost use Rattle.trellis_steps.specs.Steps.{ColumnReady, Within};
 ghost use Rattle.trellis_column.specs.Column.{NONE as none, blankAfter, BlankOf, Blanks, BlanksInside};
 ghost use Rattle.trellis_column.specs.Column.{LowEnough, LabelIn, OfLabel, Picks, SomeKept, Taken};
 
@@ -91,7 +91,7 @@ fn put_lowest(
     set: &mut [bool; 255],
     list: &mut [u8; 256],
 ) -> usize
-    requires { ⌜ Sized (now form) (now column) (now row) v × ArcStarts (now form) (now starts) × Within (now form) (Listed (now from) n)
+    requires { ⌜ ColumnReady (now form) (now column) (now row) v × ArcStarts (now form) (now starts) × Within (now form) (Listed (now from) n)
         × (n ≤ 255) × SomeKept (view (now form)) (now column) (now row) v (Listed (now from) n) × Members (now set) (now list) 0 ⌝ }
     ensures { λ r. ⌜ LowEnough (view (old form)) (old column) (old row) v (Listed (old from) n) (new set)
         × Members (new set) (new list) r ⌝ }
@@ -104,14 +104,14 @@ fn put_lowest(
 }
 
 // The lowest label of the listed states.
-fn lowest(form: &[u32], near: &[u8; 256], n: usize) -> usize
-    requires { ⌜ Valid (now form) × Within (now form) (Listed (now near) n) × (n ≤ 255) ⌝ }
-    ensures { λ r. ⌜ Least none (LabelIn (view (old form)) (Listed (old near) n)) r ⌝ }
+fn lowest(form: &[u32], nears: &[u8; 256], n: usize) -> usize
+    requires { ⌜ Valid (now form) × Within (now form) (Listed (now nears) n) × (n ≤ 255) ⌝ }
+    ensures { λ r. ⌜ Least none (LabelIn (view (old form)) (Listed (old nears) n)) r ⌝ }
 {
     let mut x = NONE;
     let mut k = 0;
     while k < n {
-        x = least_size(x, entering(form, wide(near[k])));
+        x = least_size(x, entering(form, wide(nears[k])));
         k += 1;
     }
     x
@@ -135,19 +135,19 @@ fn pick(
 // Puts the listed states whose label is x into the empty set; returns the number of members.
 fn picked(
     form: &[u32],
-    near: &[u8; 256],
+    nears: &[u8; 256],
     n: usize,
     x: usize,
     set: &mut [bool; 255],
     list: &mut [u8; 256],
 ) -> usize
-    requires { ⌜ Valid (now form) × Within (now form) (Listed (now near) n) × (n ≤ 255) × Members (now set) (now list) 0 ⌝ }
-    ensures { λ r. ⌜ Marks (OfLabel (view (old form)) x (Listed (old near) n)) (old set) (new set) × Members (new set) (new list) r ⌝ }
+    requires { ⌜ Valid (now form) × Within (now form) (Listed (now nears) n) × (n ≤ 255) × Members (now set) (now list) 0 ⌝ }
+    ensures { λ r. ⌜ Marks (OfLabel (view (old form)) x (Listed (old nears) n)) (old set) (new set) × Members (new set) (new list) r ⌝ }
 {
     let mut m = 0;
     let mut k = 0;
     while k < n {
-        m = pick(form, x, wide(near[k]), set, list, m);
+        m = pick(form, x, wide(nears[k]), set, list, m);
         k += 1;
     }
     m
@@ -167,7 +167,7 @@ pub fn advance(
     near: &mut [bool; 255],
     nears: &mut [u8; 256],
 ) -> Front
-    requires { ⌜ Sized (now form) (now column) (now row) v × ArcStarts (now form) (now starts) × Members (now set) (now list) n
+    requires { ⌜ ColumnReady (now form) (now column) (now row) v × ArcStarts (now form) (now starts) × Members (now set) (now list) n
         × Within (now form) (Has (now set)) × SomeKept (view (now form)) (now column) (now row) v (Has (now set))
         × Members (now near) (now nears) 0 ⌝ }
     ensures { λ r. ⌜ Taken (view (old form)) (old column) (old row) v (Has (old set)) (r .label) (r .left) (Has (new set))

@@ -14,7 +14,7 @@ use Rattle.trellis.specs.Reached.{entering, Reached}
 use Rattle.trellis_members.specs.Members.{Just}
 
 -- a cost for each label, a cost to go for each state, and a price below TOP
-pub record Sized (f column row : List ℕ) (v : ℕ) : Type 0 where
+pub record ColumnReady (f column row : List ℕ) (v : ℕ) : Type 0 where
   pub valid : Valid f
   pub wide : alphabetOf f < length column
   pub long : 2 * lettersOf f < length row

@@ -21,7 +21,7 @@ ghost use Rattle.trellis.specs.Impossible.{TOP};
 ghost use Rattle.trellis.specs.Reached.{entering as enteringOf};
 ghost use Rattle.lists.specs.Lists.{Listed};
 ghost use Rattle.trellis_members.specs.Members.{Members};
-ghost use Rattle.trellis_steps.specs.Steps.{Sized, Within, AddUp, KeptIn, KeptOf, KeptAt};
+ghost use Rattle.trellis_steps.specs.Steps.{ColumnReady, Within, AddUp, KeptIn, KeptOf, KeptAt};
 ghost use Rattle.trellis_steps.specs.Steps.{Onto, OtherLetter, Led, Following, TargetOf};
 
 // The label of every step into state u: the blank, or that of its letter.
@@ -73,7 +73,7 @@ fn put_letter(
     list: &mut [u8; 256],
     n: usize,
 ) -> usize
-    requires { ⌜ Sized (now form) (now column) (now row) v × (1 ≤ j) × (j ≤ lettersOf (now form)) × Members (now set) (now list) n ⌝ }
+    requires { ⌜ ColumnReady (now form) (now column) (now row) v × (1 ≤ j) × (j ≤ lettersOf (now form)) × Members (now set) (now list) n ⌝ }
     ensures { λ r. ⌜ Marks (KeptIn (view (old form)) (old column) (old row) v (OtherLetter (view (old form)) own j)) (old set) (new set)
         × Members (new set) (new list) r ⌝ }
 {
@@ -94,7 +94,7 @@ fn put_first(
     list: &mut [u8; 256],
     n: usize,
 ) -> usize
-    requires { ⌜ Sized (now form) (now column) (now row) v × (1 ≤ j) × (j ≤ lettersOf (now form)) × Members (now set) (now list) n ⌝ }
+    requires { ⌜ ColumnReady (now form) (now column) (now row) v × (1 ≤ j) × (j ≤ lettersOf (now form)) × Members (now set) (now list) n ⌝ }
     ensures { λ r. ⌜ Marks (KeptIn (view (old form)) (old column) (old row) v (Led (view (old form)) own 0 j)) (old set) (new set)
         × Members (new set) (new list) r ⌝ }
 {
@@ -115,7 +115,7 @@ fn put_firsts(
     list: &mut [u8; 256],
     n: usize,
 ) -> usize
-    requires { ⌜ Sized (now form) (now column) (now row) v × Members (now set) (now list) n ⌝ }
+    requires { ⌜ ColumnReady (now form) (now column) (now row) v × Members (now set) (now list) n ⌝ }
     ensures { λ r. ⌜ Marks (KeptIn (view (old form)) (old column) (old row) v (Following (view (old form)) own 0)) (old set) (new set)
         × Members (new set) (new list) r ⌝ }
 {
@@ -142,7 +142,7 @@ fn put_targets(
     list: &mut [u8; 256],
     n: usize,
 ) -> usize
-    requires { ⌜ Sized (now form) (now column) (now row) v × (lettersOf (now form) < b) × (b ≤ e) × (e ≤ length (now form))
+    requires { ⌜ ColumnReady (now form) (now column) (now row) v × (lettersOf (now form) < b) × (b ≤ e) × (e ≤ length (now form))
         × Members (now set) (now list) n ⌝ }
     ensures { λ r. ⌜ Marks (KeptIn (view (old form)) (old column) (old row) v (Iterations (TargetOf (old form) own) b e))
         (old set) (new set) × Members (new set) (new list) r ⌝ }
@@ -170,7 +170,7 @@ fn put_after(
     list: &mut [u8; 256],
     n: usize,
 ) -> usize
-    requires { ⌜ Sized (now form) (now column) (now row) v × StartsAt (now form) i b × StartsAt (now form) (i + 1) e
+    requires { ⌜ ColumnReady (now form) (now column) (now row) v × StartsAt (now form) i b × StartsAt (now form) (i + 1) e
         × Members (now set) (now list) n ⌝ }
     ensures { λ r. ⌜ Marks (KeptIn (view (old form)) (old column) (old row) v (Following (view (old form)) own i)) (old set) (new set)
         × Members (new set) (new list) r ⌝ }
@@ -194,7 +194,7 @@ fn put_steps(
     list: &mut [u8; 256],
     n: usize,
 ) -> usize
-    requires { ⌜ Sized (now form) (now column) (now row) v × ArcStarts (now form) (now starts) × (s ≤ 2 * lettersOf (now form))
+    requires { ⌜ ColumnReady (now form) (now column) (now row) v × ArcStarts (now form) (now starts) × (s ≤ 2 * lettersOf (now form))
         × Members (now set) (now list) n ⌝ }
     ensures { λ r. ⌜ Marks (KeptIn (view (old form)) (old column) (old row) v (Onto (view (old form)) s)) (old set) (new set)
         × Members (new set) (new list) r ⌝ }
@@ -220,7 +220,7 @@ pub fn put_kept(
     set: &mut [bool; 255],
     list: &mut [u8; 256],
 ) -> usize
-    requires { ⌜ Sized (now form) (now column) (now row) v × ArcStarts (now form) (now starts) × Within (now form) (Listed (now from) n)
+    requires { ⌜ ColumnReady (now form) (now column) (now row) v × ArcStarts (now form) (now starts) × Within (now form) (Listed (now from) n)
         × (n ≤ 255) × Members (now set) (now list) 0 ⌝ }
     ensures { λ r. ⌜ Marks (KeptOf (view (old form)) (old column) (old row) v (Listed (old from) n)) (old set) (new set)
         × Members (new set) (new list) r ⌝ }

@@ -24,7 +24,7 @@ use Rattle.trellis.specs.Reached.{entering, Reached}
 use Rattle.trellis.specs.ReachedLaws.{Kept, Picked, picked-chosen, next-row, some-kept}
 use Rattle.trellis_members.specs.Members.{Members, JustIf}
 use Rattle.trellis_members.specs.MembersLaws.{only-marked}
-use Rattle.trellis_steps.specs.Steps.{Sized, KeptOf, Within}
+use Rattle.trellis_steps.specs.Steps.{ColumnReady, KeptOf, Within}
 use Rattle.trellis_steps.specs.Loops.{entering-high}
 use Rattle.trellis_column.specs.Column.{SomeKept, Taken}
 use Rattle.trellis_trace.specs.Traced.{Ready, Traced}
@@ -150,7 +150,7 @@ module _ {f : List ℕ} {M : Matrix} {work : List ℕ} {base stride : ℕ} (read
       table-next : (s : ℕ) → s ≤ 2 * lettersOf f → CostToGo (extended (view f)) M (t + 1) rest s (next s)
       table-next = ready .table (t + 1) (M .count - (t + 1)) (omega arith)
 
-      pub standing-sized : Sized f column row left
+      pub standing-sized : ColumnReady f column row left
       standing-sized = record { valid = ready .valid; wide = parts .wide; long = parts .long; below = stands .tracing .shared .below }
 
       pub standing-kept : SomeKept (view f) column row left (Has set)

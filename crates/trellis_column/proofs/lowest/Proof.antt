@@ -15,15 +15,15 @@ use Rattle.trellis_column.proofs.lowest.Statement.{statement}
 use Rattle.trellis_column.proofs.lowest.Tie as tie
 
 abbrev Inv-loop : tie.InvT-loop
-Inv-loop form near n x₀ k₀ x k = (k ≤ n) × Least NONE (Among 0 k (LabelAt (view form) near)) x
+Inv-loop form nears n x₀ k₀ x k = (k ≤ n) × Least NONE (Among 0 k (LabelAt (view form) nears)) x
 
 abbrev μ-loop : tie.MeasureT-loop
-μ-loop form near n x₀ k₀ x k = n - k
+μ-loop form nears n x₀ k₀ x k = n - k
 
 loop-holds : tie.Need-loop-holds Inv-loop μ-loop
 loop-holds c =
     let a = c .before .args in
-    (omega arith, least-start 0 (LabelAt (view (now (a .form))) (now (a .near))))
+    (omega arith, least-start 0 (LabelAt (view (now (a .form))) (now (a .nears))))
 
 element-copy-out-wide : tie.Need-element-copy-out-wide Inv-loop μ-loop
 element-copy-out-wide c = omega (arith, c .loop-test .taken, c .before .before .before .pre .2)
@@ -35,7 +35,7 @@ entering-requires : tie.Need-entering-requires Inv-loop μ-loop
 entering-requires c κs =
     let a = c .before .before .before .before .before .args in
     let e = c .wide .ensures in
-    let w = c .before .before .before .before .before .pre .1 (getD (now (a .near)) (c .before .before .before .loop .k) 0) (c .before .before .before .loop .k, c .before .before .loop-test .taken, refl) in
+    let w = c .before .before .before .before .before .pre .1 (getD (now (a .nears)) (c .before .before .before .loop .k) 0) (c .before .before .before .loop .k, c .before .before .loop-test .taken, refl) in
     (c .before .before .before .before .before .pre .0 .long, omega arith)
 
 least-size-requires : tie.Need-least-size-requires Inv-loop μ-loop
@@ -51,12 +51,12 @@ loop-again : tie.Need-loop-again Inv-loop μ-loop
 loop-again c =
     let a = c .before .before .before .before .before .before .before .args in
     let l = c .before .before .before .before .before .loop in
-    let Q = LabelAt (view (now (a .form))) (now (a .near)) in
-    let w = c .before .before .before .before .before .before .before .pre .1 (getD (now (a .near)) (l .k) 0) (l .k, c .before .before .before .before .loop-test .taken, refl) in (
+    let Q = LabelAt (view (now (a .form))) (now (a .nears)) in
+    let w = c .before .before .before .before .before .before .before .pre .1 (getD (now (a .nears)) (l .k) 0) (l .k, c .before .before .before .before .loop-test .taken, refl) in (
       omega (arith, c .before .before .before .before .loop-test .taken),
       subst (Least NONE (Among 0 (l .k + 1) Q)) (sym (c .least-size .ensures))
           (least-more 0 Q (omega arith) (l .inv .1)
-          (label-least (now (a .form)) (now (a .near)) (l .k) (c .before .before .before .before .before .before .before .pre .0) w (c .before .entering .ensures ∙ ap (entering (view (now (a .form)))) (c .before .before .wide .ensures)))),
+          (label-least (now (a .form)) (now (a .nears)) (l .k) (c .before .before .before .before .before .before .before .pre .0) w (c .before .entering .ensures ∙ ap (entering (view (now (a .form)))) (c .before .before .wide .ensures)))),
     )
 
 returns : tie.Need-returns Inv-loop μ-loop
@@ -64,8 +64,8 @@ returns c =
     let a = c .before .before .before .args in
     let l = c .before .loop in
     let e : l .k ≡ a .n = omega (arith, l .inv .0, c .loop-test .left) in
-    labels-all (view (now (a .form))) (now (a .near)) (a .n)
-    (subst (λ k. Least NONE (Among 0 k (LabelAt (view (now (a .form))) (now (a .near)))) (l .x)) e (l .inv .1))
+    labels-all (view (now (a .form))) (now (a .nears)) (a .n)
+    (subst (λ k. Least NONE (Among 0 k (LabelAt (view (now (a .form))) (now (a .nears)))) (l .x)) e (l .inv .1))
 
 pub lowest-spec : {M : Type 1} → statement M
 lowest-spec =

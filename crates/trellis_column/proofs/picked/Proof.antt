@@ -15,15 +15,15 @@ use Rattle.trellis_column.proofs.picked.Statement.{statement}
 use Rattle.trellis_column.proofs.picked.Tie as tie
 
 abbrev Inv-loop : tie.InvT-loop
-Inv-loop form near n x set₀ list₀ m₀ k₀ set list m k = (k ≤ n) × Marks (Iterations (PicksAt (view form) x near) 0 k) set₀ set × Members set list m
+Inv-loop form nears n x set₀ list₀ m₀ k₀ set list m k = (k ≤ n) × Marks (Iterations (PicksAt (view form) x nears) 0 k) set₀ set × Members set list m
 
 abbrev μ-loop : tie.MeasureT-loop
-μ-loop form near n x set₀ list₀ m₀ k₀ set list m k = n - k
+μ-loop form nears n x set₀ list₀ m₀ k₀ set list m k = n - k
 
 loop-holds : tie.Need-loop-holds Inv-loop μ-loop
 loop-holds c =
     let a = c .before .args in
-    (omega arith, iterations-none (PicksAt (view (now (a .form))) (a .x) (now (a .near))) 0 (now (a .set)), c .before .pre .3)
+    (omega arith, iterations-none (PicksAt (view (now (a .form))) (a .x) (now (a .nears))) 0 (now (a .set)), c .before .pre .3)
 
 element-copy-out-wide : tie.Need-element-copy-out-wide Inv-loop μ-loop
 element-copy-out-wide c = omega (arith, c .loop-test .taken, c .before .before .before .pre .2)
@@ -36,7 +36,7 @@ pick-requires c κs =
     let a = c .before .before .before .before .before .before .before .args in
     let l = c .before .before .before .before .before .loop in
     let e = c .before .before .wide .ensures in
-    let w = c .before .before .before .before .before .before .before .pre .1 (getD (now (a .near)) (l .k) 0) (l .k, c .before .before .before .before .loop-test .taken, refl) in
+    let w = c .before .before .before .before .before .before .before .pre .1 (getD (now (a .nears)) (l .k) 0) (l .k, c .before .before .before .before .loop-test .taken, refl) in
     (c .before .before .before .before .before .before .before .pre .0, omega arith, l .inv .2)
 
 add-k : tie.Need-add-k Inv-loop μ-loop
@@ -52,7 +52,7 @@ loop-again c =
     let e = c .before .before .before .wide .ensures in
     let next = c .pick .last .1 .1 .1 .0 in (
       omega (arith, c .before .before .before .before .before .loop-test .taken),
-      iterations-more (PicksAt (view (now (a .form))) (a .x) (now (a .near))) 0 (l .k) (now (a .set)) (l .set) next (omega arith) (l .inv .1) (subst (λ s. Marks (Picks (view (now (a .form))) (a .x) s) (l .set) next) e (c .pick .ensures .0)),
+      iterations-more (PicksAt (view (now (a .form))) (a .x) (now (a .nears))) 0 (l .k) (now (a .set)) (l .set) next (omega arith) (l .inv .1) (subst (λ s. Marks (Picks (view (now (a .form))) (a .x) s) (l .set) next) e (c .pick .ensures .0)),
       c .pick .ensures .1,
     )
 
@@ -61,7 +61,7 @@ returns c =
     let a = c .before .before .before .args in
     let l = c .before .loop in
     let e : l .k ≡ a .n = omega (arith, l .inv .0, c .loop-test .left) in (
-      picked-all (view (now (a .form))) (a .x) (now (a .near)) (a .n) (subst (λ k. Marks (Iterations (PicksAt (view (now (a .form))) (a .x) (now (a .near))) 0 k) (now (a .set)) (l .set)) e (l .inv .1)),
+      picked-all (view (now (a .form))) (a .x) (now (a .nears)) (a .n) (subst (λ k. Marks (Iterations (PicksAt (view (now (a .form))) (a .x) (now (a .nears))) 0 k) (now (a .set)) (l .set)) e (l .inv .1)),
       l .inv .2,
     )
 

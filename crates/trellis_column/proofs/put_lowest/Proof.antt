@@ -7,7 +7,7 @@ use Rattle.lists.specs.Marks.{Marks}
 use Rattle.automaton.specs.Form.{view}
 use Rattle.lists.specs.Lists.{Listed}
 use Rattle.trellis_members.specs.Members.{Members}
-use Rattle.trellis_steps.specs.Steps.{Sized, KeptOf}
+use Rattle.trellis_steps.specs.Steps.{ColumnReady, KeptOf}
 use Rattle.trellis_column.specs.BlanksLaws.{blanks-inside}
 use Rattle.trellis_column.specs.ColumnLaws.{lowest-blanks, lowest-all}
 use Rattle.trellis_column.proofs.put_lowest.Statement.{statement}
@@ -36,7 +36,7 @@ put-kept-requires c κs =
     let p = c .before .before .before .before .before .before .before .before .before .before .before .pre in
     let b = c .before .before .before .before .put-blanks in
     let none : b .result ≡ 0 = omega (arith, c .before .before .before .if1 .left) in
-    (subst (Sized (now (a .form)) (now (a .column)) (now (a .row))) (sym (c .before .before .wide-word .ensures)) (p .0), p .1, p .2, p .3, subst (Members (b .last .1 .1 .1 .1 .1 .0) (b .last .1 .1 .1 .1 .1 .1 .0)) none (b .ensures .1))
+    (subst (ColumnReady (now (a .form)) (now (a .column)) (now (a .row))) (sym (c .before .before .wide-word .ensures)) (p .0), p .1, p .2, p .3, subst (Members (b .last .1 .1 .1 .1 .1 .0) (b .last .1 .1 .1 .1 .1 .1 .0)) none (b .ensures .1))
 
 returns-2 : tie.Need-returns-2
 returns-2 c =
