@@ -4,7 +4,7 @@ use mathlib.Core.Path.{_≡_}
 use mathlib.Core.Bool.{true}
 use mathlib.Core.List.{List}
 use lib.ListN.{length, getD}
-use Rattle.lists.specs.Lists.{Listed}
+use Rattle.lists.specs.Marks.{Listed}
 use Rattle.automaton.specs.Form.{lettersOf, followOf}
 
 -- the list begins with the letters below m that may be first, n of them, in their order

@@ -8,7 +8,7 @@ use native.Mathlib.Omega.{arith}
 use lib.ListN.{length, getD, set, length-set}
 use lib.Seq.{getD-set-same, getD-set-other}
 use Rattle.lists.specs.OrderLaws.{eq-or-ne, not-both}
-use Rattle.lists.specs.Lists.{Listed}
+use Rattle.lists.specs.Marks.{Listed}
 use Rattle.automaton.specs.Form.{followOf}
 use Rattle.automaton.specs.ValidLaws.{first-letter}
 use Rattle.form_arcs.specs.Firsts.{FirstsBelow}

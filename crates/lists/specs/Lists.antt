@@ -5,7 +5,6 @@ use mathlib.Core.Path.{_≡_}
 use mathlib.Core.Logic.{_⊎_}
 use Prim.Native.Nat.{ℕ, zero, suc, _<_}
 use lib.Dec.{leb}
-use lib.ListN.{getD}
 use Rattle.lists.specs.Each.{Each}
 
 module _ {A : Type 0} where
@@ -28,10 +27,6 @@ module _ {A : Type 0} where
   unfoldable pub keep : (A → Bool) → List A → List A
   keep p [] = []
   keep p (x ∷ xs) = keeping (p x) x (keep p xs)
-
--- u is among the first n elements
-abbrev pub Listed : List ℕ → (n u : ℕ) → Type 0
-Listed xs n u = (k : ℕ) × (k < n) × (getD xs k 0 ≡ u)
 
 -- n is from `low` to `high`, both included
 abbrev pub in-range : (low high n : ℕ) → Bool

@@ -1,4 +1,4 @@
--- Sets of numbers as lists of truth values, and what it means that places were marked.
+-- Sets of numbers, as lists of truth values or of their members, and what it means that places were marked.
 use Prim.Native.Nat.{ℕ, _<_, _≤_}
 use mathlib.Core.Path.{_≡_}
 use mathlib.Core.Bool.{Bool, true, false}
@@ -16,6 +16,10 @@ pub record Marks (P : ℕ → Type 0) (before after : List Bool) : Type 0 where
   pub kept : (k : ℕ) → Has before k → Has after k
   pub marked : (k : ℕ) → P k → Has after k
   pub only : (k : ℕ) → Has after k → Has before k ⊎ P k
+
+-- u is among the first n elements of a list
+abbrev pub Listed : List ℕ → (n u : ℕ) → Type 0
+Listed xs n u = (k : ℕ) × (k < n) × (getD xs k 0 ≡ u)
 
 -- Iteration i of a loop marks the places that Q i names: place k is named by some iteration from m on, below n.
 abbrev pub Iterations : (ℕ → ℕ → Type 0) → ℕ → ℕ → ℕ → Type 0

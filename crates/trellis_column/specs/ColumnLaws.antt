@@ -8,13 +8,12 @@ use native.Mathlib.Omega.{arith}
 use lib.ListN.{getD}
 use Rattle.lists.specs.OrderLaws.{lt-or-le}
 use Rattle.lists.specs.Least.{Least}
-use Rattle.lists.specs.Marks.{Has, Marks}
+use Rattle.lists.specs.Marks.{Has, Marks, Listed}
 use Rattle.automaton.specs.Form.{lettersOf, alphabetOf, view}
 use Rattle.automaton.specs.ValidLaws.{valid-proper}
 use Rattle.trellis.specs.ExtendedLaws.{step-within}
 use Rattle.trellis.specs.Reached.{entering}
 use Rattle.trellis_steps.specs.Loops.{entering-high}
-use Rattle.lists.specs.Lists.{Listed}
 use Rattle.trellis_members.specs.Members.{Members}
 use Rattle.trellis_members.specs.MembersLaws.{listed-has, only-marked}
 use Rattle.trellis_steps.specs.Steps.{ColumnReady, KeptOf, Within}

@@ -10,14 +10,13 @@ use lib.ListN.{getD}
 use Rattle.lists.specs.LeastLaws.{least-one, least-same}
 use Rattle.lists.specs.Least.{Least, Among}
 use Rattle.lists.specs.MarksLaws.{marks-none, marks-same}
-use Rattle.lists.specs.Marks.{Marks, Iterations}
+use Rattle.lists.specs.Marks.{Marks, Iterations, Listed}
 use Rattle.automaton.specs.Automaton.{Automaton}
 use Rattle.automaton.specs.Form.{lettersOf, view}
 use Rattle.automaton.specs.Valid.{Valid}
 use Rattle.trellis.specs.Impossible.{TOP}
 use Rattle.trellis.specs.Reached.{entering}
 use Rattle.trellis_steps.specs.Loops.{entering-high}
-use Rattle.lists.specs.Lists.{Listed}
 use Rattle.trellis_members.specs.Members.{JustIf}
 use Rattle.trellis_column.specs.Column.{NONE, blankAfter, BlankAt, Blanks, LabelIn, LabelAt, OfLabel, PicksAt}
 

@@ -1,11 +1,11 @@
--- A set of two members with its list.
+-- The number of true values, listed elements, and a set of two members with its list. For the reader: nothing uses it.
 use Prim.Native.Nat.{ℕ, zero, suc, _<_}
 use mathlib.Core.Path.{_≡_, refl}
 use mathlib.Core.Bool.{true, false}
 use mathlib.Core.List.{List, [], _∷_, map}
 use native.Mathlib.Omega.{arith}
 use lib.ListN.{getD, replicate, set as put}
-use Rattle.lists.specs.Lists.{Listed}
+use Rattle.lists.specs.Marks.{Listed}
 use Rattle.trellis_members.specs.Members.{trues, Members}
 use Rattle.trellis_members.specs.MembersLaws.{members-none, members-more}
 

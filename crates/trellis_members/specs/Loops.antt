@@ -8,8 +8,7 @@ use native.Mathlib.Omega.{arith}
 use lib.ListN.{length, getD, set as put, length-set}
 use lib.Seq.{getD-set-same, getD-set-other}
 use Rattle.lists.specs.OrderLaws.{eq-or-ne}
-use Rattle.lists.specs.Marks.{Has}
-use Rattle.lists.specs.Lists.{Listed}
+use Rattle.lists.specs.Marks.{Has, Listed}
 use Rattle.trellis_members.specs.Members.{Members, TakenOut}
 use Rattle.trellis_members.specs.MembersLaws.{members-empty}
 

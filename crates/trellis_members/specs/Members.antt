@@ -4,8 +4,7 @@ use mathlib.Core.Path.{_≡_}
 use mathlib.Core.Bool.{Bool, true, false}
 use mathlib.Core.List.{List, [], _∷_}
 use lib.ListN.{length, getD}
-use Rattle.lists.specs.Lists.{Listed}
-use Rattle.lists.specs.Marks.{Has}
+use Rattle.lists.specs.Marks.{Has, Listed}
 
 -- the number of true values
 unfoldable pub trues : List Bool → ℕ

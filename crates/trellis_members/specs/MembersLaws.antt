@@ -9,8 +9,7 @@ use lib.ListN.{length, getD, set as put, replicate, length-set, length-replicate
 use lib.Seq.{getD-set-same, getD-set-other, set-getD}
 use Rattle.lists.specs.OrderLaws.{eq-or-ne}
 use Rattle.lists.specs.MarksLaws.{has-none, marks-none, marks-one, marks-same}
-use Rattle.lists.specs.Marks.{Has, Marks}
-use Rattle.lists.specs.Lists.{Listed}
+use Rattle.lists.specs.Marks.{Has, Marks, Listed}
 use Rattle.trellis_members.specs.Members.{trues, Members, Just, JustIf}
 
 pub has-inside : (s : List Bool) (u : ℕ) → Has s u → u < length s

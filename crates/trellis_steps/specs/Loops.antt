@@ -10,7 +10,7 @@ use lib.ListN.{getD}
 use borrow.Author.Tests.{eqb-true, eqb-false, not-true, eq-eqb, ne-eqb}
 use Rattle.lists.specs.OrderLaws.{not-both, and-left, and-right, and-both}
 use Rattle.lists.specs.MarksLaws.{marks-none, marks-same, marks-then, iterations-more}
-use Rattle.lists.specs.Marks.{Marks, Iterations}
+use Rattle.lists.specs.Marks.{Marks, Iterations, Listed}
 use Rattle.automaton.specs.Automaton.{Automaton}
 use Rattle.automaton.specs.Proper.{Proper}
 use Rattle.automaton.specs.Form.{lettersOf, alphabetOf, view, target}
@@ -23,7 +23,6 @@ use Rattle.trellis.specs.Extended.{OnLetter, stay, pass, arc, rest, leave}
 use Rattle.trellis.specs.ExtendedLaws.{AtLetter, at-letter}
 use Rattle.trellis.specs.Reached.{entering, Reached}
 use Rattle.trellis.specs.ReachedLaws.{entering-blanks, entering-letter}
-use Rattle.lists.specs.Lists.{Listed}
 use Rattle.trellis_members.specs.Members.{Just, JustIf}
 use Rattle.trellis_steps.specs.Steps.{AddUp, Keeps, KeptIn, KeptOf, KeptAt, Onto, OtherLetter, Led, Following, TargetOf, From}
 

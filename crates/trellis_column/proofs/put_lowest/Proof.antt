@@ -3,9 +3,8 @@ use mathlib.Core.Path.{_≡_, sym, subst}
 use native.Mathlib.Omega.{arith}
 use denote.Ref.{now}
 use borrow.Author.Needs.{needs}
-use Rattle.lists.specs.Marks.{Marks}
+use Rattle.lists.specs.Marks.{Marks, Listed}
 use Rattle.automaton.specs.Form.{view}
-use Rattle.lists.specs.Lists.{Listed}
 use Rattle.trellis_members.specs.Members.{Members}
 use Rattle.trellis_steps.specs.Steps.{ColumnReady, KeptOf}
 use Rattle.trellis_column.specs.BlanksLaws.{blanks-inside}

@@ -1,9 +1,10 @@
-//! The decoders agree: all three on small forms with many ties, peer and Decode also on what is turned away.
-use crate::forms::random_arcs;
+//! The decoders agree: all three on small forms with many ties, peer and Decode also on what is turned away. And Decode is fast.
+use crate::forms::{random_arcs, Form};
 use crate::generator::Random;
 use crate::matrices::Kind;
 use crate::peer;
 use crate::plain::plain;
+use crate::race::Sheet;
 use kavurehy::{work_words, Matrix, Reading, Refusal};
 use model::matrix::Line;
 
@@ -115,4 +116,21 @@ fn refusals_agree() {
         seen[answer.reading.map_or_else(Refusal::number, |_| 0) as usize] += 1;
     }
     assert!(seen[11..=15].iter().all(|&count| count > 50), "{seen:?}");
+}
+
+/// No contract says how fast Decode is, so a slow search would be noticed here: the request's factor against the peer, and ratios
+/// to the plain loop far above those in docs/FIGURES.md, so that a busy machine does not matter.
+#[test]
+fn decode_is_fast() {
+    for (name, bound) in [("star", 0.2), ("six", 0.45), ("random", 0.65)] {
+        let form = Form::named(name).expect("a form of the benchmark");
+        let sheet = Sheet::new(&form.words, Kind::Network, 255, 4);
+        let [plain, peer, decode] = sheet.times(15).map(|time| time.as_secs_f64());
+        assert!(
+            decode < bound * plain,
+            "{name}: {} of the plain loop",
+            decode / plain
+        );
+        assert!(decode < 2.0 * peer, "{name}: {} of the peer", decode / peer);
+    }
 }
