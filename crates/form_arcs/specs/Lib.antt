@@ -1,8 +1,10 @@
 pub mod Equal
 pub mod EqualLaws
+pub mod EqualLoops
 pub mod Firsts
 pub mod FirstsLoops
 pub mod Targets
 pub mod TargetsLaws
+pub mod TargetsLoops
 pub mod LookedUp
 pub mod Examples

@@ -1,17 +1,15 @@
--- Laws: how many words a valid form has at most; its targets as bytes, one iteration of the loop over words at a time.
+-- Laws: how many words a valid form has at most; so its targets fit into the list.
 use Prim.Native.Nat.{ℕ, zero, suc, _+_, _*_, _<_, _≤_}
-use mathlib.Core.Path.{_≡_, sym, subst, _∙_}
+use mathlib.Core.Path.{_≡_}
 use mathlib.Core.Logic.{_⊎_, inl, inr}
 use mathlib.Core.List.{List}
 use native.Mathlib.Omega.{arith}
-use lib.ListN.{length, getD, set}
-use lib.Seq.{getD-set-same, getD-set-other}
-use Rattle.lists.specs.OrderLaws.{lt-or-le, eq-or-ne}
-use Rattle.lists.specs.OutsideLaws.{outside-none, outside-set, outside-then, outside-wider}
+use lib.ListN.{length, getD}
+use Rattle.lists.specs.OrderLaws.{lt-or-le}
 use Rattle.automaton.specs.Form.{lettersOf, source, target}
 use Rattle.automaton.specs.WordsLaws.{Arc}
 use Rattle.automaton.specs.Valid.{Valid}
-use Rattle.form_arcs.specs.Targets.{Targets, TargetsBelow, TargetsListed}
+use Rattle.form_arcs.specs.Targets.{Targets, TargetsListed}
 
 -- the place of an arc among all pairs of 127 letters, from 128 on
 abbrev pairOf : ℕ → ℕ
@@ -56,22 +54,6 @@ valid-short f valid = by (lt-or-le (lettersOf f + 1 + 16129) (length f))
         let t = a .target-high in
         absurd (omega arith)
     by (inr h) = let few = valid .head .letters-high in omega arith
-
-module _ (f before : List ℕ) where
-  pub targets-none : TargetsBelow f before before 0
-  targets-none = record { is = λ k h. absurd (omega arith); outside = outside-none 0 0 before }
-
-  pub targets-listed :
-      (ts : List ℕ) (n v : ℕ) → n < length ts → TargetsBelow f before ts n → v ≡ target (getD f n 0) → TargetsBelow f before (set ts n v) (n + 1)
-  targets-listed ts n v h b e =
-      record {
-        is = λ k m. is k m (eq-or-ne k n);
-        outside = outside-then (outside-wider 0 (n + 1) (omega arith) (omega arith) (b .outside)) (outside-set 0 (n + 1) ts n v (omega arith) (omega arith));
-      }
-    where
-      is : (k : ℕ) → k < n + 1 → (k ≡ n) ⊎ (k ≡ n → ⊥) → getD (set ts n v) k 0 ≡ target (getD f k 0)
-      is k m (inl q) = subst (λ i. getD (set ts n v) i 0 ≡ target (getD f i 0)) (sym q) (getD-set-same ts n v 0 h ∙ e)
-      is k m (inr d) = getD-set-other ts n k v 0 d ∙ b .is k (omega arith)
 
 -- targets that were written are in the list
 pub targets-there : {f before after : List ℕ} → Valid f → length before ≡ 16384 → TargetsListed f before after → Targets f after

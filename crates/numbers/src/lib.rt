@@ -41,16 +41,6 @@ pub fn one_if(b: bool) -> usize
     if b { 1 } else { 0 }
 }
 
-// The lesser of two 32-bit words.
-pub fn least(a: u32, b: u32) -> u32
-    ensures { λ r. ⌜ r ≡ min a b ⌝ }
-{
-    if b < a {
-        return b;
-    }
-    a
-}
-
 // The lesser of two sizes.
 pub fn least_size(x: usize, y: usize) -> usize
     ensures { λ r. ⌜ r ≡ min x y ⌝ }

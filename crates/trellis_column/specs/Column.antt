@@ -7,9 +7,8 @@ use mathlib.Core.List.{List}
 use lib.ListN.{length, getD}
 use Rattle.lists.specs.Marks.{Has}
 use Rattle.automaton.specs.Automaton.{Automaton}
-use Rattle.trellis.specs.Impossible.{plus}
 use Rattle.trellis.specs.Reached.{entering}
-use Rattle.trellis_steps.specs.Steps.{KeptOf}
+use Rattle.trellis_steps.specs.Steps.{AddUp, KeptOf}
 
 -- the value that means 'no label'
 abbrev pub NONE : ℕ
@@ -33,7 +32,7 @@ BlankAt row left list k u = BlankOf row left (getD list k 0) u
 
 -- the blanks after the states of the set that lie on a cheapest path
 abbrev pub Blanks : (column row : List ℕ) → ℕ → (ℕ → Type 0) → ℕ → Type 0
-Blanks column row v In u = (s : ℕ) × In s × (u ≡ blankAfter s) × (plus (getD column 0 0) (getD row u 0) ≡ v)
+Blanks column row v In u = (s : ℕ) × In s × (u ≡ blankAfter s) × AddUp column row v 0 u
 
 -- the blanks after each state of the set are states, and have a cost to go
 abbrev pub BlanksInside : List ℕ → (ℕ → Type 0) → Type 0

@@ -22,7 +22,7 @@ ghost use Rattle.trellis_steps.specs.Steps.{ColumnReady, Within};
 ghost use Rattle.trellis_column.specs.Column.{NONE as none, blankAfter, BlankOf, Blanks, BlanksInside};
 ghost use Rattle.trellis_column.specs.Column.{LowEnough, LabelIn, OfLabel, Picks, SomeKept, Taken};
 
-// Where the trace is: the label of the last column, what is left to pay, and how many states share this cost to go. The states are in
+// Where the trace is: the label of the column just traced, what is left to pay, and how many states share this cost to go. The states are in
 // lent memory: a set, and the list of its members.
 pub struct Front {
     pub label: u8,

@@ -1,5 +1,5 @@
--- The keys of a column, one iteration of the loop over letters at a time; and that their low bytes are the labels.
-use Prim.Native.Nat.{ℕ, _+_, _%_, _<_, _≤_}
+-- The keys of a column, one iteration of the loop over letters at a time.
+use Prim.Native.Nat.{ℕ, _+_, _<_, _≤_}
 use mathlib.Core.Path.{_≡_, sym, subst, _∙_}
 use mathlib.Core.Logic.{_⊎_, inl, inr}
 use mathlib.Core.List.{List}
@@ -8,9 +8,7 @@ use lib.ListN.{length, getD, set}
 use lib.Seq.{getD-set-same, getD-set-other}
 use Rattle.lists.specs.OrderLaws.{eq-or-ne}
 use Rattle.lists.specs.OutsideLaws.{outside-none, outside-set, outside-then, outside-wider}
-use Rattle.automaton.specs.Form.{lettersOf, labelOf}
-use Rattle.automaton.specs.Valid.{Valid}
-use Rattle.trellis_keys.specs.Keys.{keyFor, KeysBelow, KeysFilled, Keys}
+use Rattle.trellis_keys.specs.Keys.{keyFor, KeysBelow}
 
 module _ (f column work : List ℕ) (next : ℕ) (before : List ℕ) where
   pub keys-none : KeysBelow f column work next before before 1
@@ -28,12 +26,3 @@ module _ (f column work : List ℕ) (next : ℕ) (before : List ℕ) where
       is : (j : ℕ) → 1 ≤ j → j < n + 1 → (j ≡ n) ⊎ (j ≡ n → ⊥) → getD (set ks n k) j 0 ≡ keyFor f column work next j
       is j l m (inl q) = subst (λ i. getD (set ks n k) i 0 ≡ keyFor f column work next i) (sym q) (getD-set-same ks n k 0 h ∙ e)
       is j l m (inr d) = getD-set-other ks n j k 0 d ∙ b .is j l (omega arith)
-
--- the low bytes of keys that were written are the labels
-pub keys-labels :
-    {f column work : List ℕ} {next : ℕ} {before after : List ℕ} → Valid f → length before ≡ 128 → KeysFilled f column work next before after → Keys f after
-keys-labels {f} {column} {work} {next} {before} {after} valid size filled =
-    record {
-      size = filled .outside .size ∙ size;
-      label = λ j l h. let e = filled .is j l (omega arith) in let x = valid .letter j l h .high in let k = valid .head .alphabet-high in omega arith;
-    }

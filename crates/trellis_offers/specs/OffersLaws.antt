@@ -1,16 +1,16 @@
--- Laws: the targets from a letter's start up to the next are those of its arcs; equal arcs have an equal least key; a least key of another label is the
--- least of the other labels; its price is the least price.
-use Prim.Native.Nat.{ℕ, _+_, _-_, _*_, _/_, _%_, _<_, _≤_, min}
+-- Laws: the targets from a letter's start up to the next are those of its arcs; equal arcs have an equal least key; a least key of another
+-- label is the least of the other labels; its price is the least price.
+use Prim.Native.Nat.{ℕ, _+_, _/_, _%_, _<_, _≤_, min}
 use mathlib.Core.Path.{_≡_, refl, sym, ap, _∙_}
 use mathlib.Core.Bool.{true}
 use mathlib.Core.List.{List}
 use native.Mathlib.Omega.{arith}
-use lib.ListN.{length, getD}
+use lib.ListN.{getD}
 use Rattle.lists.specs.LeastLaws.{least-same}
 use Rattle.lists.specs.Least.{Least, Among}
 use Rattle.automaton.specs.Form.{lettersOf, labelOf, followOf, target, view}
 use Rattle.automaton.specs.Valid.{Valid}
-use Rattle.automaton.specs.ValidLaws.{ArcAt, first-letter, follow-arc, arc-follow, follow-target}
+use Rattle.automaton.specs.ValidLaws.{first-letter, follow-arc, arc-follow, follow-target}
 use Rattle.form_starts.specs.Starts.{StartsAt}
 use Rattle.form_starts.specs.Loops.{range-source, range-rises, source-range}
 use Rattle.form_arcs.specs.Firsts.{Firsts}

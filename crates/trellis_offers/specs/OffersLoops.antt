@@ -1,13 +1,11 @@
--- The least key of the words from one place up to another, one iteration of a loop at a time.
-use Prim.Native.Nat.{ℕ, _+_, _%_, _<_, _≤_, min}
-use mathlib.Core.Path.{_≡_, refl, sym, ap, subst, _∙_}
+-- The least key of the letters that a list has from one place up to another, one iteration of a loop at a time.
+use Prim.Native.Nat.{ℕ, _+_, _%_, _≤_, min}
+use mathlib.Core.Path.{_≡_, refl, subst}
 use mathlib.Core.Bool.{Bool, true, false, cond}
-use mathlib.Core.Logic.{_⊎_, inl, inr}
 use mathlib.Core.List.{List}
 use native.Mathlib.Omega.{arith}
 use lib.Dec.{eqb}
 use borrow.Author.Tests.{eqb-true, eqb-false}
-use Rattle.lists.specs.OrderLaws.{lt-or-le}
 use Rattle.lists.specs.LeastLaws.{least-none, least-held, least-more}
 use Rattle.lists.specs.Least.{Least, Among}
 use Rattle.trellis_offers.specs.Offers.{FAR, keyAt, KeyAt, OtherAt, unless-own}
@@ -39,7 +37,7 @@ module _ (list ks : List ℕ) (b : ℕ) where
           subst (Least FAR (Among b (k + 1) Q)) held
           (least-more b Q low l (least-held (Q k) (keyAt list ks k) (λ n q. (eqb-false (keyAt list ks k % 256) own e, q)) (λ n o. o .1)))
 
--- Two more letters, if one more at a time lowers the least by what g says; and the last one.
+-- Two more letters, if one more at a time lowers the least to its minimum with g.
 module _ (b : ℕ) (Q : ℕ → ℕ → Type 0) (g : ℕ → ℕ) (more : (k m : ℕ) → b ≤ k → Least FAR (Among b k Q) m → Least FAR (Among b (k + 1) Q) (min m (g k))) where
   pub pair-more : (k m : ℕ) → b ≤ k → Least FAR (Among b k Q) m → Least FAR (Among b (k + 2) Q) (min m (min (g k) (g (k + 1))))
   pair-more k m low l =

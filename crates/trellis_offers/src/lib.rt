@@ -33,8 +33,8 @@ fn key_at(list: &[u8], keys: &[usize], k: usize) -> usize
     keys[wide(list[k])]
 }
 
-// The least key of the letters from place b of the list up to e, or FAR. It goes by pairs, since then each key waits for half as many
-// comparisons, and the compiler makes no jumps of them.
+// The least key of the letters from place b of the list up to e, or FAR. It goes by pairs: then the compiler makes conditional moves of the
+// comparisons, not jumps (docs/DECISIONS.md).
 fn least_key(list: &[u8], keys: &[usize], b: usize, e: usize) -> usize
     requires { ⌜ Looked (now list) (now keys) b e ⌝ }
     ensures { λ r. ⌜ Least far (Among b e (KeyAt (old list) (old keys))) r ⌝ }

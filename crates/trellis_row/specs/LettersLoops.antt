@@ -9,9 +9,8 @@ use lib.ListN.{length, getD, set, length-set}
 use lib.Seq.{getD-set-same, getD-set-other}
 use Rattle.lists.specs.OrderLaws.{eq-or-ne}
 use Rattle.lists.specs.OutsideLaws.{outside-none, outside-set, outside-then, outside-wider, front-at, beyond-at}
-use Rattle.lists.specs.Stored.{Outside}
 use Rattle.automaton.specs.Form.{lettersOf, labelOf}
-use Rattle.trellis_offers.specs.Offers.{keyOf, Known, LeastKey, LeastOther}
+use Rattle.trellis_offers.specs.Offers.{keyOf, LeastKey, LeastOther}
 use Rattle.trellis_row.specs.Letters.{states, LetterReady, LetterCells, LetterFilled, LettersReady, CellsAt, LettersFilled}
 
 pub letter-filled :
@@ -40,7 +39,7 @@ letter-filled f ks blank work p q i least other low room all others on blanks re
     blanks-at : getD (set (set work (p - 1) on) p blanks) p 0 ≡ blanks
     blanks-at = getD-set-same (set work (p - 1) on) p blanks 0 (simp length-set room)
 
--- what a letter's states are computed from, where the rows are
+-- what the states of letter i are computed from, if its blanks are at here + 2i
 pub letter-ready :
     {f ts s : List ℕ} {same : List Bool} {ks work : List ℕ} {here stride first : ℕ} → LettersReady f ts s same ks work here stride first
     → (after : List ℕ) (p i least : ℕ) → length after ≡ length work → p ≡ here + 2 * i → 1 ≤ i → i ≤ lettersOf f → LeastKey f ks (i - 1) least

@@ -1,4 +1,4 @@
--- A row of the table, from the row of the next column; the places of the two rows, `here` and `next`, are separate numbers.
+-- A row of the table, at `here`, from the row of the next column, which is `stride` further on; what is promised calls that place `next`.
 use Prim.Native.Nat.{ℕ, _+_, _*_, _-_, _<_, _≤_, min}
 use mathlib.Core.Path.{_≡_}
 use mathlib.Core.Bool.{Bool}

@@ -59,7 +59,7 @@ module _ {f : List ℕ} (valid : Valid f) {column before after : List ℕ} {here
   pub row-next : Row (view f) M after here t (n + 1)
   row-next s h = at-state s ((s + 1) / 2) h (at-letter s)
 
--- the lesser of two keys, and a price: if one key is at most FAR, the others may as well be held at TOP
+-- the lesser of two keys, and a price: if one key is at most FAR, holding the other and the price at TOP changes nothing
 least-of-three : (k o r : ℕ) → o ≤ FAR → min (min k o / 256) r ≡ min (min (min TOP (k / 256)) (min TOP r)) (o / 256)
 least-of-three k o r h =
     let divided : min k o / 256 ≡ min (k / 256) (o / 256) = omega arith in

@@ -76,7 +76,7 @@ fn fill_columns(
     }
 }
 
-// The same, with what is looked up once in the form.
+// Looks up in the form what all rows need, and writes them by `fill_columns`.
 fn fill_rows(
     form: &[u32],
     costs: &[u32],

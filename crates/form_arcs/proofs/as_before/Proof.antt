@@ -1,9 +1,7 @@
 -- `form_arcs::as_before` meets its contract: equally many arcs, to the same targets.
-use Prim.Native.Nat.{ℕ, _+_, _-_, _<_, _≤_}
+use Prim.Native.Nat.{ℕ}
 use mathlib.Core.Path.{_≡_}
-use mathlib.Core.List.{List}
 use native.Mathlib.Omega.{arith}
-use lib.ListN.{length, getD}
 use denote.Ref.{now}
 use Rattle.form_arcs.specs.EqualLaws.{starts-rise}
 use borrow.Author.Needs.{needs}

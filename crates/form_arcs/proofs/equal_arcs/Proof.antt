@@ -1,15 +1,13 @@
 -- `form_arcs::equal_arcs` meets its contract: the iterations so far have marked their letters.
 use Prim.Native.Nat.{_+_, _-_, _≤_}
-use mathlib.Core.Path.{_≡_}
 use mathlib.Core.Bool.{false}
 use native.Mathlib.Omega.{arith}
 use lib.ListN.{replicate}
 use denote.Ref.{now}
 use Rattle.lists.specs.MarksLaws.{iterations-none, iterations-more}
 use Rattle.lists.specs.Marks.{Marks, Iterations}
-use Rattle.automaton.specs.Form.{lettersOf}
 use Rattle.form_arcs.specs.Equal.{SharesAt}
-use Rattle.form_arcs.specs.EqualLaws.{equal-all}
+use Rattle.form_arcs.specs.EqualLoops.{equal-all}
 use Rattle.form_arcs.proofs.equal_arcs.Statement.{statement}
 use Rattle.form_arcs.proofs.equal_arcs.Tie as tie
 

@@ -1,9 +1,7 @@
 -- `form_arcs::list_first` meets its contract.
-use mathlib.Core.Path.{_≡_, sym, ap, subst, _∙_}
+use mathlib.Core.Path.{sym, _∙_}
 use native.Mathlib.Omega.{arith}
-use lib.ListN.{set}
 use denote.Ref.{now}
-use Rattle.form_arcs.specs.Firsts.{FirstsBelow}
 use Rattle.form_arcs.specs.FirstsLoops.{firsts-not, firsts-more}
 use borrow.Author.Needs.{needs}
 use Rattle.form_arcs.proofs.list_first.Statement.{statement}

@@ -1,11 +1,12 @@
 -- `form_arcs::list_targets` meets its contract: the targets of the words so far are written.
-use Prim.Native.Nat.{_+_, _-_, _<_, _≤_}
+use Prim.Native.Nat.{_-_, _≤_}
 use mathlib.Core.Path.{_≡_, subst, _∙_}
 use native.Mathlib.Omega.{arith}
-use lib.ListN.{length, getD}
+use lib.ListN.{length}
 use denote.Ref.{now}
 use Rattle.form_arcs.specs.Targets.{TargetsBelow}
-use Rattle.form_arcs.specs.TargetsLaws.{valid-short, targets-none, targets-listed}
+use Rattle.form_arcs.specs.TargetsLaws.{valid-short}
+use Rattle.form_arcs.specs.TargetsLoops.{targets-none, targets-listed}
 use Rattle.form_arcs.proofs.list_targets.Statement.{statement}
 use Rattle.form_arcs.proofs.list_targets.Tie as tie
 

@@ -1,9 +1,8 @@
 -- `form_arcs::mark_equal` meets its contract.
-use mathlib.Core.Path.{sym, _∙_}
 use native.Mathlib.Omega.{arith}
 use denote.Ref.{now}
 use Rattle.lists.specs.OrderLaws.{not-both}
-use Rattle.form_arcs.specs.EqualLaws.{equal-marked, equal-not}
+use Rattle.form_arcs.specs.EqualLoops.{equal-marked, equal-not}
 use borrow.Author.Needs.{needs}
 use Rattle.form_arcs.proofs.mark_equal.Statement.{statement}
 use Rattle.form_arcs.proofs.mark_equal.Tie as tie

@@ -4,7 +4,7 @@ use mathlib.Core.Path.{_≡_, refl, sym, _∙_}
 use native.Mathlib.Omega.{arith}
 use denote.Ref.{now}
 use Rattle.form_arcs.specs.Equal.{SameTargets}
-use Rattle.form_arcs.specs.EqualLaws.{targets-more}
+use Rattle.form_arcs.specs.EqualLoops.{targets-more}
 use Rattle.form_arcs.proofs.same_targets.Statement.{statement}
 use Rattle.form_arcs.proofs.same_targets.Tie as tie
 

@@ -1,6 +1,6 @@
 -- `trellis_keys::fill_keys` meets its contract: the keys of the letters so far are written.
 use Prim.Native.Nat.{_+_, _-_, _≤_}
-use mathlib.Core.Path.{_≡_, subst, _∙_}
+use mathlib.Core.Path.{_≡_, subst}
 use native.Mathlib.Omega.{arith}
 use denote.Ref.{now}
 use Rattle.automaton.specs.Form.{lettersOf}

@@ -1,10 +1,9 @@
 -- `trellis_keys::key` meets its contract.
 use Prim.Native.Nat.{_+_, _*_, _-_}
-use mathlib.Core.Path.{_≡_, ap, ap₂, _∙_}
+use mathlib.Core.Path.{ap, ap₂, _∙_}
 use native.Mathlib.Omega.{arith}
 use lib.ListN.{getD}
 use denote.Ref.{now}
-use Rattle.automaton.specs.Form.{labelOf}
 use borrow.Author.Needs.{needs}
 use Rattle.trellis_keys.proofs.key.Statement.{statement}
 use Rattle.trellis_keys.proofs.key.Tie as tie

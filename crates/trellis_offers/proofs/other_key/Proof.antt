@@ -1,8 +1,6 @@
 -- `trellis_offers::other_key` meets its contract: the letter's own key has its label.
-use Prim.Native.Nat.{_%_}
 use mathlib.Core.Path.{_≡_, sym, subst, _∙_}
 use native.Mathlib.Omega.{arith}
-use lib.ListN.{getD}
 use denote.Ref.{now}
 use Rattle.automaton.specs.Form.{labelOf}
 use Rattle.trellis_offers.specs.Offers.{LeastOther}

@@ -1,6 +1,6 @@
 -- `trellis_row::fill_letter` meets its contract.
-use Prim.Native.Nat.{_+_, _-_, _/_, min}
-use mathlib.Core.Path.{_≡_, ap, ap₂, _∙_}
+use Prim.Native.Nat.{_+_, _/_, min}
+use mathlib.Core.Path.{ap, _∙_}
 use native.Mathlib.Omega.{arith}
 use lib.ListN.{length-set}
 use denote.Ref.{now}

@@ -1,8 +1,7 @@
 -- `trellis_row::fill_letters` meets its contract: the states of the letters so far are written.
 use Prim.Native.Nat.{_+_, _*_, _-_, _≤_}
-use mathlib.Core.Path.{_≡_, subst, sym, _∙_}
+use mathlib.Core.Path.{_≡_, subst}
 use native.Mathlib.Omega.{arith}
-use lib.ListN.{length}
 use denote.Ref.{now}
 use Rattle.automaton.specs.Form.{lettersOf}
 use Rattle.trellis_offers.specs.Offers.{LeastKey}

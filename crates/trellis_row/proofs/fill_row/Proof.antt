@@ -1,11 +1,9 @@
 -- `trellis_row::fill_row` meets its contract.
-use Prim.Native.Nat.{_+_, _*_, _-_, _/_, _≤_, min}
-use mathlib.Core.Path.{_≡_, ap, subst, sym, _∙_}
+use Prim.Native.Nat.{_+_, _/_, min}
+use mathlib.Core.Path.{ap, _∙_}
 use native.Mathlib.Omega.{arith}
-use lib.ListN.{length, getD}
 use denote.Ref.{now}
-use Rattle.automaton.specs.Form.{lettersOf}
-use Rattle.trellis_keys.specs.KeysLoops.{keys-labels}
+use Rattle.trellis_keys.specs.KeysLaws.{keys-labels}
 use Rattle.trellis_row.specs.RowsLaws.{row-filled}
 use borrow.Author.Needs.{needs}
 use Rattle.trellis_row.proofs.fill_row.Statement.{statement}

@@ -1,7 +1,5 @@
 -- `trellis_table::fill_rows` meets its contract.
-use mathlib.Core.Path.{_≡_, refl, sym, _∙_}
-use native.Mathlib.Omega.{arith}
-use denote.Ref.{now}
+use mathlib.Core.Path.{refl, sym, _∙_}
 use Rattle.form_arcs.specs.TargetsLaws.{targets-there}
 use borrow.Author.Needs.{needs}
 use Rattle.trellis_table.proofs.fill_rows.Statement.{statement}

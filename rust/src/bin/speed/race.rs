@@ -79,7 +79,7 @@ pub struct Sheet<'a> {
 }
 
 impl Sheet<'_> {
-    /// So many lines of a kind, the same at each call.
+    /// This number of lines of a kind, the same at each call.
     pub fn new(form: &[u32], kind: Kind, columns: usize, lines: usize) -> Sheet<'_> {
         let mut random = Random(7);
         let width = (form[0] >> 16 & 0xff) as usize + 1;

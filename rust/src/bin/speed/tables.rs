@@ -1,4 +1,4 @@
-//! The tables, as text that can be pasted in docs/FIGURES.md.
+//! The tables, from which those in docs/FIGURES.md are made.
 use crate::forms::{compile, letters, random_arcs, Form, CHARACTERS, LETTERS};
 use crate::generator::Random;
 use crate::matrices::Kind;

@@ -51,7 +51,7 @@ fn small_form(random: &mut Random, letters: usize, characters: usize) -> Vec<u32
     form
 }
 
-/// Compares all three on so many forms with each kind of matrix. Returns how often there was a reading and how often none.
+/// Compares all three on this number of forms with each kind of matrix. Returns how often there was a reading and how often none.
 fn agree<const STATES: usize, const WIDTH: usize>(random: &mut Random, forms: usize) -> [usize; 2] {
     let mut seen = [0; 2];
     for n in 0..4 * forms {

@@ -1,6 +1,6 @@
-//! What is worked out of a valid form once a call.
+//! What is computed from a valid form once a call.
 
-/// Lists by letters are by their numbers, from 1 on; at 0 is the start.
+/// Lists by letter have letter i at index i; index 0 is the start.
 pub struct Automaton<'a> {
     /// L.
     pub count: usize,

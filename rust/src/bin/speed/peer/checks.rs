@@ -21,12 +21,12 @@ pub fn is_form(list: &[u32]) -> bool {
     all(words, |w| is_letter(w, characters)) && all(arcs, |w| is_arc(w, letters)) && ordered
 }
 
-/// Is the word a letter over so many characters?
+/// Is the word a letter over this number of characters?
 fn is_letter(word: u32, characters: u32) -> bool {
     word & !0x3ff == 2 << 28 && (1..=characters).contains(&(word & 0xff))
 }
 
-/// Is the word an arc between two of so many letters?
+/// Is the word an arc between two of this number of letters?
 fn is_arc(word: u32, letters: u32) -> bool {
     let numbers = 1..=letters;
     word & !0xffff == 3 << 28

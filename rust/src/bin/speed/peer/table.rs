@@ -6,7 +6,7 @@ use kavurehy::Matrix;
 /// No key of a possible price is above this; the least key of a list is at most this.
 const FAR: usize = 256 * TOP as usize + 255;
 
-/// What is worked out of a column, in memory that all columns share; 256 of each, so that a byte needs no check.
+/// What is computed from a column, in memory that all columns share; 256 of each, so that a byte needs no check.
 struct Column {
     /// The costs, by label.
     costs: [u32; 256],

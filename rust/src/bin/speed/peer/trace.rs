@@ -17,7 +17,7 @@ impl List {
         }
     }
 
-    /// Adds the state if `fits` holds. Without a jump: whether it does is often hard to foresee.
+    /// Adds the state if `fits` holds. There is no jump, since processors often predict it wrongly.
     #[inline(always)]
     fn push_if(&mut self, fits: bool, s: u8) {
         self.states[usize::from(self.count)] = s;
