@@ -97,7 +97,7 @@ pub fn list_firsts(form: &[u32], list: &mut [u8; 128]) -> usize
     n
 }
 
-// Memory for the targets of a form: 16,384 bytes, since no valid form has more words.
+// Memory for the targets of a form, which has at most 16,257 words. What it holds is not promised.
 pub fn no_targets() -> [u8; 16384]
     ensures { λ r. ⌜ length r ≡ 16384 ⌝ }
 {

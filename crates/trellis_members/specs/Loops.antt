@@ -9,8 +9,13 @@ use lib.ListN.{length, getD, set as put, length-set}
 use lib.Seq.{getD-set-same, getD-set-other}
 use Rattle.lists.specs.OrderLaws.{eq-or-ne}
 use Rattle.lists.specs.Marks.{Has, Listed}
-use Rattle.trellis_members.specs.Members.{Members, TakenOut}
+use Rattle.trellis_members.specs.Members.{Members}
 use Rattle.trellis_members.specs.MembersLaws.{members-empty}
+
+-- the first k elements of the list were taken out of the set
+pub record TakenOut (list : List ℕ) (k : ℕ) (before after : List Bool) : Type 0 where
+  pub size : length after ≡ length before
+  pub left : (u : ℕ) → Has after u → Has before u × (Listed list k u → ⊥)
 
 pub taken-none : (list : List ℕ) (s : List Bool) → TakenOut list 0 s s
 taken-none list s = record { size = refl; left = λ u h. (h, λ l. let z = l .1 in omega arith) }

@@ -27,8 +27,3 @@ Just u k = k ≡ u
 -- the same, if it fits; else no place
 abbrev pub JustIf : (fits : Bool) → (u k : ℕ) → Type 0
 JustIf fits u k = (fits ≡ true) × Just u k
-
--- the first k elements of the list were taken out of the set
-pub record TakenOut (list : List ℕ) (k : ℕ) (before after : List Bool) : Type 0 where
-  pub size : length after ≡ length before
-  pub left : (u : ℕ) → Has after u → Has before u × (Listed list k u → ⊥)

@@ -36,7 +36,7 @@ traced-front {M = M} {before = before} t =
     ap (take (M .count)) (t .memory) ∙ take-at (t .path) (drop (length (t .path)) before) (M .count) (t .best .qualifies .long)
 
 -- before column t: the labels that are written, the states that they lead to, and what is left to pay
-pub record Standing (f : List ℕ) (M : Matrix) (before : List ℕ) (t : ℕ) (set : List Bool) (list : List ℕ) (n left : ℕ)
+pub record Tracked (f : List ℕ) (M : Matrix) (before : List ℕ) (t : ℕ) (set : List Bool) (list : List ℕ) (n left : ℕ)
     (after : List ℕ) : Type 0 where
   pub so-far : t ≤ M .count
   pub done : List ℕ
@@ -46,10 +46,10 @@ pub record Standing (f : List ℕ) (M : Matrix) (before : List ℕ) (t : ℕ) (s
   pub within : Within f (Has set)
   pub tracing : Tracing (extended (view f)) M 0 (M .count) t (M .count - t) (Has set) left done
 
-pub standing-length :
+pub tracked-length :
     {f : List ℕ} {M : Matrix} {before list after : List ℕ} {set : List Bool} {t n left : ℕ} → M .count ≤ length before
-    → Standing f M before t set list n left after → length after ≡ length before
-standing-length {before = before} h s =
+    → Tracked f M before t set list n left after → length after ≡ length before
+tracked-length {before = before} h s =
     let l = s .long in
     let m = s .so-far in
     ap length (s .memory) ∙ length-written (s .done) before (omega arith)
@@ -63,10 +63,10 @@ pub record PartsOf (f : List ℕ) (M : Matrix) (work : List ℕ) (base stride t 
 
 module _ {f : List ℕ} {M : Matrix} {work : List ℕ} {base stride : ℕ} (ready : Ready f M work base stride) where
   -- no label is written yet
-  pub standing-none :
+  pub tracked-none :
       (before : List ℕ) {empty set : List Bool} {none list : List ℕ} {n : ℕ} → Members empty none 0 → Marks (JustIf true 0) empty set
-      → Members set list n → Standing f M before 0 set list n (getD work base 0) before
-  standing-none before {set = set} nothing start members =
+      → Members set list n → Tracked f M before 0 set list n (getD work base 0) before
+  tracked-none before {set = set} nothing start members =
       let only : (s : ℕ) → Has set s → s ≡ 0 = λ s h. only-marked (JustIf true 0) nothing start s h .1 in
       let togo : CostToGo (extended (view f)) M 0 (M .count) 0 (getD work (base + 0 * stride + 0) 0) = ready .table 0 (M .count) (omega arith) 0 (omega arith) in
       let at : base + 0 * stride + 0 ≡ base = omega arith in
@@ -85,10 +85,10 @@ module _ {f : List ℕ} {M : Matrix} {work : List ℕ} {base stride : ℕ} (read
       }
 
   -- every column is done
-  pub standing-all :
-      {before list after : List ℕ} {set : List Bool} {t n left : ℕ} → M .count ≤ t → Standing f M before t set list n left after
+  pub tracked-all :
+      {before list after : List ℕ} {set : List Bool} {t n left : ℕ} → M .count ≤ t → Tracked f M before t set list n left after
       → Traced (view f) M before after
-  standing-all {set = set} {t = t} {left = left} h s =
+  tracked-all {set = set} {t = t} {left = left} h s =
       let l = s .so-far in
       let none : M .count - t ≡ 0 = omega arith in
       record {
@@ -122,7 +122,7 @@ module _ {f : List ℕ} {M : Matrix} {work : List ℕ} {base stride : ℕ} (read
         }
 
     module _ {column row before list after : List ℕ} {set : List Bool} {n left : ℕ} (parts : PartsOf f M work base stride t column row)
-        (stands : Standing f M before t set list n left after) where
+        (tracked : Tracked f M before t set list n left after) where
       abbrev next : ℕ → ℕ
       next u = getD work (base + (t + 1) * stride + u) 0
 
@@ -134,7 +134,7 @@ module _ {f : List ℕ} {M : Matrix} {work : List ℕ} {base stride : ℕ} (read
           (u : ℕ) → Reached (view f) (Has set) u
           → plus (getD column (entering (view f) u) 0) (getD row u 0) ≡ plus (cost M t (entering (view f) u)) (next u)
       keeps-same u r =
-          let h = step-within (valid-proper f (ready .valid)) (r .0) (entering (view f) u) u (r .2) (stands .within (r .0) (r .1)) in
+          let h = step-within (valid-proper f (ready .valid)) (r .0) (entering (view f) u) u (r .2) (tracked .within (r .0) (r .1)) in
           ap₂ plus (parts .same-column (entering (view f) u) (entering-high f (ready .valid) u h)) (parts .same-row u h)
 
       there-kept : (u : ℕ) → KeptOf (view f) column row left (Has set) u → Kept (view f) M t next (Has set) left u
@@ -143,19 +143,19 @@ module _ {f : List ℕ} {M : Matrix} {work : List ℕ} {base stride : ℕ} (read
       back-kept : (u : ℕ) → Kept (view f) M t next (Has set) left u → KeptOf (view f) column row left (Has set) u
       back-kept u k = (k .0, keeps-same u (k .0) ∙ k .1)
 
-      tracing-now : Tracing (extended (view f)) M 0 (M .count) t (rest + 1) (Has set) left (stands .done)
+      tracing-now : Tracing (extended (view f)) M 0 (M .count) t (rest + 1) (Has set) left (tracked .done)
       tracing-now =
-          subst (λ n. Tracing (extended (view f)) M 0 (M .count) t n (Has set) left (stands .done)) (omega arith) (stands .tracing)
+          subst (λ n. Tracing (extended (view f)) M 0 (M .count) t n (Has set) left (tracked .done)) (omega arith) (tracked .tracing)
 
       table-next : (s : ℕ) → s ≤ 2 * lettersOf f → CostToGo (extended (view f)) M (t + 1) rest s (next s)
       table-next = ready .table (t + 1) (M .count - (t + 1)) (omega arith)
 
-      pub standing-sized : ColumnReady f column row left
-      standing-sized = record { valid = ready .valid; wide = parts .wide; long = parts .long; below = stands .tracing .shared .below }
+      pub tracked-sized : ColumnReady f column row left
+      tracked-sized = record { valid = ready .valid; wide = parts .wide; long = parts .long; below = tracked .tracing .shared .below }
 
-      pub standing-kept : SomeKept (view f) column row left (Has set)
-      standing-kept =
-          let k = some-kept (valid-proper f (ready .valid)) M t left next (Has set) (stands .within) rest table-next (tracing-now .shared) in
+      pub tracked-kept : SomeKept (view f) column row left (Has set)
+      tracked-kept =
+          let k = some-kept (valid-proper f (ready .valid)) M t left next (Has set) (tracked .within) rest table-next (tracing-now .shared) in
           (k .0, back-kept (k .0) (k .2))
 
       -- one more column
@@ -172,8 +172,8 @@ module _ {f : List ℕ} {M : Matrix} {work : List ℕ} {base stride : ℕ} (read
               all = λ u h k e. taken .all u (back-kept u k) e;
             }
 
-        pub standing-more : M .count ≤ length before → Standing f M before (t + 1) set′ list′ n′ left′ (put after t label)
-        standing-more room =
+        pub tracked-more : M .count ≤ length before → Tracked f M before (t + 1) set′ list′ n′ left′ (put after t label)
+        tracked-more room =
             let proper = valid-proper f (ready .valid) in
             let G = extended (view f) in
             let o = taken .one in
@@ -181,23 +181,23 @@ module _ {f : List ℕ} {M : Matrix} {work : List ℕ} {base stride : ℕ} (read
             let within : (s : ℕ) → Has set′ s → s ≤ 2 * lettersOf f =
             λ s h.
             let k = taken .hit s h .0 .0 in
-            step-within proper (k .0) (entering (view f) s) s (k .2) (stands .within (k .0) (k .1)) in
+            step-within proper (k .0) (entering (view f) s) s (k .2) (tracked .within (k .0) (k .1)) in
             let high : label ≤ alphabetOf f =
             let e = taken .by-label in
-            let h = entering-high f (ready .valid) o (step-within proper (r .0) (entering (view f) o) o (r .2) (stands .within (r .0) (r .1))) in
+            let h = entering-high f (ready .valid) o (step-within proper (r .0) (entering (view f) o) o (r .2) (tracked .within (r .0) (r .1))) in
             omega arith in
             let rest-left : left - cost M t label ≡ left′ = ap (λ n. left - n) (sym (parts .same-column label high)) ∙ sym (taken .paid) in
-            let l = stands .long in
+            let l = tracked .long in
             record {
               so-far = omega arith;
-              done = stands .done ++ (label ∷ []);
+              done = tracked .done ++ (label ∷ []);
               long = simp length-append (omega arith);
-              memory = ap (λ m. put m t label) (stands .memory) ∙ written-more (stands .done) before t label l (omega arith);
+              memory = ap (λ m. put m t label) (tracked .memory) ∙ written-more (tracked .done) before t label l (omega arith);
               members = members;
               within = within;
               tracing =
-                  subst (λ v. Tracing G M 0 (M .count) (t + 1) (M .count - (t + 1)) (Has set′) v (stands .done ++ (label ∷ []))) rest-left
+                  subst (λ v. Tracing G M 0 (M .count) (t + 1) (M .count - (t + 1)) (Has set′) v (tracked .done ++ (label ∷ []))) rest-left
                   (tracing-more G M rest next (tracing-now .shared)
-                  (next-row proper M t left next (Has set) (stands .within) rest table-next)
-                  (picked-chosen proper M t left next (Has set) (stands .within) picked) tracing-now);
+                  (next-row proper M t left next (Has set) (tracked .within) rest table-next)
+                  (picked-chosen proper M t left next (Has set) (tracked .within) picked) tracing-now);
             }

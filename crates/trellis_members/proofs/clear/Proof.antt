@@ -5,9 +5,8 @@ use mathlib.Core.Bool.{false}
 use native.Mathlib.Omega.{arith}
 use lib.ListN.{set as put}
 use denote.Ref.{now}
-use Rattle.trellis_members.specs.Members.{TakenOut}
 use Rattle.trellis_members.specs.MembersLaws.{members-most, listed-low}
-use Rattle.trellis_members.specs.Loops.{taken-none, taken-more, taken-all}
+use Rattle.trellis_members.specs.Loops.{TakenOut, taken-none, taken-more, taken-all}
 use borrow.Author.Needs.{needs}
 use Rattle.trellis_members.proofs.clear.Statement.{statement}
 use Rattle.trellis_members.proofs.clear.Tie as tie

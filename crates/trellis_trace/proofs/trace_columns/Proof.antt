@@ -6,12 +6,12 @@ use lib.ListN.{length}
 use denote.Ref.{now}
 use Rattle.matrix.specs.Matrix.{matrix}
 use Rattle.trellis_members.specs.Members.{Members}
-use Rattle.trellis_trace.specs.Loops.{Standing, standing-none, standing-all, standing-length, standing-sized, standing-kept, standing-more, column-inside, row-inside, parts-of}
+use Rattle.trellis_trace.specs.Loops.{Tracked, tracked-none, tracked-all, tracked-length, tracked-sized, tracked-kept, tracked-more, column-inside, row-inside, parts-of}
 use Rattle.trellis_trace.proofs.trace_columns.Statement.{statement}
 use Rattle.trellis_trace.proofs.trace_columns.Tie as tie
 
 abbrev Inv-loop : tie.InvT-loop
-Inv-loop form starts costs width count work base stride set₀ list₀ near₀ nears₀ path₀ states n₀ left₀ t₀ set list near nears path n left t = Standing form (matrix costs width count) path₀ t set list n left path × Members near nears 0
+Inv-loop form starts costs width count work base stride set₀ list₀ near₀ nears₀ path₀ states n₀ left₀ t₀ set list near nears path n left t = Tracked form (matrix costs width count) path₀ t set list n left path × Members near nears 0
 
 abbrev μ-loop : tie.MeasureT-loop
 μ-loop form starts costs width count work base stride set₀ list₀ near₀ nears₀ path₀ states n₀ left₀ t₀ set list near nears path n left t = count - t
@@ -44,7 +44,7 @@ shared-slice-read-left : tie.Need-shared-slice-read-left Inv-loop μ-loop
 shared-slice-read-left c = let r = c .before .before .before .before .before .before .before .before .before .before .pre .0 .room in omega arith
 
 loop-holds : tie.Need-loop-holds Inv-loop μ-loop
-loop-holds c = (standing-none (c .before .before .before .before .before .before .before .before .before .before .pre .0) (now (c .before .before .before .before .before .before .before .before .before .before .args .path)) (c .before .before .before .before .before .before .before .before .before .before .pre .3) (c .before .put-if .ensures .0) (c .before .put-if .ensures .1), c .before .before .before .before .before .before .before .before .before .before .pre .4)
+loop-holds c = (tracked-none (c .before .before .before .before .before .before .before .before .before .before .pre .0) (now (c .before .before .before .before .before .before .before .before .before .before .args .path)) (c .before .before .before .before .before .before .before .before .before .before .pre .3) (c .before .put-if .ensures .0) (c .before .put-if .ensures .1), c .before .before .before .before .before .before .before .before .before .before .pre .4)
 
 mul-at : tie.Need-mul-at Inv-loop μ-loop
 mul-at c = let h = column (c) in omega (arith, c .before .before .before .before .before .before .before .before .before .before .before .before .good)
@@ -99,12 +99,12 @@ advance-requires c κs =
     let n = c .before .before .before .before .before .before .before .before .before .before .before .before .letters .result in
     let e = c .before .before .before .before .before .before .before .before .before .before .before .before .letters .ensures in
     let parts = parts-of ready (l .t) there at (at + a .width) begin (begin + (2 * n + 1)) refl refl refl (omega arith) in
-    (standing-sized ready (l .t) there parts (l .inv .0), c .before .before .before .before .before .before .before .before .before .before .before .before .before .before .before .before .before .before .pre .2, l .inv .0 .members, l .inv .0 .within, standing-kept ready (l .t) there parts (l .inv .0), l .inv .1)
+    (tracked-sized ready (l .t) there parts (l .inv .0), c .before .before .before .before .before .before .before .before .before .before .before .before .before .before .before .before .before .before .pre .2, l .inv .0 .members, l .inv .0 .within, tracked-kept ready (l .t) there parts (l .inv .0), l .inv .1)
 
 slice-write-path : tie.Need-slice-write-path Inv-loop μ-loop
 slice-write-path c =
     let h = c .before .before .before .before .before .before .before .loop-test .taken in
-    let l = standing-length (c .before .before .before .before .before .before .before .before .before .before .before .before .before .before .before .before .before .before .before .pre .1) (c .before .before .before .before .before .before .before .before .loop .inv .0) in
+    let l = tracked-length (c .before .before .before .before .before .before .before .before .before .before .before .before .before .before .before .before .before .before .before .pre .1) (c .before .before .before .before .before .before .before .before .loop .inv .0) in
     omega (arith, c .before .before .before .before .before .before .before .before .before .before .before .before .before .before .before .before .before .before .before .pre .1)
 
 add-t : tie.Need-add-t Inv-loop μ-loop
@@ -124,13 +124,13 @@ loop-again c =
     let n = c .before .before .before .before .before .before .before .before .before .before .before .before .before .letters .result in
     let e = c .before .before .before .before .before .before .before .before .before .before .before .before .before .letters .ensures in
     let parts = parts-of ready (l .t) there at (at + a .width) begin (begin + (2 * n + 1)) refl refl refl (omega arith) in
-    (standing-more ready (l .t) there parts (l .inv .0) (c .advance .ensures .0) (c .advance .ensures .1) (c .before .before .before .before .before .before .before .before .before .before .before .before .before .before .before .before .before .before .before .pre .1), c .advance .ensures .2)
+    (tracked-more ready (l .t) there parts (l .inv .0) (c .advance .ensures .0) (c .advance .ensures .1) (c .before .before .before .before .before .before .before .before .before .before .before .before .before .before .before .before .before .before .before .pre .1), c .advance .ensures .2)
 
 same-length : tie.Need-same-length Inv-loop μ-loop
-same-length c = standing-length (c .before .before .before .before .before .before .before .before .before .before .before .before .pre .1) (c .before .loop .inv .0)
+same-length c = tracked-length (c .before .before .before .before .before .before .before .before .before .before .before .before .pre .1) (c .before .loop .inv .0)
 
 returns : tie.Need-returns Inv-loop μ-loop
-returns c = standing-all (c .before .before .before .before .before .before .before .before .before .before .before .before .pre .0) (c .loop-test .left) (c .before .loop .inv .0)
+returns c = tracked-all (c .before .before .before .before .before .before .before .before .before .before .before .before .pre .0) (c .loop-test .left) (c .before .loop .inv .0)
 
 pub trace-columns-spec : {M : Type 1} → statement M
 trace-columns-spec =
