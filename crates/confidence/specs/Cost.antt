@@ -1,32 +1,11 @@
--- The cost of a confidence byte (document 01, "Confidences and the sheet program"), and what the call on a list of them writes.
-use Prim.Native.Nat.{ℕ, zero, suc, _*_, _^_}
-use mathlib.Core.Bool.{Bool, true, false}
+-- What the call Costs writes for a list of confidences.
+use Prim.Native.Nat.{ℕ}
 use mathlib.Core.List.{List, [], _∷_, map}
 use lib.ListN.{length}
-use lib.Dec.{leb, ltb, eqb}
+use lib.Dec.{ltb}
 use Rattle.refusal.specs.declared.Refusal.the-variants.{OutputMemory}
 use Rattle.refusal.specs.Verdict.{Verdict, check, unless}
-
-abbrev pub either : Bool → ℕ → ℕ → ℕ
-either true a b = a
-either false a b = b
-
--- the largest number up to a bound that passes a test, or 0
-unfoldable pub largest : (ℕ → Bool) → ℕ → ℕ
-largest passes zero = 0
-largest passes (suc n) = either (passes (suc n)) (suc n) (largest passes n)
-
--- 2ⁿ × p ≤ 2⁶⁴
-abbrev pub within : ℕ → ℕ → Bool
-within p n = leb (2 ^ n * p) (2 ^ 64)
-
--- the largest such n up to 64
-unfoldable pub shift : ℕ → ℕ
-shift p = largest (within p) 64
-
--- for a confidence c from 1 to 255 the largest whole n with 2ⁿ × c⁸ ≤ 2⁶⁴; for 0 it is 72
-unfoldable pub cost-of : ℕ → ℕ
-cost-of c = either (eqb c 0) 72 (shift (c ^ 8))
+use Rattle.confidence_rule.specs.Cost.{cost-of}
 
 -- what the call writes, with this much room for the costs
 unfoldable pub costs-call : List ℕ → ℕ → Verdict (List ℕ)

@@ -1,64 +1,36 @@
-// The cost of a confidence byte by the eighth-power rule, and the call that turns a list of confidences into costs (document 01,
-// "Confidences and the sheet program").
+// The call Costs: for each confidence of a list its cost, from a table that keeps the eighth-power rule (document 01, "Confidences and
+// the sheet program"; document 02, T-03). The program `confidence_table` prints the table's file.
+mod table;
+
 use refusal::Counted;
 use refusal::Refusal;
+use table::COSTS;
 ghost use mathlib.Core.Path.{_≡_};
-ghost use Prim.Native.Nat.{_*_, _^_, _≤_};
+ghost use Prim.Native.Nat.{_≤_};
 ghost use mathlib.Core.List.{map};
 ghost use lib.ListN.{length};
 ghost use Rattle.lists.specs.Memory.{old, new, Wrote};
 ghost use Rattle.refusal.specs.Fills.{reported, Fills};
-ghost use Rattle.confidence.specs.Cost.{shift, cost-of, costs-call};
+ghost use Rattle.confidence_rule.specs.Cost.{cost-of};
+ghost use Rattle.confidence.specs.Cost.{costs-call};
+ghost use Rattle.confidence.specs.Table.{all-costs};
 
-// The square of a number up to the fourth power of 255.
-fn square(m: u64) -> u64
-    requires { ⌜ m ≤ 255 ^ 4 ⌝ }
-    ensures { λ r. ⌜ r ≡ m * m ⌝ }
-{
-    m * m
-}
-
-// The eighth power of a byte.
-fn eighth_power(c: u8) -> u64
-    ensures { λ r. ⌜ r ≡ c ^ 8 ⌝ }
-{
-    square(square(square(c as u64)))
-}
-
-// The largest n with 2ⁿ × p ≤ 2⁶⁴, up to 64.
-fn largest_shift(p: u64) -> u32
-    ensures { λ r. ⌜ r ≡ shift p ⌝ }
-{
-    let mut n: u32 = 64;
-    let mut limit: u64 = 1;
-    while limit < p {
-        if n == 1 {
-            return 0;
-        }
-        n -= 1;
-        limit *= 2;
-    }
-    n
-}
-
-// The cost of one confidence.
-pub fn cost(c: u8) -> u32
+// The cost of one confidence: its entry in the table.
+fn cost(table: &[u32; 256], c: u8) -> u32
+    requires { ⌜ now table ≡ all-costs ⌝ }
     ensures { λ r. ⌜ r ≡ cost-of c ⌝ }
 {
-    if c == 0 {
-        return 72;
-    }
-    largest_shift(eighth_power(c))
+    table[c as usize]
 }
 
-// Writes the cost of each confidence and returns their number.
-fn write_costs(confidences: &[u8], costs: &mut [u32]) -> usize
-    requires { ⌜ length (now confidences) ≤ length (now costs) ⌝ }
+// Writes the cost of each confidence and returns their number. The table is lent once for all: a constant array is built anew at each use.
+fn write_costs(table: &[u32; 256], confidences: &[u8], costs: &mut [u32]) -> usize
+    requires { ⌜ (now table ≡ all-costs) × (length (now confidences) ≤ length (now costs)) ⌝ }
     ensures { λ r. ⌜ Wrote (map cost-of (old confidences)) (old costs) (new costs) r ⌝ }
 {
     let mut i: usize = 0;
     while i < confidences.len() {
-        costs[i] = cost(confidences[i]);
+        costs[i] = cost(table, confidences[i]);
         i += 1;
     }
     i
@@ -71,5 +43,5 @@ pub fn costs(confidences: &[u8], costs: &mut [u32]) -> Counted
     if costs.len() < confidences.len() {
         return Counted::Refused(Refusal::OutputMemory);
     }
-    Counted::Filled(write_costs(confidences, costs))
+    Counted::Filled(write_costs(&COSTS, confidences, costs))
 }

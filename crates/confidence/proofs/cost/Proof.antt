@@ -1,23 +1,19 @@
--- `confidence::cost` meets its contract.
-use mathlib.Core.Path.{sym, _∙_}
+-- `confidence::cost` meets its contract: the entry of a byte in the rule's table is its cost.
+use mathlib.Core.Path.{ap, _∙_}
+use lib.ListN.{getD}
 use borrow.Author.Needs.{needs}
-use Rattle.confidence.specs.Loops.{cost-zero, cost-more}
+use Rattle.confidence.specs.TableLaws.{entry}
 use Rattle.confidence.proofs.cost.Statement.{statement}
 use Rattle.confidence.proofs.cost.Tie as tie
 
+mul-result : tie.Need-mul-result
+mul-result c = search needs
+
+element-copy-out-result : tie.Need-element-copy-out-result
+element-copy-out-result c = search needs
+
 returns : tie.Need-returns
-returns c = sym (cost-zero (c .before .args .c) (c .if1 .taken))
-
-eighth-power-requires : tie.Need-eighth-power-requires
-eighth-power-requires c κs = search needs
-
-largest-shift-requires : tie.Need-largest-shift-requires
-largest-shift-requires c κs = search needs
-
-returns-2 : tie.Need-returns-2
-returns-2 c =
-    let power = c .before .eighth-power in
-    c .largest-shift .ensures ∙ sym (cost-more (c .before .before .before .args .c) (power .result) (c .before .before .if1 .left) (power .ensures))
+returns c = ap (λ t. getD t (c .before .args .c) 0) (c .before .pre) ∙ entry (c .before .args .c) (search needs)
 
 pub cost-spec : {M : Type 1} → statement M
-cost-spec = tie.close (tie.spec returns eighth-power-requires largest-shift-requires returns-2)
+cost-spec = tie.close (tie.spec mul-result element-copy-out-result returns)

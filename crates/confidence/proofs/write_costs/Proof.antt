@@ -6,16 +6,16 @@ use lib.ListN.{length, length-map, getD, drop}
 use denote.Ref.{now}
 use borrow.Author.Needs.{needs}
 use Rattle.lists.specs.FillingLoops.{Filling, filling-none, filling-more, filling-length, filling-all}
-use Rattle.confidence.specs.Cost.{cost-of}
+use Rattle.confidence_rule.specs.Cost.{cost-of}
 use Rattle.confidence.specs.Loops.{cost-step, cost-end}
 use Rattle.confidence.proofs.write_costs.Statement.{statement}
 use Rattle.confidence.proofs.write_costs.Tie as tie
 
 abbrev Inv-loop : tie.InvT-loop
-Inv-loop confidences costs₀ i₀ costs i = (i ≤ length confidences) × Filling (map cost-of confidences) costs₀ costs (map cost-of (drop i confidences)) i
+Inv-loop table confidences costs₀ i₀ costs i = (i ≤ length confidences) × Filling (map cost-of confidences) costs₀ costs (map cost-of (drop i confidences)) i
 
 abbrev μ-loop : tie.MeasureT-loop
-μ-loop confidences costs₀ i₀ costs i = length confidences - i
+μ-loop table confidences costs₀ i₀ costs i = length confidences - i
 
 loop-holds : tie.Need-loop-holds Inv-loop μ-loop
 loop-holds c =

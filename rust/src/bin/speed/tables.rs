@@ -1,4 +1,5 @@
 //! The tables, from which those in docs/FIGURES.md are made.
+use crate::costs;
 use crate::forms::{compile, letters, random_arcs, Form, CHARACTERS, LETTERS};
 use crate::generator::Random;
 use crate::matrices::Kind;
@@ -28,6 +29,8 @@ pub fn all(rounds: usize) {
     by_arcs(rounds);
     println!();
     by_letters(rounds);
+    println!("\nCosts of the confidences of one line.\n");
+    confidences(rounds);
 }
 
 /// The head of a table of sheets, with these columns first.
@@ -118,4 +121,16 @@ fn by_form(letters: usize, arcs: usize, first: impl Fn(&[u32]) -> usize, rounds:
     let form = random_arcs(&mut Random(arcs as u64), letters, CHARACTERS, arcs);
     let sheet = Sheet::new(&form, Kind::Network, COLUMNS, LINES);
     row(&first(&form).to_string(), &sheet, rounds);
+}
+
+/// Costs against its rule and against a table in Rust.
+pub fn confidences(rounds: usize) {
+    let [rule, table, costs] = costs::times(rounds).map(|time| time.as_secs_f64() * 1e6);
+    println!("| rule µs | table µs | Costs µs | Costs/rule | Costs/table |");
+    println!("|---|---|---|---|---|");
+    println!(
+        "| {rule:.1} | {table:.1} | {costs:.1} | {:.3} | {:.2} |",
+        costs / rule,
+        costs / table,
+    );
 }

@@ -1,4 +1,5 @@
-//! The decoders agree: all three on small forms with many ties, peer and Decode also on what is turned away. And Decode is fast.
+//! The decoders agree: all three on small forms with many ties, peer and Decode also on what is turned away. And Decode and Costs are fast.
+use crate::costs;
 use crate::forms::{random_arcs, Form};
 use crate::generator::Random;
 use crate::matrices::Kind;
@@ -133,4 +134,12 @@ fn decode_is_fast() {
         );
         assert!(decode < 2.0 * peer, "{name}: {} of the peer", decode / peer);
     }
+}
+
+/// Costs looks costs up: it was as slow as the rule while the table was made anew for each confidence.
+#[test]
+fn costs_are_fast() {
+    let [rule, table, costs] = costs::times(50).map(|time| time.as_secs_f64());
+    assert!(costs < 0.3 * rule, "{} of the rule", costs / rule);
+    assert!(costs < 3.0 * table, "{} of the table", costs / table);
 }

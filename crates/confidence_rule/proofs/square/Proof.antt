@@ -1,9 +1,9 @@
--- `confidence::square` meets its contract: the square of a fourth power of a byte fits.
+-- `confidence_rule::square` meets its contract: the square of a fourth power of a byte fits.
 use native.Mathlib.Nat.{mul-le-mul}
 use native.Mathlib.Omega.{arith}
 use borrow.Author.Needs.{needs}
-use Rattle.confidence.proofs.square.Statement.{statement}
-use Rattle.confidence.proofs.square.Tie as tie
+use Rattle.confidence_rule.proofs.square.Statement.{statement}
+use Rattle.confidence_rule.proofs.square.Tie as tie
 
 mul-result : tie.Need-mul-result
 mul-result c = let h = mul-le-mul (c .pre) (c .pre) in omega arith

@@ -1,11 +1,11 @@
--- `confidence::eighth_power` meets its contract: three squares.
+-- `confidence_rule::eighth_power` meets its contract: three squares.
 use Prim.Native.Nat.{_^_}
 use mathlib.Core.Path.{_≡_, _∙_}
 use native.Mathlib.Omega.{arith}
 use borrow.Author.Needs.{needs}
-use Rattle.confidence.specs.Loops.{first-power, square-of, power-small}
-use Rattle.confidence.proofs.eighth_power.Statement.{statement}
-use Rattle.confidence.proofs.eighth_power.Tie as tie
+use Rattle.confidence_rule.specs.Loops.{first-power, square-of, power-small}
+use Rattle.confidence_rule.proofs.eighth_power.Statement.{statement}
+use Rattle.confidence_rule.proofs.eighth_power.Tie as tie
 
 square-requires : tie.Need-square-requires
 square-requires c κs = search needs

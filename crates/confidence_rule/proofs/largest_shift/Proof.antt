@@ -1,11 +1,11 @@
--- `confidence::largest_shift` meets its contract: the search goes down from 64, and what is left of it decides.
+-- `confidence_rule::largest_shift` meets its contract: the search goes down from 64, and what is left of it decides.
 use Prim.Native.Nat.{_*_, _^_, _≤_}
 use mathlib.Core.Path.{_≡_, refl, sym, _∙_}
 use native.Mathlib.Omega.{arith}
-use Rattle.confidence.specs.Cost.{largest, within, shift}
-use Rattle.confidence.specs.Loops.{shift-found, shift-past, shift-one, limit-doubled, limit-small}
-use Rattle.confidence.proofs.largest_shift.Statement.{statement}
-use Rattle.confidence.proofs.largest_shift.Tie as tie
+use Rattle.confidence_rule.specs.Cost.{largest, within, shift}
+use Rattle.confidence_rule.specs.Loops.{shift-found, shift-past, shift-one, limit-doubled, limit-small}
+use Rattle.confidence_rule.proofs.largest_shift.Statement.{statement}
+use Rattle.confidence_rule.proofs.largest_shift.Tie as tie
 
 abbrev Inv-loop : tie.InvT-loop
 Inv-loop p n₀ limit₀ n limit = (1 ≤ n) × (n ≤ 64) × (2 ^ n * limit ≡ 2 ^ 64) × (largest (within p) n ≡ shift p)

@@ -9,7 +9,7 @@ use native.Mathlib.Nat.{mul-le-mul, pow-le-pow-left, one-mul}
 use lib.Pow.{pow-mono}
 use borrow.Author.Tests.{leb-true, le-leb, ne-eqb}
 use Rattle.lists.specs.OrderLaws.{lt-or-le, eq-or-ne, not-both}
-use Rattle.confidence.specs.Cost.{either, largest, within, shift, cost-of}
+use Rattle.confidence_rule.specs.Cost.{either, largest, within, shift, cost-of}
 
 -- n passes, and nothing larger does
 pub record Largest (P : ℕ → Type 0) (n : ℕ) : Type 0 where

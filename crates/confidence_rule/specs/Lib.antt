@@ -1,0 +1,4 @@
+pub mod Cost
+pub mod Examples
+pub mod Rule
+pub mod Loops
