@@ -1,5 +1,5 @@
-// The call Costs: for each confidence of a list its cost, from a table that keeps the eighth-power rule (document 01, "Confidences and
-// the sheet program"; document 02, T-03). The program `confidence_table` prints the table's file.
+// The call Costs: the cost of each confidence of a list, from a table (document 01, "Confidences and the sheet program"; document 02,
+// T-03). The program `confidence_table` prints the table's file.
 mod table;
 
 use refusal::Counted;
@@ -23,7 +23,7 @@ fn cost(table: &[u32; 256], c: u8) -> u32
     table[c as usize]
 }
 
-// Writes the cost of each confidence and returns their number. The table is lent once for all: a constant array is built anew at each use.
+// Writes the cost of each confidence and returns their number. The table is lent, since a constant array is built anew at each use.
 fn write_costs(table: &[u32; 256], confidences: &[u8], costs: &mut [u32]) -> usize
     requires { ⌜ (now table ≡ all-costs) × (length (now confidences) ≤ length (now costs)) ⌝ }
     ensures { λ r. ⌜ Wrote (map cost-of (old confidences)) (old costs) (new costs) r ⌝ }

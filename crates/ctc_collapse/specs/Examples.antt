@@ -13,8 +13,9 @@ abbrev path : List ℕ
 path = 1 ∷ 0 ∷ 1 ∷ 1 ∷ []
 
 record Examples : Type 0 where
-  -- memory as long as the path, and one less
+  -- memory as long as the path, one more, and one less
   enough : collapse-call 1 path 4 ≡ passed (1 ∷ 1 ∷ [])
+  more : collapse-call 1 path 5 ≡ passed (1 ∷ 1 ∷ [])
   short : collapse-call 1 path 3 ≡ refused OutputMemory
   nothing : collapse-call 1 [] 0 ≡ passed []
   over-k : collapse-call 1 (2 ∷ []) 1 ≡ refused Label
@@ -24,4 +25,4 @@ record Examples : Type 0 where
 
 examples : Examples
 unfolding collapse-call unless all collapse merge without-blanks
-examples = record { enough = refl; short = refl; nothing = refl; over-k = refl; no-alphabet = refl; both = refl }
+examples = record { enough = refl; more = refl; short = refl; nothing = refl; over-k = refl; no-alphabet = refl; both = refl }

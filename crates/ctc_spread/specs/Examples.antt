@@ -13,8 +13,9 @@ abbrev word : List ℕ
 word = 1 ∷ 1 ∷ 2 ∷ []
 
 record Examples : Type 0 where
-  -- memory as long as the path, and one less
+  -- memory as long as the path, one more, and one less
   enough : spread-call 2 word 4 ≡ passed (1 ∷ 0 ∷ 1 ∷ 2 ∷ [])
+  more : spread-call 2 word 5 ≡ passed (1 ∷ 0 ∷ 1 ∷ 2 ∷ [])
   short : spread-call 2 word 3 ≡ refused OutputMemory
   nothing : spread-call 1 [] 0 ≡ passed []
   over-k : spread-call 1 word 4 ≡ refused Label
@@ -24,4 +25,4 @@ record Examples : Type 0 where
 
 examples : Examples
 unfolding spread-call unless all spread
-examples = record { enough = refl; short = refl; nothing = refl; over-k = refl; blank = refl; both = refl }
+examples = record { enough = refl; more = refl; short = refl; nothing = refl; over-k = refl; blank = refl; both = refl }

@@ -1,11 +1,12 @@
 //! Costs, against the rule computed for each confidence, as Costs did before it had a table, and against a table in Rust.
+use crate::forms::CHARACTERS;
 use crate::generator::Random;
 use crate::tables::COLUMNS;
 use std::hint::black_box;
 use std::time::{Duration, Instant};
 
 /// The confidences of a line of 255 columns, K = 40.
-const CONFIDENCES: usize = COLUMNS * 41;
+const CONFIDENCES: usize = COLUMNS * (CHARACTERS + 1);
 
 /// One way from confidences to costs.
 type Way = fn(&[u8], &mut [u32]);

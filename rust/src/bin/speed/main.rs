@@ -8,7 +8,7 @@
 //!     cargo run --release --offline --bin speed                              all tables, nine rounds
 //!     cargo run --release --offline --bin speed -- 25                        all tables, 25 rounds
 //!     cargo run --release --offline --bin speed -- sheet 25 random network   one row of the first table
-//!     cargo run --release --offline --bin speed -- costs 25                  the table of Costs
+//!     cargo run --release --offline --bin speed -- costs 25                  the last table, of Costs
 //!
 //! Forms: angle, six, loop, star, random. Matrices: network, ties, equal, limit. The instructions of one sheet, as valgrind
 //! counts them inside the function `counted`:
