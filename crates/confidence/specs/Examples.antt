@@ -1,12 +1,10 @@
--- The memory that a call needs, and all confidences at once. For the reader: nothing uses it.
+-- The memory that a call needs. For the reader: nothing uses it.
 use mathlib.Core.Path.{_≡_, refl}
 use mathlib.Core.List.{[], _∷_}
 use Rattle.refusal.specs.declared.Refusal.the-variants.{OutputMemory}
 use Rattle.refusal.specs.Verdict.{passed, refused, unless}
-use Rattle.lists.specs.Lists.{numbers}
 use Rattle.confidence_rule.specs.Cost.{largest, shift, cost-of}
 use Rattle.confidence.specs.Cost.{costs-call}
-use Rattle.confidence.specs.Table.{all-costs}
 
 -- memory for exactly the costs, and for one more
 enough : (costs-call (128 ∷ 1 ∷ []) 2 ≡ passed (8 ∷ 64 ∷ [])) × (costs-call (128 ∷ 1 ∷ []) 3 ≡ passed (8 ∷ 64 ∷ []))
@@ -17,8 +15,3 @@ enough = (refl, refl)
 short : (costs-call (128 ∷ 1 ∷ []) 1 ≡ refused OutputMemory) × (costs-call [] 0 ≡ passed [])
 unfolding costs-call unless
 short = (refl, refl)
-
--- the call on all 256 confidences gives the table
-whole-table : costs-call (numbers 0 256) 256 ≡ passed all-costs
-unfolding costs-call unless all-costs numbers
-whole-table = refl

@@ -1,4 +1,5 @@
 pub mod Cost
+pub mod CostLaws
 pub mod Table
 pub mod TableLaws
 pub mod Loops

@@ -4,7 +4,7 @@ use mathlib.Core.Path.{_≡_, refl, sym, ap, ap₂, _∙_}
 use native.Mathlib.Omega.{arith}
 use native.Mathlib.Nat.{mul-le-mul-left, mul-lt-mul-of-pos-left, mul-le-mul-right, mul-comm, mul-assoc, pow-suc, pow-le-pow-left, pow-zero, one-mul}
 use lib.Pow.{pow-pos, pow-mono, pow-add}
-use borrow.Author.Tests.{le-leb, lt-leb, eq-eqb, ne-eqb}
+use borrow.Author.Tests.{le-leb, lt-leb, ne-eqb}
 use Rattle.confidence_rule.specs.Cost.{either, largest, within, shift, cost-of}
 
 -- Squares.
@@ -53,10 +53,6 @@ limit-small n limit l e =
     omega arith
 
 -- The cost.
-
-pub cost-zero : (c : ℕ) → c ≡ 0 → cost-of c ≡ 72
-unfolding cost-of
-cost-zero c e = rw (eq-eqb c 0 e)
 
 pub cost-more : (c p : ℕ) → (c ≡ 0 → ⊥) → p ≡ c ^ 8 → cost-of c ≡ shift p
 unfolding cost-of

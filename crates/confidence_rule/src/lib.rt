@@ -1,5 +1,5 @@
 // The cost of a confidence byte, computed by the eighth-power rule (document 01, "Confidences and the sheet program"). The program
-// `confidence_table` prints the table of costs by it.
+// `confidence_table` computes the table of costs by this crate.
 ghost use mathlib.Core.Path.{_≡_};
 ghost use Prim.Native.Nat.{_*_, _^_, _≤_};
 ghost use Rattle.confidence_rule.specs.Cost.{shift, cost-of};

@@ -34,9 +34,8 @@ record Examples : Type 0 where
   need : needed 3 2 ≡ 20
   least : needed 0 1 ≡ 3
   most : needed 255 127 ≡ 65280
-  -- memory just long enough, longer, and one element less
+  -- memory just long enough, and one element less
   enough : said three 3 3 3 3 20 ≡ Passed
-  more : said three 3 3 4 5 21 ≡ Passed
   short-work : said three 3 3 3 3 19 ≡ Refused Work
   short-word : said three 3 3 3 2 20 ≡ Refused OutputMemory
   short-path : said three 3 3 2 3 20 ≡ Refused OutputMemory
@@ -65,7 +64,6 @@ examples = record {
   least = refl;
   most = refl;
   enough = refl;
-  more = refl;
   short-work = refl;
   short-word = refl;
   short-path = refl;

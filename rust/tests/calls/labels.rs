@@ -4,6 +4,7 @@ use crate::LEAST;
 use kavurehy::{raw, Refusal};
 use model::input::{random, Random};
 use model::tally::Tally;
+use std::{fs, path::Path};
 
 const CASES: usize = 60_000;
 
@@ -145,4 +146,16 @@ fn costs() {
         }
     }
     tally.demand("costs", LEAST, &[0, 14]);
+}
+
+/// The file that is checked by eye has each cost in the line of its confidence.
+#[test]
+fn table_of_costs() {
+    let file = Path::new(env!("CARGO_MANIFEST_DIR")).join("../crates/confidence/src/table.rt");
+    let text = fs::read_to_string(file).expect("the table's file");
+    let lines: Vec<&str> = text.lines().filter(|l| l.starts_with(' ')).collect();
+    let expected: Vec<String> = (0..=255)
+        .map(|c| format!("    {}, // {c}", model::cost(c)))
+        .collect();
+    assert_eq!(lines, expected);
 }

@@ -1,12 +1,14 @@
 -- `confidence_rule::cost` meets its contract.
-use mathlib.Core.Path.{sym, _∙_}
+use mathlib.Core.Path.{sym, ap, _∙_}
 use borrow.Author.Needs.{needs}
-use Rattle.confidence_rule.specs.Loops.{cost-zero, cost-more}
+use Rattle.confidence_rule.specs.Cost.{cost-of}
+use Rattle.confidence_rule.specs.Loops.{cost-more}
 use Rattle.confidence_rule.proofs.cost.Statement.{statement}
 use Rattle.confidence_rule.proofs.cost.Tie as tie
 
 returns : tie.Need-returns
-returns c = sym (cost-zero (c .before .args .c) (c .if1 .taken))
+unfolding cost-of
+returns c = ap cost-of (sym (c .if1 .taken))
 
 eighth-power-requires : tie.Need-eighth-power-requires
 eighth-power-requires c κs = search needs

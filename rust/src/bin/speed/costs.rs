@@ -13,7 +13,7 @@ type Way = fn(&[u8], &mut [u32]);
 
 const WAYS: [Way; 3] = [by_rule, by_table, by_call];
 
-const TABLE: [u32; 256] = {
+static TABLE: [u32; 256] = {
     let mut table = [0; 256];
     let mut c = 0;
     while c < 256 {
