@@ -18,7 +18,7 @@ returns : tie.Need-returns
 returns c =
     let f = now (c .before .before .before .args .confidences) in
     let m = now (c .before .before .before .args .costs) in
-    fills-refused (costs-call f (length m)) OutputMemory m (costs-refused f (length m) (c .if1 .taken))
+    fills-refused (costs-call f (length m)) OutputMemory m (costs-refused f (length m) (search needs))
 
 -- the table in the code is tested here as a whole: it computes to the list of the rule's costs
 write-costs-requires : tie.Need-write-costs-requires
@@ -34,7 +34,7 @@ returns-2 c =
     let m = now (c .before .before .before .before .before .before .before .before .args .costs) in
     let wrote = c .before .before .write-costs in
     fills-wrote (costs-call f (length m)) (map cost-of f) m (wrote .last .1 .1 .0) (wrote .result)
-    (costs-passed f (length m) (c .before .before .before .before .before .if1 .left))
+    (costs-passed f (length m) (search needs))
     (wrote .ensures)
 
 pub costs-spec : {M : Type 1} → statement M
