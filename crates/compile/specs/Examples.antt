@@ -15,10 +15,11 @@ use Rattle.automaton.specs.Form.{encode}
 use Rattle.text.specs.Bytes.{bytes}
 use Rattle.regex.specs.Tree.{between, set, times}
 use Rattle.regex.specs.Letters.{labelsOf, letterCount}
+use Rattle.regex.specs.Classes.{classes, look-up, class-ranges}
 use Rattle.regex.specs.Parsing.{then, enclosed}
 use Rattle.text.specs.Text.{split}
 use Rattle.lists.specs.Cases.{first-of, provided}
-use Rattle.regex.specs.Sets.{closed, reserved, items, members, inside, bracket, alone, escaped, a-set, labelled-set}
+use Rattle.regex.specs.Sets.{closed, reserved, items, members, ranges-of, known, inside, bracket, alone, escaped, a-set, labelled-set}
 use Rattle.regex.specs.Repetition.{number, from-on, from-to, comma, counts, sign, repetition}
 use Rattle.regex.specs.Parse.{grouped, step, go, parse, whole, expressionOf}
 use Rattle.positions.specs.Opened.{anyOf, copies, nested, repeated, opened, labels}
@@ -53,7 +54,7 @@ cases =
     ∷ []
 
 computed : failing cases ≡ []
-unfolding failing meets said cases compile-call distinct if-passed unless all any keep numbers flatMap encode labelsOf letterCount then first-of split enclosed provided closed reserved items members inside bracket escaped a-set labelled-set number from-on from-to comma counts sign repetition grouped step go parse whole expressionOf anyOf copies nested repeated opened labels numbered positionAutomaton
+unfolding failing meets said cases compile-call distinct if-passed unless all any keep numbers flatMap encode labelsOf letterCount then first-of split enclosed provided closed reserved items members ranges-of class-ranges look-up classes known inside bracket escaped a-set labelled-set number from-on from-to comma counts sign repetition grouped step go parse whole expressionOf anyOf copies nested repeated opened labels numbered positionAutomaton
 computed = refl
 
 -- "`a{127}` compiles, `a{128}` is 9": for 127 letters only refusal 10 is possible. Their form is not computed.

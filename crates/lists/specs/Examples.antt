@@ -4,7 +4,7 @@ use mathlib.Core.Path.{_≡_, refl}
 use mathlib.Core.Bool.{true, false}
 use mathlib.Core.List.{[], _∷_, map}
 use mathlib.Core.Option.{Option, some as just, none}
-use Rattle.lists.specs.Lists.{in-range, any, keep, numbers}
+use Rattle.lists.specs.Lists.{in-range, any, keep, same-list, numbers}
 use Rattle.lists.specs.Each.{all}
 use Rattle.lists.specs.Memory.{written}
 use Rattle.lists.specs.Cases.{Case, when, first-of, provided}
@@ -17,6 +17,8 @@ record Examples : Type 0 where
   ends : map (in-range 1 3) (numbers 0 5) ≡ false ∷ true ∷ true ∷ true ∷ false ∷ []
   kept : keep {A = ℕ} (in-range 1 3) (0 ∷ 3 ∷ 4 ∷ 1 ∷ []) ≡ 3 ∷ 1 ∷ []
   some : map (any (in-range 1 3)) ([] ∷ (0 ∷ 4 ∷ []) ∷ (0 ∷ 1 ∷ []) ∷ []) ≡ false ∷ false ∷ true ∷ []
+  -- also lists of which one begins with the other
+  same : map (same-list (1 ∷ 2 ∷ [])) ([] ∷ (1 ∷ []) ∷ (1 ∷ 2 ∷ []) ∷ (1 ∷ 3 ∷ []) ∷ (1 ∷ 2 ∷ 3 ∷ []) ∷ []) ≡ false ∷ false ∷ true ∷ false ∷ false ∷ []
   every : map (all (in-range 1 3)) ([] ∷ (1 ∷ 4 ∷ []) ∷ (1 ∷ 3 ∷ []) ∷ []) ≡ true ∷ false ∷ true ∷ []
   -- the first case that holds, and what is given where none does
   first-case : first-of {R = ℕ} (when false 1 ∷ when true 2 ∷ when true 3 ∷ []) 4 ≡ 2
@@ -32,6 +34,7 @@ examples = record {
   ends = refl;
   kept = refl;
   some = refl;
+  same = refl;
   every = refl;
   first-case = refl;
   no-case = refl;

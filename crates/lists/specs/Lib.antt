@@ -3,6 +3,7 @@ pub mod Lists
 pub mod Memory
 pub mod Stored
 pub mod Cases
+pub mod Options
 pub mod Marks
 pub mod Least
 pub mod OrderLaws
@@ -10,11 +11,13 @@ pub mod RangeLaws
 pub mod EachLaws
 pub mod AmongLaws
 pub mod AscendingLaws
+pub mod SameLaws
 pub mod WrittenLaws
 pub mod OutsideLaws
 pub mod PartLaws
 pub mod KeptLaws
 pub mod CasesLaws
+pub mod OptionsLaws
 pub mod MarksLaws
 pub mod LeastLaws
 pub mod FillingLoops

@@ -4,7 +4,7 @@ use mathlib.Core.List.{List, [], _∷_}
 use mathlib.Core.Path.{_≡_}
 use mathlib.Core.Logic.{_⊎_}
 use Prim.Native.Nat.{ℕ, zero, suc, _<_}
-use lib.Dec.{leb}
+use lib.Dec.{eqb, leb}
 use Rattle.lists.specs.Each.{Each}
 
 module _ {A : Type 0} where
@@ -27,6 +27,13 @@ module _ {A : Type 0} where
   unfoldable pub keep : (A → Bool) → List A → List A
   keep p [] = []
   keep p (x ∷ xs) = keeping (p x) x (keep p xs)
+
+-- the two lists are the same
+abbrev pub same-list : List ℕ → List ℕ → Bool
+same-list [] [] = true
+same-list [] (y ∷ q) = false
+same-list (x ∷ p) [] = false
+same-list (x ∷ p) (y ∷ q) = eqb x y && same-list p q
 
 -- n is from `low` to `high`, both included
 abbrev pub in-range : (low high n : ℕ) → Bool

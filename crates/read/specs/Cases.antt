@@ -12,7 +12,8 @@ use lib.Dec.{eqb}
 use borrow.Author.Tests.{eqb-true}
 use Rattle.lists.specs.OrderLaws.{and-left, and-right}
 use Rattle.lists.specs.EachLaws.{all-each}
-use Rattle.lists.specs.Lists.{any, keep, numbers}
+use Rattle.lists.specs.Lists.{any, keep, same-list, numbers}
+use Rattle.lists.specs.SameLaws.{same-list-true}
 use Rattle.lists.specs.Each.{all, Each}
 use Rattle.refusal.specs.declared.Checked.{Checked}
 use Rattle.refusal.specs.declared.Checked.the-variants.{Passed, Refused}
@@ -32,10 +33,11 @@ use Rattle.outcome.specs.ChoiceLaws.{not-after, preferred, better}
 use Rattle.outcome.specs.Exhaustive.{over, exhaustive, usable, decided, decided-outcome}
 use Rattle.text.specs.Bytes.{bytes}
 use Rattle.regex.specs.Letters.{labelsOf, letterCount}
+use Rattle.regex.specs.Classes.{classes, look-up, class-ranges}
 use Rattle.regex.specs.Parsing.{then, enclosed}
 use Rattle.text.specs.Text.{split}
 use Rattle.lists.specs.Cases.{first-of, provided}
-use Rattle.regex.specs.Sets.{closed, reserved, items, members, inside, bracket, escaped, a-set, labelled-set}
+use Rattle.regex.specs.Sets.{closed, reserved, items, members, ranges-of, known, inside, bracket, escaped, a-set, labelled-set}
 use Rattle.regex.specs.Repetition.{number, from-on, from-to, comma, counts, sign, repetition}
 use Rattle.regex.specs.Parse.{grouped, step, go, parse, whole, expressionOf}
 use Rattle.regex.specs.Grammar.{WordsOf}
@@ -78,12 +80,6 @@ Stated (refuses A s costs t k n) =
     × Answered (bytes A) (bytes s) (matrix costs (length (bytes A) + 1) t) k none [] (record { number = n; price = 0; filled = 0; form = 0 })
 Stated (compiles A s f) = compile-call (bytes A) (bytes s) (length f) ≡ passed f
 
-same-list : List ℕ → List ℕ → Bool
-same-list [] [] = true
-same-list [] (y ∷ q) = false
-same-list (x ∷ p) [] = false
-same-list (x ∷ p) (y ∷ q) = eqb x y && same-list p q
-
 same : Option (List ℕ) → Option (List ℕ) → Bool
 same none none = true
 same none (some q) = false
@@ -123,13 +119,6 @@ holds (reads A s costs t k p c w) =
 holds (refuses A s costs t k n) =
     tried (compile-call (bytes A) (bytes s) k) (bytes A) (matrix costs (length (bytes A) + 1) t) k none [] (record { number = n; price = 0; filled = 0; form = 0 })
 holds (compiles A s f) = compiled (compile-call (bytes A) (bytes s) (length f)) f
-
-same-list-true : (p q : List ℕ) → same-list p q ≡ true → p ≡ q
-unfolding same-list
-same-list-true [] [] e = refl
-same-list-true [] (y ∷ q) e = let z : _≡_ {A = ℕ} 0 1 = cc in absurd (omega arith)
-same-list-true (x ∷ p) [] e = let z : _≡_ {A = ℕ} 0 1 = cc in absurd (omega arith)
-same-list-true (x ∷ p) (y ∷ q) e = ap₂ _∷_ (eqb-true x y (and-left (eqb x y) (same-list p q) e)) (same-list-true p q (and-right (eqb x y) (same-list p q) e))
 
 same-true : (a b : Option (List ℕ)) → same a b ≡ true → a ≡ b
 unfolding same
@@ -209,5 +198,5 @@ cases =
 
 -- every case holds
 pub cases-stated : Each Stated cases
-unfolding cases holds compiled tried answered passing figures first-refusal same same-list decided exhaustive over better preferred not-after usable collapse merge without-blanks spells followOf endsOf compile-call distinct if-passed unless all any keep numbers flatMap encode labelsOf letterCount then first-of split enclosed provided closed reserved items members inside bracket escaped a-set labelled-set number from-on from-to comma counts sign repetition grouped step go parse whole expressionOf anyOf copies nested repeated opened labels numbered positionAutomaton
+unfolding cases holds compiled tried answered passing figures first-refusal same decided exhaustive over better preferred not-after usable collapse merge without-blanks spells followOf endsOf compile-call distinct if-passed unless all any keep numbers flatMap encode labelsOf letterCount then first-of split enclosed provided closed reserved items members ranges-of class-ranges look-up classes known inside bracket escaped a-set labelled-set number from-on from-to comma counts sign repetition grouped step go parse whole expressionOf anyOf copies nested repeated opened labels numbered positionAutomaton
 cases-stated = all-each holds Stated holds-stated cases refl

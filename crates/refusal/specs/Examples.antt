@@ -6,20 +6,20 @@ use mathlib.Core.List.{List, [], _∷_, map}
 use lib.ListN.{getD}
 use Rattle.lists.specs.Lists.{numbers}
 use Rattle.refusal.specs.declared.Refusal.{Refusal}
-use Rattle.refusal.specs.declared.Refusal.the-variants.{Alphabet, TextLength, TextByte, MisplacedSign, Depth, Count, Bracket, Foreign, Letters, FormMemory, BadForm, Matrix, Cost, OutputMemory, Work, NoReading, Label, Sheet}
+use Rattle.refusal.specs.declared.Refusal.the-variants.{Alphabet, TextLength, TextByte, MisplacedSign, Depth, Count, Bracket, Foreign, Letters, FormMemory, BadForm, Matrix, Cost, OutputMemory, Work, NoReading, Label, Sheet, ClassName}
 use Rattle.refusal.specs.declared.Checked.the-variants.{Passed, Refused as Stopped}
 use Rattle.refusal.specs.declared.Counted.the-variants.{Filled, Refused}
 use Rattle.refusal.specs.Number.{numberOf}
 use Rattle.refusal.specs.Verdict.{Verdict, passed, refused, Check, check, unless, if-passed, first-refusal}
 use Rattle.refusal.specs.Fills.{reported, report, filling}
 
--- the refusals in the order of document 01
+-- the refusals in the order of documents 01 and 02
 abbrev refusals : List Refusal
 refusals =
     Alphabet ∷ TextLength ∷ TextByte ∷ MisplacedSign ∷ Depth ∷ Count ∷ Bracket ∷ Foreign ∷ Letters ∷ FormMemory ∷ BadForm ∷ Matrix ∷ Cost ∷
-    OutputMemory ∷ Work ∷ NoReading ∷ Label ∷ Sheet ∷ []
+    OutputMemory ∷ Work ∷ NoReading ∷ Label ∷ Sheet ∷ ClassName ∷ []
 
-numbered : map numberOf refusals ≡ numbers 1 18
+numbered : map numberOf refusals ≡ numbers 1 19
 unfolding numbers
 numbered = refl
 
@@ -43,6 +43,7 @@ listed Work = refl
 listed NoReading = refl
 listed Label = refl
 listed Sheet = refl
+listed ClassName = refl
 
 -- two checks that hold: the first in the list decides, though its number is higher
 abbrev two : List Check

@@ -1,8 +1,8 @@
--- The number of each refusal (document 01, "What is turned away").
+-- The number of each refusal (document 01, "What is turned away"; document 02).
 use Prim.Native.Nat.{ℕ}
 use Rattle.refusal.specs.declared.Refusal.{Refusal}
 use Rattle.refusal.specs.declared.Refusal.the-variants.{Alphabet, TextLength, TextByte, MisplacedSign, Depth, Count, Bracket, Foreign, Letters}
-use Rattle.refusal.specs.declared.Refusal.the-variants.{FormMemory, BadForm, Matrix, Cost, OutputMemory, Work, NoReading, Label, Sheet}
+use Rattle.refusal.specs.declared.Refusal.the-variants.{FormMemory, BadForm, Matrix, Cost, OutputMemory, Work, NoReading, Label, Sheet, ClassName}
 
 abbrev pub numberOf : Refusal → ℕ
 numberOf Alphabet = 1
@@ -23,3 +23,4 @@ numberOf Work = 15
 numberOf NoReading = 16
 numberOf Label = 17
 numberOf Sheet = 18
+numberOf ClassName = 19

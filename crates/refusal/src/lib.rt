@@ -1,8 +1,8 @@
-// What is turned away: the refusals of document 01, and the answer of a call that fills one list.
+// What is turned away: the refusals of documents 01 and 02, and the answer of a call that fills one list.
 ghost use mathlib.Core.Path.{_≡_};
 ghost use Rattle.refusal.specs.Number.{numberOf};
 
-// The refusals, in the order of document 01.
+// The refusals, in the order of their numbers.
 pub enum Refusal {
     Alphabet,
     TextLength,
@@ -22,6 +22,7 @@ pub enum Refusal {
     NoReading,
     Label,
     Sheet,
+    ClassName,
 }
 
 // The answer of a call that fills one list: how many elements it wrote, or why it turned the input away.
@@ -59,5 +60,6 @@ pub fn number(r: Refusal) -> u32
         Refusal::NoReading => 16,
         Refusal::Label => 17,
         Refusal::Sheet => 18,
+        Refusal::ClassName => 19,
     }
 }

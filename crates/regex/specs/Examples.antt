@@ -2,7 +2,7 @@
 -- each refusal and for each tie of places.
 use mathlib.Core.Path.{_≡_, refl}
 use mathlib.Core.Option.{none}
-use mathlib.Core.List.{List, [], _∷_, _++_}
+use mathlib.Core.List.{List, [], _∷_, _++_, flatMap}
 use mathlib.Core.Bool.{Bool, true, false, _&&_}
 use Prim.Native.Nat.{ℕ, zero, suc, _-_}
 use Prim.Native.Char.{code}
@@ -10,16 +10,17 @@ use Prim.Native.String.{String}
 use lib.ListN.{length}
 use lib.Dec.{eqb}
 use Rattle.refusal.specs.declared.Refusal.{Refusal}
-use Rattle.refusal.specs.declared.Refusal.the-variants.{MisplacedSign, Depth, Bracket, Foreign}
+use Rattle.refusal.specs.declared.Refusal.the-variants.{MisplacedSign, Depth, Bracket, Foreign, ClassName}
 use Rattle.refusal.specs.declared.Refusal.the-variants as refusal
 use Rattle.refusal.specs.Number.{numberOf}
 use Rattle.text.specs.Bytes.{bytes}
-use Rattle.regex.specs.Tree.{range, Count, between, onward, except, Tree, set, group, times, join, either}
+use Rattle.regex.specs.Tree.{range, Count, between, onward, only, except, Tree, set, group, times, join, either}
 use Rattle.regex.specs.Letters.{labelsOf, letterCount}
+use Rattle.regex.specs.Classes.{classes, look-up, class-ranges}
 use Rattle.regex.specs.Parsing.{Parsing, found, fault, then, enclosed}
 use Rattle.text.specs.Text.{split}
 use Rattle.lists.specs.Cases.{first-of, provided}
-use Rattle.regex.specs.Sets.{closed, reserved, items, members, inside, bracket, alone, escaped, a-set, labelled-set}
+use Rattle.regex.specs.Sets.{Sign, byte, class, closed, reserved, items, members, ranges-of, known, inside, bracket, alone, escaped, a-set, labelled-set}
 use Rattle.regex.specs.Repetition.{number, from-on, from-to, comma, counts, sign, repetition}
 use Rattle.regex.specs.Parse.{grouped, step, go, parse, whole, expressionOf}
 
@@ -93,9 +94,43 @@ bracket-cases =
     -- `]` as first item is ordinary
     letters-of "[]]" 1 ∷ letters-of "[^]]" 12 ∷ letters-of "[]-a]" 3 ∷ letters-of "[]-]" 2 ∷ refused-as "[]" Bracket 0 ∷ refused-as "[^]" Bracket 0 ∷
     refused-as "[" Bracket 0 ∷ refused-as "[a" Bracket 0 ∷ refused-as "a[b" Bracket 1 ∷
-    -- `[.` `[=` `[:` inside
+    -- `[.` `[=` inside
     letters-of "[.]" 1 ∷ letters-of "[=]" 1 ∷ letters-of "[:a:]" 2 ∷ letters-of "[[a]" 2 ∷ letters-of "[\\a]" 2 ∷ refused-as "[A-[.]" Bracket 0 ∷
-    refused-as "[[.]" Bracket 0 ∷ refused-as "[a[=]" Bracket 0 ∷ refused-as "[[:a:]]" Bracket 0 ∷ refused-as "[^[:a]" Bracket 0 ∷ []
+    refused-as "[[.]" Bracket 0 ∷ refused-as "[a[=]" Bracket 0 ∷ []
+
+-- over `+-.:=A[]\`ab}`: classes
+class-cases : List Case
+class-cases =
+    -- beside other items, complemented, and as a plain set if the bracket itself begins with `[:`
+    letters-of "[[:alpha:]]" 3 ∷ letters-of "[^[:alpha:]]" 10 ∷ letters-of "[-[:alpha:]+]" 5 ∷ letters-of "[[:alpha:][:punct:]]" 13 ∷
+    letters-of "[][:alpha:]]" 4 ∷ letters-of "[^][:alpha:]]" 9 ∷ letters-of "[[[:upper:]]" 2 ∷ letters-of "[[:upper:]a-b]" 3 ∷
+    letters-of "[a-b[:upper:]-]" 4 ∷ letters-of "[[:upper:]]]" 2 ∷ letters-of "a[[:upper:]]b" 3 ∷ letters-of "[[:upper:]]{3}" 3 ∷
+    letters-of "[:alpha:]" 2 ∷ letters-of "[:[:upper:]:]" 2 ∷ letters-of "[[:alpha:]:]]" 5 ∷
+    -- a class without a label adds nothing
+    letters-of "[[:digit:]a]" 1 ∷ letters-of "[^[:digit:]]" 13 ∷ refused-as "[[:digit:]]" Foreign 0 ∷ refused-as "[[:cntrl:]]" Foreign 0 ∷
+    refused-as "[^[:print:]]" Foreign 0 ∷ refused-as "a[[:digit:]c]" Foreign 1 ∷
+    -- 7: a class as a range's end, either end
+    refused-as "[a-[:alpha:]]" Bracket 0 ∷ refused-as "[[:alpha:]-a]" Bracket 0 ∷ refused-as "[--[:alpha:]]" Bracket 0 ∷
+    refused-as "[[:alpha:]-[:alpha:]]" Bracket 0 ∷ refused-as "[[:alpha:]--]" Bracket 0 ∷ letters-of "[[:alpha:]-]" 4 ∷ letters-of "[-[:alpha:]]" 4 ∷
+    -- 7: `[:` without `:]` after it, and unclosed brackets
+    refused-as "[[:]" Bracket 0 ∷ refused-as "[[:]]" Bracket 0 ∷ refused-as "[[:alpha]" Bracket 0 ∷ refused-as "a[b[:alpha]]" Bracket 1 ∷ refused-as "[[:" Bracket 0 ∷
+    refused-as "[[:alpha:" Bracket 0 ∷ refused-as "[[:alpha:]" Bracket 0 ∷ refused-as "[[:alpha:a]]" Bracket 0 ∷ refused-as "[^[:a]" Bracket 0 ∷
+    -- 7: `[.` and `[=` anywhere inside, also within a name
+    refused-as "[[:a[.:]]" Bracket 0 ∷ refused-as "[[:[=:]]" Bracket 0 ∷ refused-as "[[:alpha:][.]" Bracket 0 ∷ refused-as "[[:x:][=a]" Bracket 0 ∷
+    -- 19: an unknown or empty name
+    refused-as "[[:a:]]" ClassName 0 ∷ refused-as "[[::]]" ClassName 0 ∷ refused-as "ab[^[:Alpha:]]" ClassName 2 ∷ refused-as "[[:alpha :]]" ClassName 0 ∷
+    refused-as "[[:alph:]]" ClassName 0 ∷ refused-as "[[:alphaa:]]" ClassName 0 ∷ refused-as "[a[:alpha:][:x:]]" ClassName 0 ∷
+    -- after 7, wherever that fault is in the bracket
+    refused-as "[[:x:]b-a]" Bracket 0 ∷ refused-as "[b-a[:x:]]" Bracket 0 ∷ refused-as "[[:x:]-a]" Bracket 0 ∷ refused-as "[a-[:x:]]" Bracket 0 ∷
+    refused-as "[[:x:]" Bracket 0 ∷
+    -- before 8
+    refused-as "[[:x:]c]" ClassName 0 ∷ refused-as "[c[:x:]]" ClassName 0 ∷ refused-as "[[:digit:][:x:]]" ClassName 0 ∷ refused-as "[^[:print:][:x:]]" ClassName 0 ∷
+    -- the nearest `:]`, wherever it is; a `]` in a name closes nothing; a colon belongs to one sign
+    refused-as "[[:a]b:]]" ClassName 0 ∷ refused-as "[[:x]|[[:alpha:]]" ClassName 0 ∷ refused-as "[[:a[:]]" ClassName 0 ∷
+    refused-as "[[:[:alpha:]]" ClassName 0 ∷ refused-as "[[:alpha::]]" ClassName 0 ∷ refused-as "[[:]:]]" ClassName 0 ∷
+    -- the leftmost fault
+    refused-as "c[[:x:]]" Foreign 0 ∷ refused-as "[[:x:]]c" ClassName 0 ∷ refused-as "[[:x:]]**" ClassName 0 ∷ refused-as "*[[:x:]]" MisplacedSign 0 ∷
+    refused-as "[b-a][[:x:]]" Bracket 0 ∷ refused-as "[[:x:]][b-a]" ClassName 0 ∷ refused-as "a{0}[[:x:]]" refusal.Count 1 ∷ []
 
 -- over `^ab`: `^` complements only right after the `[`
 complement-cases : List Case
@@ -123,6 +158,7 @@ sign-texts = bytes "\\^\\.\\[\\$\\(\\)\\|\\*\\+\\?\\{\\\\"
 tried :
     (failing (bytes "ab") text-cases ≡ [])
     × (failing (bytes "+-.:=A[]\\`ab}") bracket-cases ≡ [])
+    × (failing (bytes "+-.:=A[]\\`ab}") class-cases ≡ [])
     × (failing (bytes "^ab") complement-cases ≡ [])
     × (failing (bytes "ba") label-cases ≡ [])
     -- each sign, made ordinary
@@ -138,11 +174,15 @@ tried :
     (join (times (set (alone 97)) (between 2 2)) (join (times (set (alone 97)) (onward 0)) (times (set (alone 97)) (between 1 2))))))) [])
     × (expressionOf (bytes "abc-") (bytes ".([^a-b-]*)")
     ≡ found (join (set (except [])) (group (times (set (except (range 97 98 ∷ range 45 45 ∷ []))) (onward 0)))) [])
-unfolding failing meets text-cases bracket-cases complement-cases label-cases many size signs sign-texts labelsOf letterCount then first-of split enclosed provided closed reserved items members inside bracket escaped a-set labelled-set number from-on from-to comma counts sign repetition grouped step go parse whole expressionOf
-tried = (refl, refl, refl, refl, refl, refl, refl, refl, refl)
+    -- `alpha` and `:`, and then an ordinary `]`
+    × (expressionOf (bytes ":A]") (bytes "[[:alpha:]:]]")
+    ≡ found (join (set (only (range 65 90 ∷ range 97 122 ∷ range 58 58 ∷ []))) (set (alone 93))) [])
+unfolding failing meets text-cases bracket-cases class-cases complement-cases label-cases many size signs sign-texts labelsOf letterCount then first-of split enclosed provided closed reserved items members ranges-of class-ranges look-up classes known flatMap inside bracket escaped a-set labelled-set number from-on from-to comma counts sign repetition grouped step go parse whole expressionOf
+tried = (refl, refl, refl, refl, refl, refl, refl, refl, refl, refl, refl)
 
 -- "A `-` may begin an item only first or just before the closing `]`": in the middle it may not, whatever follows it inside
-hyphen-inside : (b : ℕ) (s : List ℕ) → items false (code "-" ∷ (b ∷ s)) ≡ none
+hyphen-inside : (b : Sign) (s : List Sign) → items false (byte (code "-") ∷ (b ∷ s)) ≡ none
 unfolding items provided
-hyphen-inside b [] = refl
-hyphen-inside b (d ∷ s) = refl
+hyphen-inside (byte b) [] = refl
+hyphen-inside (byte b) (d ∷ s) = refl
+hyphen-inside (class n) s = refl

@@ -1,6 +1,7 @@
 pub mod Tree
 pub mod Letters
 pub mod Parsing
+pub mod Classes
 pub mod Sets
 pub mod Repetition
 pub mod Parse
@@ -9,6 +10,8 @@ pub mod Examples
 pub mod SignExamples
 pub mod SaysLaws
 pub mod OwnLaws
+pub mod ClosedLaws
+pub mod RangesLaws
 pub mod OwnSetsLaws
 pub mod OwnCountsLaws
 pub mod FrontLaws
@@ -20,6 +23,8 @@ pub mod Exact
 pub mod Leftmost
 pub mod TogetherLaws
 pub mod LabelsLaws
+pub mod ClassLaws
+pub mod ClassExamples
 pub mod Few
 pub mod SenseLaws
 pub mod WordExamples

@@ -68,9 +68,9 @@ module _ {W R : Type 0} (f : W → List ℕ → R) (gives : List ℕ → R) wher
       by [] e a = absurd (no-bytes (a w []))
       by (x ∷ u) e a = let q : b ≡ x = cc in record { own = x ∷ u; splits = e; alone = λ w v. (rw q at (h w (u ++ v))) ∙ a w v }
 
--- The end of an enclosure.
+-- The end of an enclosure, with what is inside.
 
-abbrev pub Ends : (List ℕ → Option (List ℕ × List ℕ)) → List ℕ → Option (List ℕ × List ℕ) → Type 0
+abbrev pub Ends : {I : Type 0} → (List ℕ → Option (I × List ℕ)) → List ℕ → Option (I × List ℕ) → Type 0
 Ends f s none = Unit {0}
 Ends f s (some x) = Own {W = Unit {0}} (λ _. f) (λ v. some (x .0, v)) s (x .1)
 
@@ -93,16 +93,16 @@ split-ends c (b ∷ s) = by (eqb b (code c)) refl (split-ends c s)
     by false e h = ends-more (split c) (split c) b s (λ t. rw (e, split)) (split c s) h
 
 -- what is found inside, from the bytes up to its end
-abbrev pub Inside : {X : Type 0} → Refusal → (List ℕ → Option X) → (List ℕ → Option (List ℕ × List ℕ)) → List ℕ → X → List ℕ → Type 0
-Inside n f g s a r = Own {W = List ℕ} (λ w t. enclosed n w f (g t)) (found a) s r × (i : List ℕ) × (f i ≡ some a)
+abbrev pub Inside : {I X : Type 0} → Refusal → (I → Option X) → (List ℕ → Option (I × List ℕ)) → List ℕ → X → List ℕ → Type 0
+Inside {I} n f g s a r = Own {W = List ℕ} (λ w t. enclosed n w f (g t)) (found a) s r × (i : I) × (f i ≡ some a)
 
 pub enclosed-own :
-    {X : Type 0} (n : Refusal) (w : List ℕ) (f : List ℕ → Option X) (g : List ℕ → Option (List ℕ × List ℕ)) (s : List ℕ) →
+    {I X : Type 0} (n : Refusal) (w : List ℕ) (f : I → Option X) (g : List ℕ → Option (I × List ℕ)) (s : List ℕ) →
     Ends g s (g s) → Says (Inside n f g s) (Here w) (enclosed n w f (g s))
 unfolding enclosed
 enclosed-own n w f g s h = enclosed-says (Inside n f g s) (Here w) n w f (g s) refl (λ x a e q. by x a q (rw e at h))
   where
-    by : (x : List ℕ × List ℕ) (a : _) → f (x .0) ≡ some a → Ends g s (some x) → Inside n f g s a (x .1)
+    by : (x : _ × List ℕ) (a : _) → f (x .0) ≡ some a → Ends g s (some x) → Inside n f g s a (x .1)
     by x a q o = (record { own = o .own; splits = o .splits; alone = λ w v. rw (o .alone tt v, enclosed) (rw q) }, x .0, q)
 
 -- what is found is parsed from its own bytes

@@ -1,44 +1,47 @@
 -- A set is parsed from its own bytes alone and has a label, or is refused at its first byte.
-use mathlib.Core.Path.{_≡_, refl, sym, subst}
-use mathlib.Core.Option.{some}
+use mathlib.Core.Path.{_≡_, refl}
+use mathlib.Core.Option.{Option, some, none}
 use mathlib.Core.List.{List, [], _∷_}
 use mathlib.Core.Bool.{Bool, true, false}
 use Prim.Native.Nat.{ℕ, _≤_}
 use Prim.Native.Char.{code}
 use native.Mathlib.Omega.{arith}
 use lib.Dec.{eqb}
-use borrow.Author.Tests.{eqb-true, eqb-false}
+use borrow.Author.Tests.{eqb-false}
 use Rattle.refusal.specs.declared.Refusal.the-variants as refusal
 use Rattle.regex.specs.Tree.{Range, Set, only, except}
 use Rattle.regex.specs.Letters.{labelsOf}
 use Rattle.regex.specs.Parsing.{found, fault, then, enclosed}
-use Rattle.text.specs.Text.{in-front, split}
 use Rattle.lists.specs.Cases.{first-of}
-use Rattle.regex.specs.Sets.{closed, members, inside, bracket, special, escaped, a-set, labelled-set}
+use Rattle.regex.specs.Sets.{Sign, closed, Item, members, ranges-of, known, inside, bracket, special, escaped, a-set, labelled-set}
+use Rattle.regex.specs.ClosedLaws.{Writes, closed-written}
 use Rattle.regex.specs.SaysLaws.{Says, branch-says, first-says, then-says, says-map}
-use Rattle.regex.specs.OwnLaws.{Here, own-one, own-more, own-map, own-same, Ends, ends-more, split-ends, enclosed-own, OwnAs, Alone}
+use Rattle.regex.specs.OwnLaws.{Here, Own, own-one, own-more, own-same, Ends, enclosed-own, OwnAs, Alone}
 
-closed-ends : (s : List ℕ) → Ends closed s (closed s)
-unfolding closed split
-closed-ends [] = tt
-closed-ends (b ∷ s) = by (eqb b (code "]")) refl
+closed-ends : (s : List ℕ) → Ends (closed true) s (closed true s)
+closed-ends s = by (closed true s) (closed-written true s)
   where
-    by : (t : Bool) → eqb b (code "]") ≡ t → Ends closed (b ∷ s) (elim t [ true ↦ in-front (code "]") (split "]" s) | false ↦ split "]" (b ∷ s) ])
-    by true e = let q : b ≡ code "]" = eqb-true b (code "]") e in
-        rw q (ends-more closed (split "]") (code "]") s (λ t. refl) (split "]" s) (split-ends "]" s))
-    by false e =
-        subst (λ (t : Bool). Ends closed (b ∷ s) (elim t [ true ↦ some ([], s) | false ↦ in-front b (split "]" s) ])) (sym e)
-        (ends-more closed (split "]") b s (λ t. rw (e, closed) (rw (e, split))) (split "]" s) (split-ends "]" s))
+    by : (y : Option (List Sign × List ℕ)) → Writes (closed true) [] s y → Ends (closed true) s y
+    by none o = tt
+    by (some x) o = record { own = o .own; splits = o .splits; alone = λ w v. o .alone v }
 
 inside-says : (f : List Range → Set) (w s : List ℕ) → Says (OwnAs (inside f) s) (Here w) (inside f w s)
-unfolding inside then
+unfolding inside then known
 inside-says f w s =
-    then-says _ (OwnAs (inside f) s) (Here w) (Here w) (enclosed refusal.Bracket w members (closed s)) _
-    (enclosed-own refusal.Bracket w members closed s (closed-ends s)) (λ n r h. h)
-    (λ rs r h. own-map (λ w t. enclosed refusal.Bracket w members (closed t)) (found rs) (λ x. then x (λ rs r. found (f rs) r)) s r (h .0))
+    then-says _ (OwnAs (inside f) s) (Here w) (Here w) (enclosed refusal.Bracket w members (closed true s)) (known f w)
+    (enclosed-own refusal.Bracket w members (closed true) s (closed-ends s)) (λ n r h. h)
+    (λ is r h. by is r (ranges-of is) refl (h .0))
+  where
+    by :
+        (is : List Item) (r : List ℕ) (y : Option (List Range)) → ranges-of is ≡ y →
+        Own {W = List ℕ} (λ w t. enclosed refusal.Bracket w members (closed true t)) (found is) s r →
+        Says (OwnAs (inside f) s) (Here w) (elim y [ none ↦ fault refusal.ClassName w | some rs ↦ found (f rs) r ])
+    by is r none e o = refl
+    by is r (some rs) e o =
+        record { own = o .own; splits = o .splits; alone = λ w v. rw (o .alone w v, inside) (rw (e, known)) }
 
 inside-none : (f : List Range → Set) (w : List ℕ) → inside f w [] ≡ fault refusal.Bracket w
-unfolding inside then enclosed closed split
+unfolding inside then enclosed closed
 inside-none f w = refl
 
 bracket-says : (w s : List ℕ) → Says (OwnAs bracket s) (Here w) (bracket w s)

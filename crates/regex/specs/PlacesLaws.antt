@@ -1,6 +1,8 @@
 -- Every fault that the parser gives is at its place.
 use mathlib.Core.Path.{_≡_, refl, ap₂}
-use mathlib.Core.List.{List, [], _∷_}
+use mathlib.Core.Logic.{_⊎_, inl, inr}
+use mathlib.Core.Option.{Option, some, none}
+use mathlib.Core.List.{List, [], _∷_, flatMap}
 use mathlib.Core.Bool.{Bool, true, false, _||_}
 use Prim.Native.Nat.{ℕ, zero, suc, _<_}
 use Prim.Native.Char.{code}
@@ -12,18 +14,19 @@ use Rattle.lists.specs.Each.{all}
 use Rattle.refusal.specs.declared.Refusal.{Refusal}
 use Rattle.refusal.specs.declared.Refusal.the-variants as refusal
 use Rattle.text.specs.Bytes.{bytes}
-use Rattle.regex.specs.Tree.{Range, Count, Set, only, except, Tree}
+use Rattle.regex.specs.Tree.{Range, range, Count, Set, only, except, Tree}
 use Rattle.regex.specs.Letters.{labelsOf}
+use Rattle.regex.specs.Classes.{classes, look-up, class-ranges}
 use Rattle.regex.specs.Parsing.{Parsing, found, fault, then, enclosed}
 use Rattle.text.specs.Text.{one-of, next, rest, split}
 use Rattle.lists.specs.Cases.{first-of, provided}
-use Rattle.regex.specs.Sets.{closed, reserved, items, members, inside, bracket, special, escaped, a-set, labelled-set}
+use Rattle.regex.specs.Sets.{closed, reserved, items, members, ranges-of, known, inside, bracket, special, alone, escaped, a-set, labelled-set}
 use Rattle.regex.specs.Repetition.{repeats, number, from-to, counts, sign, repetition}
 use Rattle.regex.specs.Parse.{Mode, m-alternation, m-branch, m-piece, m-group, ends, grouped, step, measure, parse, whole, expressionOf}
 use Rattle.regex.specs.OwnLaws.{of-one}
 use Rattle.regex.specs.SaysLaws.{Says, of-fault, says-found, branch-says, first-says, enclosed-says, then-says}
 use Rattle.regex.specs.StepsLaws.{rest-length, rest-less, parse-forward, parse-step}
-use Rattle.regex.specs.Places.{misplaced, Place, at-sign, at-group, at-braces, at-bracket, at-set}
+use Rattle.regex.specs.Places.{misplaced, Place, at-sign, at-group, at-braces, at-bracket, at-class, at-set}
 
 end-misplaced : (s : List ℕ) → ends s ≡ true → misplaced s ≡ true
 end-misplaced [] e = refl
@@ -58,15 +61,31 @@ module _ (A : List ℕ) where
   at-placed n w (found a r) h g = tt
   at-placed n w (fault m r) h g = rw (h .0, h .1) (g (ap₂ fault (h .0) (h .1)))
 
-  inside-at : (f : List Range → Set) (w s : List ℕ) → Says Any (At refusal.Bracket w) (inside f w s)
-  unfolding inside
-  inside-at f w s =
-      then-says Any Any (At refusal.Bracket w) (At refusal.Bracket w) (enclosed refusal.Bracket w members (closed s)) _
-      (enclosed-says Any (At refusal.Bracket w) refusal.Bracket w members (closed s) (refl, refl) (λ x rs e q. tt)) (λ n r p. p) (λ rs r h. tt)
+  -- refusal 7 or 19, at the text w
+  abbrev AtBracket : List ℕ → Refusal → List ℕ → Type 0
+  AtBracket w m r = At refusal.Bracket w m r ⊎ At refusal.ClassName w m r
 
-  bracket-at : (w s : List ℕ) → Says Any (At refusal.Bracket w) (bracket w s)
+  inside-at : (f : List Range → Set) (w s : List ℕ) → Says Any (AtBracket w) (inside f w s)
+  unfolding inside known
+  inside-at f w s =
+      then-says Any Any (At refusal.Bracket w) (AtBracket w) (enclosed refusal.Bracket w members (closed true s)) (known f w)
+      (enclosed-says Any (At refusal.Bracket w) refusal.Bracket w members (closed true s) (refl, refl) (λ x is e q. tt)) (λ n r p. inl p)
+      (λ is r h. by (ranges-of is) r)
+    where
+      by : (y : Option (List Range)) (r : List ℕ) → Says {X = Set} Any (AtBracket w) (elim y [ none ↦ fault refusal.ClassName w | some rs ↦ found (f rs) r ])
+      by none r = inr (refl, refl)
+      by (some rs) r = tt
+
+  bracket-at : (w s : List ℕ) → Says Any (AtBracket w) (bracket w s)
   unfolding bracket
-  bracket-at w s = branch-says Any (At refusal.Bracket w) (next "^" s) _ _ (λ e. inside-at except w (rest s)) (λ e. inside-at only w s)
+  bracket-at w s = branch-says Any (AtBracket w) (next "^" s) _ _ (λ e. inside-at except w (rest s)) (λ e. inside-at only w s)
+
+  bracket-placed :
+      (w : List ℕ) (x : Parsing Set) → Says Any (AtBracket w) x → (x ≡ fault refusal.Bracket w → Place A refusal.Bracket w) →
+      (x ≡ fault refusal.ClassName w → Place A refusal.ClassName w) → Placed Any x
+  bracket-placed w (found c r) h f g = tt
+  bracket-placed w (fault m r) (inl h) f g = at-placed refusal.Bracket w (fault m r) h f
+  bracket-placed w (fault m r) (inr h) f g = at-placed refusal.ClassName w (fault m r) h g
 
   escaped-placed : (w s : List ℕ) → misplaced w ≡ true → Placed Any (escaped w s)
   unfolding escaped
@@ -81,7 +100,8 @@ module _ (A : List ℕ) where
       or-else (eqb b (code "\\")) _ _ _ (λ e₁. escaped-placed (b ∷ s) s (rw (eqb-true b (code "\\") e₁)))
       (λ e₁. or-else (eqb b (code ".")) _ _ _ (λ e₂. tt)
       (λ e₂. or-else (eqb b (code "[")) _ _ _
-      (λ e₃. at-placed refusal.Bracket (b ∷ s) (bracket (b ∷ s) s) (bracket-at (b ∷ s) s) (λ q. at-bracket e₃ (rw (e₁, a-set) (rw (e₂, e₃) q))))
+      (λ e₃. bracket-placed (b ∷ s) (bracket (b ∷ s) s) (bracket-at (b ∷ s) s)
+      (λ q. at-bracket e₃ (rw (e₁, a-set) (rw (e₂, e₃) q))) (λ q. at-class e₃ (rw (e₁, a-set) (rw (e₂, e₃) q))))
       (λ e₃. or-else (special b) _ _ _ (λ e₄. at-sign (special-misplaced b s e₄ (rw (k, e₂, e₃)))) (λ e₄. tt))))
 
   labelled-set-placed : (s : List ℕ) → next "(" s ≡ false → Placed Any (labelled-set A s)
@@ -169,20 +189,35 @@ module _ (A : List ℕ) where
       (parse-placed (suc (measure m-alternation s)) m-alternation 16 s (omega arith)) whole-placed)
       e
 
--- A text with nothing wrong at its front is no such place: `a`, `{2}`, `[a]`, and over `a` the character itself.
+-- A text with nothing wrong at its front is no such place: `a`, `{2}`, `[a]`, `[[:lower:]]`, and over `a` the
+-- character itself.
 record NoPlaces : Type 0 where
   sign-place : Place (bytes "a") refusal.MisplacedSign (bytes "a") → ⊥
   group-place : Place (bytes "a") refusal.Depth (bytes "a") → ⊥
   braces-place : Place (bytes "a") refusal.Count (bytes "{2}") → ⊥
   bracket-place : Place (bytes "a") refusal.Bracket (bytes "[a]") → ⊥
+  class-place : Place (bytes "a") refusal.ClassName (bytes "[[:lower:]]") → ⊥
   set-place : Place (bytes "a") refusal.Foreign (bytes "a") → ⊥
 
+plain-bracket : a-set (bytes "[a]") ≡ found (only (range 97 97 ∷ [])) []
+unfolding a-set first-of bracket inside enclosed closed members reserved items provided flatMap ranges-of known then
+plain-bracket = refl
+
+known-class : a-set (bytes "[[:lower:]]") ≡ found (only (range 97 122 ∷ [])) []
+unfolding a-set first-of bracket inside enclosed closed members reserved items provided flatMap ranges-of class-ranges look-up classes known then
+known-class = refl
+
+character : (a-set (bytes "a") ≡ found (alone 97) []) × (labelsOf (bytes "a") (alone 97) ≡ 1)
+unfolding a-set first-of labelsOf
+character = (refl, refl)
+
 no-places : NoPlaces
-unfolding sign first-of enclosed split counts number from-to provided a-set bracket inside closed members reserved items then labelsOf
+unfolding sign first-of enclosed split counts number from-to provided
 no-places = record {
   sign-place = elim [ at-sign e ↦ let z : _≡_ {A = ℕ} 0 1 = cc in omega arith ];
   group-place = elim [ at-group e ↦ let z : _≡_ {A = ℕ} 0 1 = cc in omega arith ];
   braces-place = elim [ at-braces k e ↦ let z : _≡_ {A = ℕ} 0 1 = cc in omega arith ];
-  bracket-place = elim [ at-bracket k e ↦ let z : _≡_ {A = ℕ} 0 1 = cc in omega arith ];
-  set-place = elim [ at-set c v e l ↦ let z : _≡_ {A = ℕ} 0 1 = cc in omega arith ];
+  bracket-place = elim [ at-bracket k e ↦ let q = plain-bracket in let z : _≡_ {A = ℕ} 0 1 = cc in omega arith ];
+  class-place = elim [ at-class k e ↦ let q = known-class in let z : _≡_ {A = ℕ} 0 1 = cc in omega arith ];
+  set-place = elim [ at-set c v e l ↦ let q = character .0 in let m = character .1 in let z : _≡_ {A = ℕ} 0 1 = cc in omega arith ];
 }

@@ -11,7 +11,7 @@ use Rattle.text.specs.Bytes.{bytes}
 use Rattle.regex.specs.Tree.{range, only, except, Tree, set}
 use Rattle.regex.specs.Letters.{labelsOf}
 use Rattle.regex.specs.Parsing.{Parsing, found, fault, then, enclosed}
-use Rattle.text.specs.Text.{one-of, split}
+use Rattle.text.specs.Text.{one-of}
 use Rattle.lists.specs.Cases.{first-of}
 use Rattle.regex.specs.Sets.{closed, inside, bracket, escaped, a-set, labelled-set}
 use Rattle.regex.specs.Parse.{grouped, step, go, parse, whole, expressionOf}
@@ -52,5 +52,5 @@ record Examples : Type 0 where
       ≡ map (λ b. fault MisplacedSign (b ∷ [])) (keep (λ b. misplaced (b ∷ [])) every)
 
 examples : Examples
-unfolding keep numbers labelsOf then first-of split enclosed closed inside bracket escaped a-set labelled-set grouped step go parse whole expressionOf
+unfolding keep numbers labelsOf then first-of enclosed closed inside bracket escaped a-set labelled-set grouped step go parse whole expressionOf
 examples = record { others = refl; character = refl; sign = refl; escaped-sign = refl; escaped-character = refl; misplaced-signs = refl }

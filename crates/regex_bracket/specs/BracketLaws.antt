@@ -1,27 +1,34 @@
--- The bracket at a place of a text: its first item and its closing `]`, its end and its members.
+-- The bracket at a place of a text: its first sign and its closing `]`, its end and its members.
 use mathlib.Core.Path.{_≡_, refl, sym, ap, _∙_}
-use mathlib.Core.Option.{Option, some, none}
-use mathlib.Core.List.{List, _∷_}
-use mathlib.Core.Bool.{Bool, true, false, cond, not}
 use mathlib.Core.Logic.{_⊎_, inl, inr}
-use Prim.Native.Nat.{ℕ, suc, _+_, _-_, _≤_, _<_}
+use mathlib.Core.Option.{Option, some, none}
+use mathlib.Core.List.{List, [], _∷_, _++_, append-assoc, flatMap}
+use mathlib.Core.Bool.{Bool, true, false, cond, not}
+use Prim.Native.Nat.{ℕ, _+_, _-_, _≤_, _<_}
 use Prim.Native.Char.{code}
 use native.Mathlib.Omega.{arith}
-use lib.ListN.{length, getD, drop, take}
+use lib.ListN.{length, getD, drop, take, length-drop, length-append}
+use lib.Seq.{take-append-seam}
 use lib.Dec.{eqb}
-use borrow.Author.Tests.{eqb-true, eq-eqb, ne-eqb}
-use Rattle.lists.specs.EachLaws.{drop-here}
+use borrow.Author.Tests.{eq-eqb, ne-eqb, lt-ltb, le-ltb}
+use Rattle.lists.specs.Cases.{provided}
+use Rattle.lists.specs.EachLaws.{drop-all}
+use Rattle.lists.specs.Options.{is-some, listed}
+use Rattle.lists.specs.OptionsLaws.{some-found, none-found}
 use Rattle.lists.specs.OrderLaws.{lt-or-le, not-both}
 use Rattle.refusal.specs.declared.Refusal.the-variants as refusal
+use Rattle.text.specs.Text.{rest, in-front}
+use Rattle.text.specs.TextLaws.{next-at, rest-at, place-drop}
 use Rattle.regex.specs.Tree.{Range, Set, only, except, member, among}
 use Rattle.regex.specs.Parsing.{Parsing, found, fault, then, enclosed}
-use Rattle.text.specs.Text.{rest, in-front, split}
-use Rattle.text.specs.Places.{until}
-use Rattle.regex.specs.Sets.{closed, members, inside, bracket}
-use Rattle.text.specs.TextLaws.{split-found, split-missing, byte-within, next-at, rest-at, place-drop}
-use Rattle.regex_items.specs.Items.{is-some, listed}
+use Rattle.regex.specs.Sets.{Sign, closes, closed, sign-bytes, reserved, Item, items, members, ranges-of, known, inside, bracket}
+use Rattle.regex.specs.ClosedLaws.{Written, closed-written}
+use Rattle.regex_signs.specs.Signs.{sign, past, signs}
+use Rattle.regex_signs.specs.SignsLaws.{closed-at, step-at, past-some}
+use Rattle.regex_items.specs.Items.{Closing, left, resolved}
+use Rattle.regex_items.specs.LeftLoops.{left-first, closing-first}
 use Rattle.regex_bracket.specs.declared.End.the-variants as end
-use Rattle.regex_bracket.specs.Answers.{endOf, setOf, is-found, opened, closing, bracketAt}
+use Rattle.regex_bracket.specs.Answers.{endOf, setOf, is-found, opened, after, beyond, formed, bracketAt}
 
 pub opened-except : (text : List ℕ) (at : ℕ) → getD text (at + 1) 0 ≡ code "^" → at + 2 ≡ opened text at
 unfolding opened
@@ -31,81 +38,94 @@ pub opened-only : (text : List ℕ) (at : ℕ) → (getD text (at + 1) 0 ≡ cod
 unfolding opened
 opened-only text at e = rw (ne-eqb (getD text (at + 1) 0) (code "^") e)
 
-pub opened-within : (text : List ℕ) (at : ℕ) → at < length text → opened text at ≤ length text
-unfolding opened
-opened-within text at l = by (eqb (getD text (at + 1) 0) (code "^")) refl
-  where
-    by : (t : Bool) → eqb (getD text (at + 1) 0) (code "^") ≡ t → cond t (at + 2) (at + 1) ≤ length text
-    by true e =
-        let q = eqb-true (getD text (at + 1) 0) (code "^") e in
-        let k = byte-within text (at + 1) (λ z. omega arith) in
-        omega arith
-    by false e = omega arith
+-- The search for the closing `]`: what the text from place i on gives.
 
-module _ (text : List ℕ) (first : ℕ) where
-  pub closing-first : getD text first 0 ≡ code "]" → first + 1 + until (code "]") (drop (first + 1) text) ≡ closing text first
-  unfolding closing
-  closing-first e = rw (eq-eqb (getD text first 0) (code "]") e)
+after-front : (g : Sign) (y : Option (List Sign × List ℕ)) → after (in-front g y) ≡ after y
+after-front g none = refl
+after-front g (some x) = refl
 
-  pub closing-other : (getD text first 0 ≡ code "]" → ⊥) → first + until (code "]") (drop first text) ≡ closing text first
-  unfolding closing
-  closing-other e = rw (ne-eqb (getD text first 0) (code "]") e)
+module _ (text : List ℕ) (first i : ℕ) where
+  abbrev pub after-from : Option (List ℕ)
+  after-from = after (closed (eqb i first) (drop i text))
 
-  closing-beyond : first ≤ closing text first
-  unfolding closing
-  closing-beyond = by (eqb (getD text first 0) (code "]"))
+  pub after-here : i < length text → closes (eqb i first) (getD text i 0) ≡ true → beyond text i ≡ after-from
+  unfolding beyond
+  after-here l e = rw (lt-ltb i (length text) l) (sym (ap after (closed-at text i (eqb i first) e)))
+
+  pub after-past : first ≤ i → closes (eqb i first) (getD text i 0) ≡ false → after-from ≡ after (closed (eqb (i + past (drop i text)) first) (drop (i + past (drop i text)) text))
+  after-past l e =
+      let n : eqb (i + past (drop i text)) first ≡ false = ne-eqb (i + past (drop i text)) first (λ z. omega (arith, past-some text i)) in
+      ap after (step-at text i (eqb i first) e) ∙ after-front (sign (drop i text)) (closed false (drop (i + past (drop i text)) text))
+      ∙ ap (λ t. after (closed t (drop (i + past (drop i text)) text))) (sym n)
+
+  pub after-end : length text ≤ i → beyond text i ≡ after-from
+  unfolding beyond closed
+  after-end l = rw (le-ltb i (length text) l, drop-all text i l)
+
+pub after-first : (text : List ℕ) (first : ℕ) → after (closed (eqb first first) (drop first text)) ≡ after (closed true (drop first text))
+after-first text first = rw (eq-eqb first first refl)
+
+-- the signs inside, where the first is at `first`
+abbrev inner : List ℕ → ℕ → List Sign
+inner text first = signs (closed true (drop first text))
+
+-- the closing `]` is at e
+record Inside (text : List ℕ) (first e : ℕ) : Type 0 where
+  order : first ≤ e
+  within : e < length text
+  shuts : closed true (drop first text) ≡ some (inner text first, drop (e + 1) text)
+
+module _ {text : List ℕ} {first e : ℕ} (i : Inside text first e) where
+  -- the inside is written as its signs are
+  inside-bytes : take (e - first) (drop first text) ≡ flatMap sign-bytes (inner text first)
+  inside-bytes =
+      let o : Written (closed true) [] (drop first text) (inner text first, drop (e + 1) text) =
+      (rw (i .shuts) at (closed-written true (drop first text))) in
+      let bs = flatMap sign-bytes (inner text first) in
+      let q : drop first text ≡ bs ++ (code "]" ∷ drop (e + 1) text) =
+      o .splits ∙ ap (λ (u : List ℕ). u ++ drop (e + 1) text) (o .reads) ∙ append-assoc bs (code "]" ∷ []) (drop (e + 1) text) in
+      let n : length text - first ≡ length bs + length (code "]" ∷ drop (e + 1) text) =
+      sym (length-drop first text) ∙ ap length q ∙ length-append bs (code "]" ∷ drop (e + 1) text) in
+      let m = length-drop (e + 1) text in
+      let l = i .within in
+      let h = i .order in
+      let k : e - first ≡ length bs = omega arith in
+      ap (λ n. take n (drop first text)) k ∙ ap (take (length bs)) q ∙ take-append-seam bs (code "]" ∷ drop (e + 1) text)
+
+  inside-members : formed (closed true (drop first text)) ≡ members (inner text first)
+  inside-members = ap formed (i .shuts)
+
+-- The closing `]` is at e, or there is none.
+module _ (text : List ℕ) (first e : ℕ) (order : first ≤ e) (is : beyond text e ≡ after (closed true (drop first text))) where
+  pub formed-open : length text ≤ e → false ≡ is-some (formed (closed true (drop first text)))
+  unfolding beyond
+  formed-open l = by (closed true (drop first text)) (sym is ∙ rw (le-ltb e (length text) l))
     where
-      by : (t : Bool) → first ≤ cond t (first + 1 + until (code "]") (drop (first + 1) text)) (first + until (code "]") (drop first text))
-      by true = omega arith
-      by false = omega arith
+      by : (y : Option (List Sign × List ℕ)) → after y ≡ none → false ≡ is-some (formed y)
+      by none k = refl
+      by (some x) k = let z : _≡_ {A = ℕ} 0 1 = cc in absurd (omega arith)
 
-  take-here :
-      (e : ℕ) → first < length text → first < e →
-      take (e - first) (drop first text) ≡ getD text first 0 ∷ take (e - (first + 1)) (drop (first + 1) text)
-  take-here e l h = let n : e - first ≡ suc (e - (first + 1)) = omega arith in rw (drop-here 0 text first l, n)
+  module _ (l : e < length text) where
+    is-inside : Inside text first e
+    unfolding beyond
+    is-inside = record { order = order; within = l; shuts = by (closed true (drop first text)) (sym is ∙ rw (lt-ltb e (length text) l)) }
+      where
+        by : (y : Option (List Sign × List ℕ)) → after y ≡ some (drop (e + 1) text) → y ≡ some (signs y, drop (e + 1) text)
+        by none k = let z : _≡_ {A = ℕ} 0 1 = cc in absurd (omega arith)
+        by (some x) k = let q : x .1 ≡ drop (e + 1) text = cc in ap (λ (r : List ℕ). some (x .0, r)) q
 
-  -- the inside is what is between
-  closed-found :
-      closing text first < length text →
-      closed (drop first text) ≡ some (take (closing text first - first) (drop first text), drop (closing text first + 1) text)
-  unfolding closing closed
-  closed-found l = rw (next-at "]" text first refl, closed) (by (eqb (getD text first 0) (code "]")) refl (closing text first) refl l)
-    where
-      by :
-          (t : Bool) → eqb (getD text first 0) (code "]") ≡ t → (e : ℕ) →
-          e ≡ cond t (first + 1 + until (code "]") (drop (first + 1) text)) (first + until (code "]") (drop first text)) → e < length text →
-          _≡_ {A = Option (List ℕ × List ℕ)} (elim t [
-            | true ↦ in-front (code "]") (split "]" (rest (drop first text)))
-            | false ↦ split "]" (drop first text)
-          ]) (some (take (e - first) (drop first text), drop (e + 1) text))
-      by true q e k l =
-          ap (λ s. in-front (code "]") (split "]" s)) (rest-at text first)
-          ∙ ap (in-front (code "]")) (split-found "]" text (first + 1) e k l)
-          ∙ rw (take-here e (omega arith) (omega arith), eqb-true (getD text first 0) (code "]") q)
-      by false q e k l = split-found "]" text first e k l
+    pub formed-reserved : reserved (take (e - first) (drop first text)) ≡ true → false ≡ is-some (formed (closed true (drop first text)))
+    unfolding members provided
+    formed-reserved r =
+        let q : members (inner text first) ≡ none = rw (sym (inside-bytes is-inside), members) (rw r) in
+        sym (ap is-some (inside-members is-inside ∙ q))
 
-  closed-missing : first ≤ length text → length text ≤ closing text first → closed (drop first text) ≡ none
-  unfolding closing closed
-  closed-missing h l = rw (next-at "]" text first refl, closed) (by (eqb (getD text first 0) (code "]")) refl (closing text first) refl l)
-    where
-      by :
-          (t : Bool) → eqb (getD text first 0) (code "]") ≡ t → (e : ℕ) →
-          e ≡ cond t (first + 1 + until (code "]") (drop (first + 1) text)) (first + until (code "]") (drop first text)) → length text ≤ e →
-          _≡_ {A = Option (List ℕ × List ℕ)} (elim t [
-            | true ↦ in-front (code "]") (split "]" (rest (drop first text)))
-            | false ↦ split "]" (drop first text)
-          ]) none
-      by true q e k l =
-          let c = eqb-true (getD text first 0) (code "]") q in
-          let w = byte-within text first (λ z. omega arith) in
-          ap (λ s. in-front (code "]") (split "]" s)) (rest-at text first)
-          ∙ ap (in-front (code "]")) (split-missing "]" text (first + 1) e k (omega arith) l)
-      by false q e k l = split-missing "]" text first e k h l
+    pub formed-closing : Closing text first first
+    formed-closing = closing-first text first (ap is-some (is-inside .shuts))
 
--- what a bracket gives, by the ranges that its inside gives, if it gives any
-abbrev given : (List Range → Set) → List ℕ → Option (List Range) → List ℕ → Parsing Set
-given f w none r = fault refusal.Bracket w
-given f w (some rs) r = found (f rs) r
+    pub formed-left : reserved (take (e - first) (drop first text)) ≡ false → left text first first ≡ formed (closed true (drop first text))
+    unfolding members provided
+    formed-left r = left-first text first ∙ sym (inside-members is-inside ∙ rw (sym (inside-bytes is-inside), members) (rw r))
 
 -- complemented or not
 abbrev kind : Bool → List Range → Set
@@ -128,110 +148,177 @@ bracket-inside text at = rw (next-at "^" text (at + 1) refl, bracket) (by (compl
     by true = let e : at + 1 + 1 ≡ at + 2 = omega arith in rw (rest-at text (at + 1), e)
     by false = refl
 
--- its first item is at `first`, and its closing `]` at e, which is past the end if there is none
-pub record Bracket (text : List ℕ) (at first e : ℕ) : Type 0 where
-  pub begins : at < length text
-  pub opens : first ≡ opened text at
-  pub closes : e ≡ closing text first
+-- What a bracket gives, where w begins with its `[`: by its signs and the text after it, if it is closed.
+module _ (f : List Range → Set) (w : List ℕ) where
+  abbrev result : Option (List Sign × List ℕ) → Parsing Set
+  result y = then (enclosed refusal.Bracket w members y) (known f w)
 
--- its inside
-abbrev pub between : List ℕ → ℕ → ℕ → List ℕ
-between text first e = take (e - first) (drop first text)
+  result-open : result none ≡ fault refusal.Bracket w
+  unfolding then enclosed
+  result-open = refl
 
-module _ {text : List ℕ} {at first e : ℕ} (b : Bracket text at first e) where
-  pub bracket-order : first ≤ e
-  bracket-order = rw (b .closes) (closing-beyond text first)
+  module _ (s : List Sign) (r : List ℕ) where
+    result-spoilt : members s ≡ none → result (some (s, r)) ≡ fault refusal.Bracket w
+    unfolding then enclosed
+    result-spoilt e = rw (e, enclosed)
 
-  unclosed : length text ≤ e → bracketAt text at ≡ fault refusal.Bracket (drop at text)
-  unfolding inside enclosed then
-  unclosed h =
-      let l : first ≤ length text = rw (b .opens) (opened-within text at (b .begins)) in
-      bracket-inside text at ∙ ap (λ i. inside (kind (complements text at)) (drop at text) (drop i text)) (sym (b .opens))
-      ∙ rw (closed-missing text first l (rw (b .closes) at h), inside)
+    result-items : (is : List Item) → members s ≡ some is → result (some (s, r)) ≡ known f w is r
+    unfolding then enclosed
+    result-items is e = rw (e, enclosed)
 
-  -- what it gives, from its inside
-  gives : Option (List Range) → Parsing Set
-  gives x = given (kind (complements text at)) (drop at text) x (drop (e + 1) text)
+  known-not : (is : List Item) (r : List ℕ) → ranges-of is ≡ none → known f w is r ≡ fault refusal.ClassName w
+  unfolding known
+  known-not is r e = rw (e, known)
 
-  is-closed : e < length text → bracketAt text at ≡ gives (members (between text first e))
-  unfolding inside enclosed then gives
-  is-closed h =
-      let q : closed (drop first text) ≡ some (between text first e, drop (e + 1) text) = rw (b .closes) (closed-found text first (rw (b .closes) at h)) in
-      bracket-inside text at ∙ ap (λ i. inside (kind (complements text at)) (drop at text) (drop i text)) (sym (b .opens))
-      ∙ ap (λ y. then (enclosed refusal.Bracket (drop at text) members y) (λ rs r. found (kind (complements text at) rs) r)) q
-      ∙ by (members (between text first e))
+  known-all : (is : List Item) (r : List ℕ) (rs : List Range) → ranges-of is ≡ some rs → known f w is r ≡ found (f rs) r
+  unfolding known
+  known-all is r rs e = rw (e, known)
+
+-- members are items, if nothing is reserved
+members-items : (s : List Sign) (is : List Item) → members s ≡ some is → items true s ≡ some is
+unfolding members provided
+members-items s is e = by (reserved (flatMap sign-bytes s)) e
+  where
+    by : (t : Bool) → provided (not t) (items true s) ≡ some is → items true s ≡ some is
+    by true k = let z : _≡_ {A = ℕ} 0 1 = cc in absurd (omega arith)
+    by false k = k
+
+-- The bracket at a place, with its first sign at `first`.
+module _ (text : List ℕ) (at first : ℕ) (opens : first ≡ opened text at) where
+  abbrev which : List Range → Set
+  which = kind (complements text at)
+
+  abbrev start : List ℕ
+  start = drop at text
+
+  abbrev its-closed : Option (List Sign × List ℕ)
+  its-closed = closed true (drop first text)
+
+  bracket-result : bracketAt text at ≡ result which start its-closed
+  unfolding inside
+  bracket-result = bracket-inside text at ∙ ap (λ i. inside which start (drop i text)) (sym opens)
+
+  spoilt-fault : is-some (formed its-closed) ≡ false → bracketAt text at ≡ fault refusal.Bracket start
+  spoilt-fault h = bracket-result ∙ by its-closed (none-found (formed its-closed) h)
     where
-      by :
-          (x : Option (List Range)) →
-          then (elim x as (λ _. Parsing (List Range)) [ none ↦ fault refusal.Bracket (drop at text) | some a ↦ found a (drop (e + 1) text) ])
-          (λ rs r. found (kind (complements text at) rs) r)
-          ≡ gives x
-      by none = refl
-      by (some rs) = refl
+      by : (y : Option (List Sign × List ℕ)) → formed y ≡ none → result which start y ≡ fault refusal.Bracket start
+      by none e = result-open which start
+      by (some x) e = result-spoilt which start (x .0) (x .1) e
 
-  -- where it ends
-  pub bracket-unclosed : length text ≤ e → end.Refused refusal.Bracket ≡ endOf text (bracketAt text at)
-  bracket-unclosed h = sym (ap (endOf text) (unclosed h))
+  pub bracket-spoilt : is-some (formed its-closed) ≡ false → end.Refused refusal.Bracket ≡ endOf text (bracketAt text at)
+  bracket-spoilt h = sym (ap (endOf text) (spoilt-fault h))
 
-  pub bracket-spoilt : e < length text → is-some (members (between text first e)) ≡ false → end.Refused refusal.Bracket ≡ endOf text (bracketAt text at)
-  unfolding gives
-  bracket-spoilt h s = by (members (between text first e)) s ∙ sym (ap (endOf text) (is-closed h))
-    where
-      by : (x : Option (List Range)) → is-some x ≡ false → end.Refused refusal.Bracket ≡ endOf text (gives x)
-      by none s = refl
-      by (some rs) s = let z : _≡_ {A = ℕ} 0 1 = cc in absurd (omega arith)
+  -- The bracket is closed, and its items are well formed.
+  module _ (m : is-some (formed its-closed) ≡ true) where
+    its-items : List Item
+    its-items = some-found (formed its-closed) m .0
 
-  pub bracket-ends : e < length text → is-some (members (between text first e)) ≡ true → end.At (e + 1) ≡ endOf text (bracketAt text at)
-  unfolding gives
-  bracket-ends h s = by (members (between text first e)) s ∙ sym (ap (endOf text) (is-closed h))
-    where
-      by : (x : Option (List Range)) → is-some x ≡ true → end.At (e + 1) ≡ endOf text (gives x)
-      by none s = let z : _≡_ {A = ℕ} 0 1 = cc in absurd (omega arith)
-      by (some rs) s = ap end.At (sym (place-drop text (e + 1) (omega arith)))
+    are-formed : formed its-closed ≡ some its-items
+    unfolding its-items
+    are-formed = some-found (formed its-closed) m .1
 
-  -- its members, where it is well formed
+    -- as the loops go through them
+    formed-items : left text first first ≡ some its-items
+    formed-items = left-first text first ∙ by its-closed are-formed
+      where
+        by : (y : Option (List Sign × List ℕ)) → formed y ≡ some its-items → items true (signs y) ≡ some its-items
+        by none e = let z : _≡_ {A = ℕ} 0 1 = cc in absurd (omega arith)
+        by (some x) e = members-items (x .0) its-items e
+
+    pub bracket-left : is-some (left text first first) ≡ true
+    bracket-left = ap is-some formed-items
+
+    pub bracket-closing : Closing text first first
+    bracket-closing = closing-first text first (by its-closed m)
+      where
+        by : (y : Option (List Sign × List ℕ)) → is-some (formed y) ≡ true → is-some y ≡ true
+        by none e = e
+        by (some x) e = refl
+
+    -- the text after it
+    its-rest : (r : List ℕ) × (after its-closed ≡ some r)
+    its-rest = by its-closed m
+      where
+        by : (y : Option (List Sign × List ℕ)) → is-some (formed y) ≡ true → (r : List ℕ) × (after y ≡ some r)
+        by none e = let z : _≡_ {A = ℕ} 0 1 = cc in absurd (omega arith)
+        by (some x) e = (x .1, refl)
+
+    -- what it gives
+    module _ (r : List ℕ) (is : after its-closed ≡ some r) where
+      gives : bracketAt text at ≡ known which start its-items r
+      gives = bracket-result ∙ by its-closed are-formed is
+        where
+          by : (y : Option (List Sign × List ℕ)) → formed y ≡ some its-items → after y ≡ some r → result which start y ≡ known which start its-items r
+          by none f e = let z : _≡_ {A = ℕ} 0 1 = cc in absurd (omega arith)
+          by (some x) f e = let q : x .1 ≡ r = cc in result-items which start (x .0) (x .1) its-items f ∙ ap (known which start its-items) q
+
+      unknown-fault : is-some (resolved (left text first first)) ≡ false → bracketAt text at ≡ fault refusal.ClassName start
+      unknown-fault h =
+          gives ∙ known-not which start its-items r (ap resolved (sym formed-items) ∙ none-found (resolved (left text first first)) h)
+
+      known-set : is-some (resolved (left text first first)) ≡ true → bracketAt text at ≡ found (which (listed (resolved (left text first first)))) r
+      known-set h =
+          let rs = some-found (resolved (left text first first)) h in
+          gives ∙ known-all which start its-items r (rs .0) (ap resolved (sym formed-items) ∙ rs .1) ∙ ap (λ y. found (which (listed y)) r) (sym (rs .1))
+
+    module _ (e : ℕ) (is : beyond text e ≡ after its-closed) where
+      pub bracket-end : e + 1 ≤ length text
+      unfolding beyond
+      bracket-end = by (lt-or-le e (length text))
+        where
+          by : (e < length text) ⊎ (length text ≤ e) → e + 1 ≤ length text
+          by (inl l) = omega arith
+          by (inr l) =
+              let n : after its-closed ≡ none = sym is ∙ rw (le-ltb e (length text) l) in
+              let r = its-rest .1 in
+              let z : _≡_ {A = ℕ} 0 1 = cc in absurd (omega arith)
+
+      after-is : after its-closed ≡ some (drop (e + 1) text)
+      unfolding beyond
+      after-is = let l = bracket-end in sym is ∙ rw (lt-ltb e (length text) (omega arith))
+
+      pub bracket-unknown : is-some (resolved (left text first first)) ≡ false → end.Refused refusal.ClassName ≡ endOf text (bracketAt text at)
+      bracket-unknown h = sym (ap (endOf text) (unknown-fault (drop (e + 1) text) after-is h))
+
+      pub bracket-ends : is-some (resolved (left text first first)) ≡ true → end.At (e + 1) ≡ endOf text (bracketAt text at)
+      bracket-ends h = ap end.At (sym (place-drop text (e + 1) bracket-end)) ∙ sym (ap (endOf text) (known-set (drop (e + 1) text) after-is h))
+
+  -- A set was found: the bracket is well formed, each class is known, and the members are those of its items.
   module _ (good : is-found (bracketAt text at) ≡ true) where
-    pub bracket-closed : e < length text
-    bracket-closed = by (lt-or-le e (length text))
+    pub good-formed : is-some (formed its-closed) ≡ true
+    good-formed = by (is-some (formed its-closed)) refl
       where
-        by : (e < length text) ⊎ (length text ≤ e) → e < length text
-        by (inl h) = h
-        by (inr h) = absurd (not-both true refl (sym good ∙ ap is-found (unclosed h)))
+        by : (t : Bool) → is-some (formed its-closed) ≡ t → t ≡ true
+        by true e = refl
+        by false e = absurd (not-both true refl (sym good ∙ ap is-found (spoilt-fault e)))
 
-    pub bracket-members : is-some (members (between text first e)) ≡ true
-    unfolding gives
-    bracket-members = by (members (between text first e)) (sym (ap is-found (is-closed bracket-closed)) ∙ good)
+    pub good-known : is-some (resolved (left text first first)) ≡ true
+    good-known = by (is-some (resolved (left text first first))) refl
       where
-        by : (x : Option (List Range)) → is-found (gives x) ≡ true → is-some x ≡ true
-        by none s = s
-        by (some rs) s = refl
+        by : (t : Bool) → is-some (resolved (left text first first)) ≡ t → t ≡ true
+        by true e = refl
+        by false e = absurd (not-both true refl (sym good ∙ ap is-found (unknown-fault good-formed (its-rest good-formed .0) (its-rest good-formed .1) e)))
 
-    -- the ranges that it has
-    abbrev pub ranges : List Range
-    ranges = listed (members (between text first e))
+    holds : (x : ℕ) → member (setOf (bracketAt text at)) x ≡ member (which (listed (resolved (left text first first)))) x
+    holds x = ap (λ y. member (setOf y) x) (known-set good-formed (its-rest good-formed .0) (its-rest good-formed .1) good-known)
 
-    holds : (x : ℕ) → member (setOf (bracketAt text at)) x ≡ member (kind (complements text at) ranges) x
-    unfolding gives
-    holds x = ap (λ y. member (setOf y) x) (is-closed bracket-closed) ∙ by (members (between text first e)) bracket-members
-      where
-        by : (y : Option (List Range)) → is-some y ≡ true → member (setOf (gives y)) x ≡ member (kind (complements text at) (listed y)) x
-        by none s = let z : _≡_ {A = ℕ} 0 1 = cc in absurd (omega arith)
-        by (some rs) s = refl
-
-    pub bracket-only : (x : ℕ) → first ≡ at + 1 → among ranges x ≡ member (setOf (bracketAt text at)) x
+    pub bracket-only : (x : ℕ) → first ≡ at + 1 → among (listed (resolved (left text first first))) x ≡ member (setOf (bracketAt text at)) x
     unfolding opened
-    bracket-only x q = by (complements text at) refl (b .opens) ∙ sym (holds x)
-      where
-        by : (t : Bool) → complements text at ≡ t → first ≡ cond t (at + 2) (at + 1) → among ranges x ≡ member (kind (complements text at) ranges) x
-        by true k h = absurd (omega arith)
-        by false k h = rw k
-
-    pub bracket-except : (x : ℕ) → (first ≡ at + 1 → ⊥) → not (among ranges x) ≡ member (setOf (bracketAt text at)) x
-    unfolding opened
-    bracket-except x q = by (complements text at) refl (b .opens) ∙ sym (holds x)
+    bracket-only x q = by (complements text at) refl opens ∙ sym (holds x)
       where
         by :
             (t : Bool) → complements text at ≡ t → first ≡ cond t (at + 2) (at + 1) →
-            not (among ranges x) ≡ member (kind (complements text at) ranges) x
+            among (listed (resolved (left text first first))) x ≡ member (which (listed (resolved (left text first first)))) x
+        by true k h = absurd (omega arith)
+        by false k h = rw k
+
+    pub bracket-except :
+        (x : ℕ) → (first ≡ at + 1 → ⊥) → not (among (listed (resolved (left text first first))) x) ≡ member (setOf (bracketAt text at)) x
+    unfolding opened
+    bracket-except x q = by (complements text at) refl opens ∙ sym (holds x)
+      where
+        by :
+            (t : Bool) → complements text at ≡ t → first ≡ cond t (at + 2) (at + 1) →
+            not (among (listed (resolved (left text first first))) x) ≡ member (which (listed (resolved (left text first first)))) x
         by true k h = rw k
         by false k h = absurd (q h)

@@ -1,16 +1,21 @@
-// The bracket at a place of a text (document 01, "Brackets"): where it ends, and whether a byte is a member.
+// The bracket at a place of a text (document 01, "Brackets"; document 02, T-01): where it ends, and whether a byte is a member.
 use refusal::Refusal;
-use regex_items::are_members;
+use regex_items::are_items;
+use regex_items::are_known;
 use regex_items::has;
-use text::find;
+use regex_items::is_reserved;
+use regex_signs::closes;
+use regex_signs::sign_end;
 use text::peek;
 ghost use mathlib.Core.Path.{_≡_};
 ghost use mathlib.Core.Bool.{true};
 ghost use Prim.Native.Nat.{_<_, _≤_};
-ghost use lib.ListN.{length};
+ghost use lib.ListN.{length, drop};
 ghost use Rattle.lists.specs.Memory.{old};
+ghost use Rattle.lists.specs.Options.{is-some};
+ghost use Rattle.regex.specs.Sets.{closed};
 ghost use Rattle.regex.specs.Tree.{member as memberOf};
-ghost use Rattle.regex_bracket.specs.Answers.{is-found, endOf, setOf, opened, closing as closingOf, bracketAt};
+ghost use Rattle.regex_bracket.specs.Answers.{is-found, endOf, setOf, opened, after, beyond, formed, bracketAt};
 
 // Where a set ends, or why it is turned away.
 pub enum End {
@@ -18,7 +23,7 @@ pub enum End {
     Refused(Refusal),
 }
 
-// Where the first item of a bracket is: after `[` or `[^`.
+// Where the first sign inside a bracket is: after `[` or `[^`.
 fn opening(text: &[u8], at: usize) -> usize
     requires { ⌜ at < length (now text) ⌝ }
     ensures { λ r. ⌜ r ≡ opened (old text) at ⌝ }
@@ -31,13 +36,30 @@ fn opening(text: &[u8], at: usize) -> usize
 
 // Where the bracket is closed; past the end if it is not.
 fn closing(text: &[u8], first: usize) -> usize
-    requires { ⌜ first ≤ length (now text) ⌝ }
-    ensures { λ r. ⌜ r ≡ closingOf (old text) first ⌝ }
+    ensures { λ r. ⌜ (first ≤ r) × (beyond (old text) r ≡ after (closed true (drop first (old text)))) ⌝ }
 {
-    if peek(text, first) == b']' {
-        return find(text, first + 1, b']');
+    let mut i = first;
+    while i < text.len() {
+        if closes(text, first, i) {
+            return i;
+        }
+        i = sign_end(text, i);
     }
-    find(text, first, b']')
+    i
+}
+
+// Is the bracket closed, with well-formed items inside and without `[.` and `[=`? Its closing `]` is at e, or e is past the end.
+fn is_well_formed(text: &[u8], first: usize, e: usize) -> bool
+    requires { ⌜ (first ≤ e) × (beyond (now text) e ≡ after (closed true (drop first (now text)))) ⌝ }
+    ensures { λ r. ⌜ r ≡ is-some (formed (closed true (drop first (old text)))) ⌝ }
+{
+    if text.len() <= e {
+        return false;
+    }
+    if is_reserved(&text[first..e]) {
+        return false;
+    }
+    are_items(text, first)
 }
 
 // Where the bracket that begins here ends.
@@ -47,13 +69,13 @@ pub fn bracket_end(text: &[u8], at: usize) -> End
 {
     let first = opening(text, at);
     let e = closing(text, first);
-    if text.len() <= e {
+    if !is_well_formed(text, first, e) {
         return End::Refused(Refusal::Bracket);
     }
-    if are_members(&text[first..e]) {
+    if are_known(text, first) {
         return End::At(e + 1);
     }
-    End::Refused(Refusal::Bracket)
+    End::Refused(Refusal::ClassName)
 }
 
 // Is the byte a member of the bracket that begins here?
@@ -62,9 +84,8 @@ pub fn bracket_has(text: &[u8], at: usize, b: u8) -> bool
     ensures { λ r. ⌜ r ≡ memberOf (setOf (bracketAt (old text) at)) b ⌝ }
 {
     let first = opening(text, at);
-    let e = closing(text, first);
     if first == at + 1 {
-        return has(&text[first..e], b);
+        return has(text, first, b);
     }
-    !has(&text[first..e], b)
+    !has(text, first, b)
 }

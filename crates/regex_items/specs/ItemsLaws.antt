@@ -1,252 +1,318 @@
--- Laws on the items inside a bracket, one at a time.
+-- Laws of the item at the front of a text: the items of a bracket are this item, if it is allowed, and the items of the text after it.
 use mathlib.Core.Path.{_≡_, refl, sym, ap, _∙_}
 use mathlib.Core.Option.{Option, some, none}
 use mathlib.Core.List.{List, [], _∷_}
-use mathlib.Core.Bool.{Bool, true, false, cond, _&&_, _||_, and-true}
-use Prim.Native.Nat.{ℕ, suc, _+_, _-_, _≤_, _<_}
+use mathlib.Core.Bool.{Bool, true, false, cond, not, _&&_, _||_, and-true, and-false}
+use Prim.Native.Nat.{ℕ, _+_, _≤_, _<_}
 use Prim.Native.Char.{code}
 use native.Mathlib.Omega.{arith}
-use native.Mathlib.Nat.{le-refl}
-use lib.ListN.{length, getD, drop, length-drop}
+use lib.ListN.{length, getD, drop}
 use lib.Seq.{drop-drop, getD-drop}
 use lib.Dec.{eqb, leb}
-use borrow.Author.Tests.{le-leb, lt-leb, eq-eqb, ne-eqb}
-use Rattle.lists.specs.EachLaws.{drop-here, drop-all}
-use Rattle.text.specs.Bytes.{bytes}
-use Rattle.regex.specs.Tree.{Range, range, within, among}
-use Rattle.text.specs.Text.{one-of}
+use borrow.Author.Tests.{eqb-true, eq-eqb, ne-eqb}
 use Rattle.lists.specs.Cases.{provided}
-use Rattle.regex.specs.Sets.{with, begins, items, reserved, members}
-use Rattle.text.specs.TextLaws.{next-of-at}
-use Rattle.regex_items.specs.Items.{is-some, listed, ranges, upto, width, fits, left, opens}
+use Rattle.lists.specs.Options.{is-some}
+use Rattle.lists.specs.OrderLaws.{and-left, and-right, not-both}
+use Rattle.regex.specs.Tree.{range}
+use Rattle.regex.specs.Sets.{Sign, byte, class, class-begins, closes, closed, Item, ranged, classed, with, one, begins, up-to, items}
+use Rattle.regex_signs.specs.Signs.{name, opens, sign, past, signs}
+use Rattle.regex_signs.specs.SignsLaws.{closed-at, signs-at, first-at, opens-byte, opens-not}
+use Rattle.regex_items.specs.Items.{ranges, upto, item, width, range-fits, fits}
 
-abbrev Following : Bool → List ℕ → Option (List Range)
-Following first s = provided (fits first s) (with (range (getD s 0 0) (upto s)) (items false (drop (width s) s)))
+-- The item at the front, by its bytes.
+module _ (s : List ℕ) where
+  -- `[:` begins no range
+  class-no-range : opens s ≡ true → ranges s ≡ false
+  unfolding ranges
+  class-no-range o = let q = opens-byte s o in rw q
+
+  closing-no-range : eqb (getD s 1 0) (code "]") ≡ true → ranges s ≡ false
+  unfolding ranges
+  closing-no-range e = let q = eqb-true (getD s 1 0) (code "]") e in rw q
+
+  pub width-some : 1 ≤ width s
+  unfolding width
+  width-some = by (ranges s) (opens s)
+    where
+      by : (r o : Bool) → 1 ≤ cond r 3 (cond o (2 + (length (name (drop 2 s)) + 2)) 1)
+      by true o = omega arith
+      by false true = omega arith
+      by false false = omega arith
+
+  pub width-range : ranges s ≡ true → 3 ≡ width s
+  unfolding width
+  width-range r = rw r
+
+  pub width-sign : ranges s ≡ false → past s ≡ width s
+  unfolding width
+  width-sign r = rw r
+
+  pub upto-range : ranges s ≡ true → getD s 2 0 ≡ upto s
+  unfolding upto
+  upto-range r = rw r
+
+  pub upto-one : ranges s ≡ false → getD s 0 0 ≡ upto s
+  unfolding upto
+  upto-one r = rw r
+
+  pub item-class : opens s ≡ true → item s ≡ classed (name (drop 2 s))
+  unfolding item
+  item-class o = rw o
+
+  pub item-range : opens s ≡ false → item s ≡ ranged (range (getD s 0 0) (upto s))
+  unfolding item
+  item-range o = rw o
+
+  module _ (first : Bool) where
+    pub fits-class : opens s ≡ true → true ≡ fits first s
+    unfolding fits
+    fits-class o = rw o
+
+    pub fits-last : opens s ≡ false → eqb (getD s 1 0) (code "]") ≡ true → true ≡ fits first s
+    unfolding fits
+    fits-last o e = rw (o, e)
+
+    fits-other : opens s ≡ false → eqb (getD s 1 0) (code "]") ≡ false → fits first s ≡ (begins first (getD s 0 0) && range-fits s)
+    unfolding fits
+    fits-other o e = rw (o, e)
+
+    pub fits-not : opens s ≡ false → eqb (getD s 1 0) (code "]") ≡ false → begins first (getD s 0 0) ≡ false → false ≡ fits first s
+    fits-not o e b = sym (fits-other o e ∙ ap (λ t. t && range-fits s) b)
+
+    pub fits-by : opens s ≡ false → eqb (getD s 1 0) (code "]") ≡ false → begins first (getD s 0 0) ≡ true → range-fits s ≡ fits first s
+    fits-by o e b = sym (fits-other o e ∙ ap (λ t. t && range-fits s) b)
+
+  pub range-fits-one : ranges s ≡ false → true ≡ range-fits s
+  unfolding range-fits
+  range-fits-one r = rw r
+
+  pub range-fits-class : ranges s ≡ true → opens (drop 2 s) ≡ true → false ≡ range-fits s
+  unfolding range-fits
+  range-fits-class r o = rw (r, o)
+
+  pub range-fits-by : ranges s ≡ true → opens (drop 2 s) ≡ false → leb (getD s 0 0) (getD s 2 0) ≡ range-fits s
+  unfolding range-fits
+  range-fits-by r o = rw (r, o)
+
+-- What the items are, by the first signs.
+module _ (first : Bool) (c : ℕ) where
+  items-last : items first (byte c ∷ []) ≡ with (one c) (items false [])
+  unfolding items
+  items-last = refl
+
+  -- the next sign does not make it a range
+  items-one :
+      (m : Sign) (ms : List Sign) → ((d : Sign) (r : List Sign) → ms ≡ d ∷ r → m ≡ byte (code "-") → ⊥) →
+      items first (byte c ∷ (m ∷ ms)) ≡ provided (begins first c) (with (one c) (items false (m ∷ ms)))
+  unfolding items
+  items-one (class n) ms h = refl
+  items-one (byte b) [] h = refl
+  items-one (byte b) (d ∷ ms) h = by (eqb b (code "-")) refl
+    where
+      by :
+          (t : Bool) → eqb b (code "-") ≡ t →
+          provided (begins first c) (elim t [ true ↦ up-to c d (items false ms) | false ↦ with (one c) (items false (byte b ∷ (d ∷ ms))) ])
+          ≡ provided (begins first c) (with (one c) (items false (byte b ∷ (d ∷ ms))))
+      by true e = absurd (h d ms refl (ap byte (eqb-true b (code "-") e)))
+      by false e = refl
+
+  items-to : (d : Sign) (ms : List Sign) → items first (byte c ∷ (byte (code "-") ∷ (d ∷ ms))) ≡ provided (begins first c) (up-to c d (items false ms))
+  unfolding items
+  items-to d ms = refl
+
+provided-none : {X : Type 0} (t : Bool) → provided {X = X} t none ≡ none
+unfolding provided
+provided-none true = refl
+provided-none false = refl
 
 provided-both : {X : Type 0} (a b : Bool) (x : Option X) → provided a (provided b x) ≡ provided (a && b) x
 unfolding provided
 provided-both true b x = refl
 provided-both false b x = refl
 
-items-item : (first : Bool) (c : ℕ) (s : List ℕ) → items first (c ∷ s) ≡ Following first (c ∷ s)
-unfolding items fits upto width ranges provided
-items-item first c [] = refl
-items-item first c (b ∷ []) = rw (le-leb c c (le-refl c), and-true)
-items-item first c (b ∷ (d ∷ s)) = rw (lt-leb (suc (suc (suc (length s)))) 1 (omega arith)) (by (eqb b (code "-")))
-  where
-    by :
-        (t : Bool) →
-        provided (begins first c) (elim t [
-          | true ↦ provided (leb c d) (with (range c d) (items false s))
-          | false ↦ with (range c c) (items false (b ∷ (d ∷ s)))
-        ])
-        ≡ provided (begins first c && leb c (cond t d c)) (with (range c (cond t d c)) (items false (drop (cond t 3 1) (c ∷ (b ∷ (d ∷ s))))))
-    by true = provided-both (begins first c) (leb c d) (with (range c d) (items false s))
-    by false = rw (le-leb c c (le-refl c), and-true)
+pub provided-true : {X : Type 0} (t : Bool) (x : Option X) → t ≡ true → provided t x ≡ x
+unfolding provided
+provided-true t x e = rw e
 
-items-of :
-    (first : Bool) (s : List ℕ) (c : ℕ) (r : List ℕ) → s ≡ c ∷ r →
-    items first s ≡ provided (fits first s) (with (range c (upto s)) (items false (drop (width s) s)))
-items-of first s c r e = rw e (items-item first c r)
+pub provided-false : {X : Type 0} (t : Bool) (x : Option X) → t ≡ false → provided t x ≡ none
+unfolding provided
+provided-false t x e = rw e
 
-ranges-long : (s : List ℕ) → ranges s ≡ true → 3 ≤ length s
-unfolding ranges
-ranges-long [] e = let z : _≡_ {A = ℕ} 0 1 = cc in absurd (omega arith)
-ranges-long (c ∷ []) e = let z : _≡_ {A = ℕ} 0 1 = cc in absurd (omega arith)
-ranges-long (c ∷ (b ∷ [])) e = let z : _≡_ {A = ℕ} 0 1 = cc in absurd (omega arith)
-ranges-long (c ∷ (b ∷ (d ∷ s))) e = omega arith
+-- The items of a bracket from an item on, if the bracket is closed after it.
+pub record ItemStep (first : Bool) (s : List ℕ) : Type 0 where
+  pub reads : items first (signs (closed first s)) ≡ provided (fits first s) (with (item s) (items false (signs (closed false (drop (width s) s)))))
+  pub more : fits first s ≡ true → is-some (closed false (drop (width s) s)) ≡ true
 
-ranges-is : (s : List ℕ) → 3 ≤ length s → ranges s ≡ eqb (getD s 1 0) (code "-")
-unfolding ranges
-ranges-is [] l = absurd (omega arith)
-ranges-is (c ∷ []) l = absurd (omega arith)
-ranges-is (c ∷ (b ∷ [])) l = absurd (omega arith)
-ranges-is (c ∷ (b ∷ (d ∷ s))) l = refl
+-- the signs from the next byte on, and from the one after that
+abbrev after : List ℕ → ℕ → List Sign
+after s k = signs (closed false (drop k s))
 
--- The item at index i.
-module _ (inside : List ℕ) (i : ℕ) where
-  at-first : getD (drop i inside) 0 0 ≡ getD inside i 0
-  at-first = getD-drop i inside 0 0 ∙ ap (λ k. getD inside k 0) (omega arith)
+abbrev found : List ℕ → ℕ → Type 0
+found s k = is-some (closed false (drop k s)) ≡ true
 
-  pub ranges-short : length inside - i < 3 → false ≡ ranges (drop i inside)
-  ranges-short l = by (ranges (drop i inside)) refl
+module _ (first : Bool) (s : List ℕ) where
+  class-step : opens s ≡ true → signs (closed first s) ≡ sign s ∷ after s (past s) → found s (past s) → ItemStep first s
+  unfolding items provided
+  class-step o q f =
+      let w = width-sign s (class-no-range s o) in
+      let g : sign s ≡ class (name (drop 2 s)) = rw o in
+      record {
+        reads =
+            ap (items first) (q ∙ ap (λ m. m ∷ after s (past s)) g)
+            ∙ ap (λ k. with (classed (name (drop 2 s))) (items false (after s k))) w
+            ∙ ap (λ i. with i (items false (after s (width s)))) (sym (item-class s o))
+            ∙ sym (provided-true (fits first s) _ (sym (fits-class s first o)));
+        more = λ h. rw (sym w) f;
+      }
+
+  -- a byte by itself
+  one-step :
+      opens s ≡ false → ranges s ≡ false →
+      items first (signs (closed first s)) ≡ provided (fits first s) (with (one (getD s 0 0)) (items false (after s 1))) → found s 1 → ItemStep first s
+  one-step o r q f =
+      let w : 1 ≡ width s = ap (λ t. cond t (2 + (length (name (drop 2 s)) + 2)) 1) (sym o) ∙ width-sign s r in
+      let i : item s ≡ one (getD s 0 0) = item-range s o ∙ ap (λ d. ranged (range (getD s 0 0) d)) (sym (upto-one s r)) in
+      record {
+        reads = q ∙ ap (λ k. provided (fits first s) (with (one (getD s 0 0)) (items false (after s k)))) w
+            ∙ ap (λ j. provided (fits first s) (with j (items false (after s (width s))))) (sym i);
+        more = λ h. rw (sym w) f;
+      }
+
+  module _ (o : opens s ≡ false) (q : signs (closed first s) ≡ byte (getD s 0 0) ∷ after s 1) (f : found s 1) where
+    -- just before the closing `]`
+    last-step : eqb (getD s 1 0) (code "]") ≡ true → ItemStep first s
+    last-step e =
+        let n : after s 1 ≡ [] = ap signs (closed-at s 1 false e) in
+        one-step o (closing-no-range s e)
+        (ap (items first) (q ∙ ap (λ ms. byte (getD s 0 0) ∷ ms) n) ∙ items-last first (getD s 0 0)
+        ∙ ap (λ ms. with (one (getD s 0 0)) (items false ms)) (sym n) ∙ sym (provided-true (fits first s) _ (sym (fits-last s first o e))))
+        f
+
+    module _ (e : eqb (getD s 1 0) (code "]") ≡ false) where
+      fits-one : ranges s ≡ false → fits first s ≡ begins first (getD s 0 0)
+      fits-one r = fits-other s first o e ∙ ap (λ t. begins first (getD s 0 0) && t) (sym (range-fits-one s r)) ∙ and-true (begins first (getD s 0 0))
+
+      -- another sign, which does not make it a range
+      plain-step :
+          ranges s ≡ false → (m : Sign) (ms : List Sign) → after s 1 ≡ m ∷ ms → ((d : Sign) (r : List Sign) → ms ≡ d ∷ r → m ≡ byte (code "-") → ⊥) →
+          ItemStep first s
+      plain-step r m ms n h =
+          one-step o r
+          (ap (items first) (q ∙ ap (λ l. byte (getD s 0 0) ∷ l) n) ∙ items-one first (getD s 0 0) m ms h
+          ∙ ap (λ l. provided (begins first (getD s 0 0)) (with (one (getD s 0 0)) (items false l))) (sym n)
+          ∙ ap (λ t. provided t (with (one (getD s 0 0)) (items false (after s 1)))) (sym (fits-one r)))
+          f
+
+      -- a range, to a class or to a byte
+      range-step :
+          ranges s ≡ true → after s 1 ≡ byte (code "-") ∷ after s 2 → after s 2 ≡ sign (drop 2 s) ∷ after s (2 + past (drop 2 s)) →
+          found s (2 + past (drop 2 s)) → ItemStep first s
+      range-step r n k g = by (opens (drop 2 s)) refl
+        where
+          c : ℕ
+          c = getD s 0 0
+
+          to : (d : Sign) (l : List Sign) → after s 2 ≡ d ∷ l → items first (signs (closed first s)) ≡ provided (begins first c) (up-to c d (items false l))
+          to d l k = ap (items first) (q ∙ ap (λ l. byte c ∷ l) (n ∙ ap (λ l. byte (code "-") ∷ l) k)) ∙ items-to first c d l
+
+          by : (t : Bool) → opens (drop 2 s) ≡ t → ItemStep first s
+          by true u =
+              let x : fits first s ≡ false = fits-other s first o e ∙ ap (λ t. begins first c && t) (sym (range-fits-class s r u)) ∙ and-false (begins first c) in
+              let d : sign (drop 2 s) ≡ class (name (drop 2 (drop 2 s))) = rw u in
+              record {
+                reads = to (class (name (drop 2 (drop 2 s)))) (after s (2 + past (drop 2 s))) (k ∙ ap (λ m. m ∷ after s (2 + past (drop 2 s))) d)
+                    ∙ provided-none (begins first c) ∙ sym (provided-false (fits first s) (with (item s) (items false (after s (width s)))) x);
+                more = λ h. absurd (not-both true refl (sym h ∙ x));
+              }
+          by false u =
+              let x : fits first s ≡ (begins first c && leb c (getD s 2 0)) = fits-other s first o e ∙ ap (λ t. begins first c && t) (sym (range-fits-by s r u)) in
+              let d : sign (drop 2 s) ≡ byte (getD s 2 0) = rw u (ap byte (getD-drop 2 s 0 0)) in
+              let p : 2 + past (drop 2 s) ≡ width s = ap (λ t. 2 + cond t (2 + (length (name (drop 2 (drop 2 s))) + 2)) 1) u ∙ width-range s r in
+              let i : item s ≡ ranged (range c (getD s 2 0)) = item-range s o ∙ ap (λ d. ranged (range c d)) (sym (upto-range s r)) in
+              record {
+                reads = to (byte (getD s 2 0)) (after s (2 + past (drop 2 s))) (k ∙ ap (λ m. m ∷ after s (2 + past (drop 2 s))) d)
+                    ∙ provided-both (begins first c) (leb c (getD s 2 0)) (with (ranged (range c (getD s 2 0))) (items false (after s (2 + past (drop 2 s)))))
+                    ∙ ap (λ t. provided t (with (ranged (range c (getD s 2 0))) (items false (after s (2 + past (drop 2 s)))))) (sym x)
+                    ∙ ap (λ k. provided (fits first s) (with (ranged (range c (getD s 2 0))) (items false (after s k)))) p
+                    ∙ ap (λ j. provided (fits first s) (with j (items false (after s (width s))))) (sym i);
+                more = λ h. rw (sym p) g;
+              }
+
+  -- where there is a range, `-` is a sign
+  hyphen-at : ranges s ≡ true → getD s 1 0 ≡ code "-"
+  unfolding ranges
+  hyphen-at r = eqb-true (getD s 1 0) (code "-") (and-left (eqb (getD s 1 0) (code "-")) (not (eqb (getD s 2 0) (code "]"))) r)
+
+  more-at : ranges s ≡ true → eqb (getD s 2 0) (code "]") ≡ false
+  unfolding ranges
+  more-at r = by (eqb (getD s 2 0) (code "]")) (and-right (eqb (getD s 1 0) (code "-")) (not (eqb (getD s 2 0) (code "]"))) r)
     where
-      by : (t : Bool) → ranges (drop i inside) ≡ t → false ≡ t
-      by true e = let n = length-drop i inside in let k = ranges-long (drop i inside) e in absurd (omega arith)
+      by : (t : Bool) → not t ≡ true → t ≡ false
+      by true e = sym e
       by false e = refl
 
-  pub ranges-by : 3 ≤ length inside - i → eqb (getD inside (i + 1) 0) (code "-") ≡ ranges (drop i inside)
-  ranges-by l =
-      let n = length-drop i inside in
-      sym (ranges-is (drop i inside) (omega arith) ∙ ap (λ b. eqb b (code "-")) (getD-drop i inside 1 0))
-
-  pub upto-range : ranges (drop i inside) ≡ true → getD inside (i + 2) 0 ≡ upto (drop i inside)
-  unfolding upto
-  upto-range e = rw e (sym (getD-drop i inside 2 0))
-
-  pub upto-single : ranges (drop i inside) ≡ false → getD inside i 0 ≡ upto (drop i inside)
-  unfolding upto
-  upto-single e = rw e (sym at-first)
-
-  pub width-range : ranges (drop i inside) ≡ true → 3 ≡ width (drop i inside)
-  unfolding width
-  width-range e = rw e
-
-  pub width-single : ranges (drop i inside) ≡ false → 1 ≡ width (drop i inside)
-  unfolding width
-  width-single e = rw e
-
-  module _ (first : Bool) where
-    pub fits-last : length inside - i ≤ 1 → true ≡ fits first (drop i inside)
-    unfolding fits
-    fits-last l = let n = length-drop i inside in rw (le-leb (length (drop i inside)) 1 (omega arith))
-
-    fits-more :
-        1 < length inside - i → fits first (drop i inside) ≡ (begins first (getD inside i 0) && leb (getD inside i 0) (upto (drop i inside)))
-    unfolding fits
-    fits-more l = let n = length-drop i inside in rw (lt-leb (length (drop i inside)) 1 (omega arith), at-first)
-
-    pub fits-not : 1 < length inside - i → begins first (getD inside i 0) ≡ false → false ≡ fits first (drop i inside)
-    fits-not l e = sym (fits-more l ∙ ap (λ t. t && leb (getD inside i 0) (upto (drop i inside))) e)
-
-    pub fits-by :
-        1 < length inside - i → begins first (getD inside i 0) ≡ true → leb (getD inside i 0) (upto (drop i inside)) ≡ fits first (drop i inside)
-    fits-by l e = sym (fits-more l ∙ ap (λ t. t && leb (getD inside i 0) (upto (drop i inside))) e)
-
--- What is left of a bracket's inside at index i.
-module _ (inside : List ℕ) (i : ℕ) where
-  abbrev pub beyond : ℕ
-  beyond = i + width (drop i inside)
-
-  width-some : 1 ≤ width (drop i inside)
-  unfolding width
-  width-some = by (ranges (drop i inside))
+  -- where there is none, a `-` is just before the closing `]`
+  last-at : ranges s ≡ false → getD s 1 0 ≡ code "-" → eqb (getD s 2 0) (code "]") ≡ true
+  unfolding ranges
+  last-at r e = by (eqb (getD s 2 0) (code "]")) (ap (λ b. eqb b (code "-") && not (eqb (getD s 2 0) (code "]"))) (sym e) ∙ r)
     where
-      by : (t : Bool) → 1 ≤ cond t 3 1
-      by true = omega arith
-      by false = omega arith
+      by : (t : Bool) → not t ≡ false → t ≡ true
+      by true e = refl
+      by false e = sym e
 
-  width-within : i < length inside → beyond ≤ length inside
-  unfolding width
-  width-within l = by (ranges (drop i inside)) refl
+  hyphen-byte : getD s 1 0 ≡ code "-" → opens (drop 1 s) ≡ false
+  hyphen-byte e = sym (opens-not s 1 (λ z. let y : code "-" ≡ code "[" = sym e ∙ z in absurd (omega arith)))
+
+  -- the sign after the first one
+  abbrev next : Sign
+  next = sign (drop 1 s)
+
+  byte-next : (b : ℕ) → next ≡ byte b → (opens (drop 1 s) ≡ false) × (getD s 1 0 ≡ b)
+  byte-next b e = by (opens (drop 1 s)) refl e
     where
-      by : (t : Bool) → ranges (drop i inside) ≡ t → i + cond t 3 1 ≤ length inside
-      by true e = let n = length-drop i inside in let k = ranges-long (drop i inside) e in omega arith
-      by false e = omega arith
+      by : (t : Bool) → opens (drop 1 s) ≡ t → cond t (class (name (drop 2 (drop 1 s)))) (byte (getD (drop 1 s) 0 0)) ≡ byte b → (opens (drop 1 s) ≡ false) × (getD s 1 0 ≡ b)
+      by true o k = let z : _≡_ {A = ℕ} 0 1 = cc in absurd (omega arith)
+      by false o k = let f = first-at s 1 in (o, cc)
 
-  pub width-bounds : (r : ℕ) → r ≡ width (drop i inside) → i < length inside → (1 ≤ r) × (i + r ≤ length inside)
-  width-bounds r e l = let a = width-some in let b = width-within l in (omega arith, omega arith)
+  next-past : opens (drop 1 s) ≡ false → 1 + past (drop 1 s) ≡ 2
+  next-past o = ap (λ t. 1 + cond t (2 + (length (name (drop 2 (drop 1 s))) + 2)) 1) o
 
-  -- the item at i and the items after it
-  left-item :
-      i < length inside →
-      left inside i ≡ provided (fits (eqb i 0) (drop i inside)) (with (range (getD inside i 0) (upto (drop i inside))) (left inside beyond))
-  left-item l =
-      let n : eqb beyond 0 ≡ false = ne-eqb beyond 0 (λ z. omega (arith, width-some)) in
-      items-of (eqb i 0) (drop i inside) (getD inside i 0) (drop (i + 1) inside) (drop-here 0 inside i l)
-      ∙ rw (n, drop-drop (width (drop i inside)) i inside)
+  no-range :
+      ranges s ≡ false → (d : Sign) (l : List Sign) → after s (1 + past (drop 1 s)) ≡ d ∷ l → next ≡ byte (code "-") → ⊥
+  no-range r d l k h =
+      let b = byte-next (code "-") h in
+      let n : after s 2 ≡ [] = ap signs (closed-at s 2 false (last-at r (b .1))) in
+      let m : after s (1 + past (drop 1 s)) ≡ after s 2 = ap (after s) (next-past (b .0)) in
+      let z : _≡_ {A = ℕ} 0 1 = cc in omega arith
 
-  -- An item that is not allowed spoils the bracket; after one that is, the later items decide.
-  module _ (l : i < length inside) where
-    pub left-spoilt : fits (eqb i 0) (drop i inside) ≡ false → is-some (left inside i) ≡ false
-    unfolding provided
-    left-spoilt e = ap is-some (left-item l) ∙ rw e
-
-    pub left-more : fits (eqb i 0) (drop i inside) ≡ true → is-some (left inside i) ≡ is-some (left inside beyond)
-    unfolding provided
-    left-more e = ap is-some (left-item l) ∙ rw e (by (left inside beyond))
-      where
-        by : (x : Option (List Range)) → is-some (with (range (getD inside i 0) (upto (drop i inside))) x) ≡ is-some x
-        by none = refl
-        by (some rs) = refl
-
-    fits-some : is-some (left inside i) ≡ true → fits (eqb i 0) (drop i inside) ≡ true
-    fits-some h = by (fits (eqb i 0) (drop i inside)) refl
-      where
-        by : (t : Bool) → fits (eqb i 0) (drop i inside) ≡ t → t ≡ true
-        by true e = refl
-        by false e = let z : _≡_ {A = Bool} true false = sym h ∙ left-spoilt e in sym z
-
-    -- where all are well formed, so are the later ones, and a member is in this item's range or in one of theirs
-    pub some-more : is-some (left inside i) ≡ true → is-some (left inside beyond) ≡ true
-    some-more h = sym (left-more (fits-some h)) ∙ h
-
-    among-more :
-        (b : ℕ) → is-some (left inside i) ≡ true →
-        among (listed (left inside i)) b ≡ (within (range (getD inside i 0) (upto (drop i inside))) b || among (listed (left inside beyond)) b)
-    unfolding provided
-    among-more b h = ap (λ x. among (listed x) b) (left-item l) ∙ rw (fits-some h) (by (left inside beyond) (some-more h))
-      where
-        by :
-            (x : Option (List Range)) → is-some x ≡ true →
-            among (listed (with (range (getD inside i 0) (upto (drop i inside))) x)) b
-            ≡ (within (range (getD inside i 0) (upto (drop i inside))) b || among (listed x) b)
-        by none e = let z : _≡_ {A = ℕ} 0 1 = cc in absurd (omega arith)
-        by (some rs) e = refl
-
-    module _ (b : ℕ) (h : is-some (left inside i) ≡ true) where
-      pub among-here : within (range (getD inside i 0) (upto (drop i inside))) b ≡ true → among (listed (left inside i)) b ≡ true
-      among-here e = among-more b h ∙ rw e
-
-      pub among-past :
-          within (range (getD inside i 0) (upto (drop i inside))) b ≡ false →
-          among (listed (left inside i)) b ≡ among (listed (left inside beyond)) b
-      among-past e = among-more b h ∙ rw e
-
-  module _ (l : length inside ≤ i) where
-    left-end : left inside i ≡ some []
-    unfolding items
-    left-end = rw (drop-all inside i l, items)
-
-    pub some-end : is-some (left inside i) ≡ true
-    some-end = ap is-some left-end
-
-    pub among-end : (b : ℕ) → among (listed (left inside i)) b ≡ false
-    among-end b = ap (λ x. among (listed x) b) left-end
-
--- `[.`, `[=` or `[:` at index i, or further on.
-module _ (inside : List ℕ) (i : ℕ) where
-  opens-first : i < length inside → opens (drop i inside) ≡ (eqb (getD inside i 0) (code "[") && one-of (bytes ".=:") (getD inside (i + 1) 0))
-  unfolding opens
-  opens-first l =
-      ap opens (drop-here 0 inside i l)
-      ∙ ap (λ t. eqb (getD inside i 0) (code "[") && t) (next-of-at (bytes ".=:") inside (i + 1) refl)
-
-  pub opens-not : i < length inside → (getD inside i 0 ≡ code "[" → ⊥) → false ≡ opens (drop i inside)
-  opens-not l e =
-      sym (opens-first l ∙ ap (λ t. t && one-of (bytes ".=:") (getD inside (i + 1) 0)) (ne-eqb (getD inside i 0) (code "[") e))
-
-  pub opens-by : i < length inside → getD inside i 0 ≡ code "[" → one-of (bytes ".=:") (getD inside (i + 1) 0) ≡ opens (drop i inside)
-  opens-by l e =
-      sym (opens-first l ∙ ap (λ t. t && one-of (bytes ".=:") (getD inside (i + 1) 0)) (eq-eqb (getD inside i 0) (code "[") e))
-
-  opens-or : i < length inside → reserved (drop i inside) ≡ (opens (drop i inside) || reserved (drop (i + 1) inside))
-  unfolding reserved opens
-  opens-or l = rw (drop-here 0 inside i l, reserved, opens)
-
-  pub reserved-here : i < length inside → opens (drop i inside) ≡ true → reserved (drop i inside) ≡ true
-  reserved-here l e = opens-or l ∙ rw e
-
-  pub reserved-more : i < length inside → opens (drop i inside) ≡ false → reserved (drop i inside) ≡ reserved (drop (i + 1) inside)
-  reserved-more l e = opens-or l ∙ rw e
-
-  pub reserved-end : length inside ≤ i → reserved (drop i inside) ≡ false
-  unfolding reserved
-  reserved-end l = rw (drop-all inside i l, reserved)
-
--- The members: nothing is reserved, and the items decide.
-module _ (inside : List ℕ) where
-  pub members-reserved : reserved inside ≡ true → false ≡ is-some (members inside)
-  unfolding members provided
-  members-reserved e = rw (e, members)
-
-  pub members-left : reserved inside ≡ false → left inside 0 ≡ members inside
-  unfolding members provided
-  members-left e = rw (e, members)
-
-  pub unreserved : is-some (members inside) ≡ true → reserved inside ≡ false
-  unreserved h = by (reserved inside) refl
+  byte-step : opens s ≡ false → signs (closed first s) ≡ byte (getD s 0 0) ∷ after s 1 → found s 1 → ItemStep first s
+  byte-step o q f = by (eqb (getD s 1 0) (code "]")) refl
     where
-      by : (t : Bool) → reserved inside ≡ t → t ≡ false
-      by true e = sym h ∙ sym (members-reserved e)
-      by false e = refl
+      by-range : (e : eqb (getD s 1 0) (code "]") ≡ false) (t : Bool) → ranges s ≡ t → ItemStep first s
+      by-range e false r =
+          let n = signs-at s 1 false f e in
+          plain-step o q f e r next (after s (1 + past (drop 1 s))) (n .0) (no-range r)
+      by-range e true r =
+          let n = signs-at s 1 false f e in
+          let h = hyphen-at r in
+          let u = hyphen-byte h in
+          let b : next ≡ byte (code "-") = rw u (ap byte (first-at s 1 ∙ h)) in
+          let p = next-past u in
+          let m = signs-at s 2 false (rw p at (n .1)) (more-at r) in
+          range-step o q f e r (n .0 ∙ ap (λ g. g ∷ after s (1 + past (drop 1 s))) b ∙ ap (λ k. byte (code "-") ∷ after s k) p) (m .0) (m .1)
+
+      by : (t : Bool) → eqb (getD s 1 0) (code "]") ≡ t → ItemStep first s
+      by true e = last-step o q f e
+      by false e = by-range e (ranges s) refl
+
+  pub item-step : is-some (closed first s) ≡ true → closes first (getD s 0 0) ≡ false → ItemStep first s
+  item-step f e = by (opens s) refl (signs-at s 0 first f e)
+    where
+      by :
+          (t : Bool) → opens s ≡ t →
+          (signs (closed first s) ≡ sign s ∷ after s (0 + past s)) × found s (0 + past s) → ItemStep first s
+      by true o n = let z : 0 + past s ≡ past s = omega arith in class-step o (rw z at (n .0)) (rw z at (n .1))
+      by false o n =
+          let z : 0 + past s ≡ 1 = ap (λ t. 0 + cond t (2 + (length (name (drop 2 s)) + 2)) 1) o in
+          let g : sign s ≡ byte (getD s 0 0) = rw o in
+          byte-step o (n .0 ∙ ap (λ m. m ∷ after s (0 + past s)) g ∙ ap (λ k. byte (getD s 0 0) ∷ after s k) z) (rw z at (n .1))

@@ -1,34 +1,42 @@
-// The items inside a bracket (document 01, "Brackets"): whether they are well formed, and whether a byte is in the range of one. The
-// inside is a part of the text, and the first item is at index 0 of it.
+// The items inside a bracket (document 01, "Brackets"; document 02, T-01): whether they are well formed, whether each class among them has a
+// known name, and whether a byte is in one of them. The first sign inside is at `first` in the text.
+use regex_class::class_has;
+use regex_class::is_class;
+use regex_signs::begins_class;
+use regex_signs::class_name;
+use regex_signs::closes;
+use regex_signs::sign_end;
 use text::one_of;
 use text::peek;
 ghost use mathlib.Core.Path.{_≡_};
 ghost use mathlib.Core.Bool.{true};
-ghost use Prim.Native.Nat.{_<_};
+ghost use Prim.Native.Nat.{_+_, _<_};
 ghost use lib.ListN.{length, getD, drop};
 ghost use lib.Dec.{eqb};
 ghost use Rattle.lists.specs.Memory.{old};
-ghost use Rattle.regex.specs.Tree.{among as amongOf, range, within};
-ghost use Rattle.regex.specs.Sets.{begins, reserved, members};
-ghost use Rattle.regex_items.specs.Items.{opens, fits, ranges, upto as uptoOf, width as widthOf, left, is-some, listed};
+ghost use Rattle.lists.specs.Options.{is-some, listed};
+ghost use Rattle.regex.specs.Tree.{among, range, within};
+ghost use Rattle.regex.specs.Sets.{begins, reserved, item-ranges};
+ghost use Rattle.regex_items.specs.Items.{ranges, upto as uptoOf, item, width, range-fits, fits, reserves as reservesOf, Closing, left, resolved};
 
-// Does `[.`, `[=` or `[:` begin here?
-fn opens_class(inside: &[u8], i: usize) -> bool
+// Does `[.` or `[=` begin here?
+fn reserves(inside: &[u8], i: usize) -> bool
     requires { ⌜ i < length (now inside) ⌝ }
-    ensures { λ r. ⌜ r ≡ opens (drop i (old inside)) ⌝ }
+    ensures { λ r. ⌜ r ≡ reservesOf (drop i (old inside)) ⌝ }
 {
     if inside[i] != b'[' {
         return false;
     }
-    one_of(b".=:", peek(inside, i + 1))
+    one_of(b".=", peek(inside, i + 1))
 }
 
-fn is_reserved(inside: &[u8]) -> bool
+// Is `[.` or `[=` anywhere inside?
+pub fn is_reserved(inside: &[u8]) -> bool
     ensures { λ r. ⌜ r ≡ reserved (old inside) ⌝ }
 {
     let mut i = 0;
     while i < inside.len() {
-        if opens_class(inside, i) {
+        if reserves(inside, i) {
             return true;
         }
         i += 1;
@@ -37,36 +45,50 @@ fn is_reserved(inside: &[u8]) -> bool
 }
 
 // Is the item here a range?
-fn is_range(inside: &[u8], i: usize) -> bool
-    requires { ⌜ i < length (now inside) ⌝ }
-    ensures { λ r. ⌜ r ≡ ranges (drop i (old inside)) ⌝ }
+fn is_range(text: &[u8], at: usize) -> bool
+    requires { ⌜ at < length (now text) ⌝ }
+    ensures { λ r. ⌜ r ≡ ranges (drop at (old text)) ⌝ }
 {
-    if inside.len() - i < 3 {
+    if peek(text, at + 1) != b'-' {
         return false;
     }
-    inside[i + 1] == b'-'
+    peek(text, at + 2) != b']'
 }
 
-// The last byte of the item here.
-fn upto(inside: &[u8], i: usize) -> u8
-    requires { ⌜ i < length (now inside) ⌝ }
-    ensures { λ r. ⌜ r ≡ uptoOf (drop i (old inside)) ⌝ }
+// The last byte of the item here, if it is no class.
+fn upto(text: &[u8], at: usize) -> u8
+    requires { ⌜ at < length (now text) ⌝ }
+    ensures { λ r. ⌜ r ≡ uptoOf (drop at (old text)) ⌝ }
 {
-    if is_range(inside, i) {
-        return peek(inside, i + 2);
+    if is_range(text, at) {
+        return peek(text, at + 2);
     }
-    inside[i]
+    text[at]
 }
 
-// How many bytes the item here takes.
-fn width(inside: &[u8], i: usize) -> usize
-    requires { ⌜ i < length (now inside) ⌝ }
-    ensures { λ r. ⌜ r ≡ widthOf (drop i (old inside)) ⌝ }
+// Where the item here ends.
+fn item_end(text: &[u8], at: usize) -> usize
+    requires { ⌜ at < length (now text) ⌝ }
+    ensures { λ r. ⌜ r ≡ at + width (drop at (old text)) ⌝ }
 {
-    if is_range(inside, i) {
-        return 3;
+    if is_range(text, at) {
+        return at + 3;
     }
-    1
+    sign_end(text, at)
+}
+
+// Is the item here no range, or one that ends in no class and does not descend?
+fn range_fits(text: &[u8], at: usize) -> bool
+    requires { ⌜ at < length (now text) ⌝ }
+    ensures { λ r. ⌜ r ≡ range-fits (drop at (old text)) ⌝ }
+{
+    if !is_range(text, at) {
+        return true;
+    }
+    if begins_class(text, at + 2) {
+        return false;
+    }
+    text[at] <= peek(text, at + 2)
 }
 
 // May an item that is not just before the closing `]` begin with this byte?
@@ -80,66 +102,105 @@ fn may_begin(first: bool, c: u8) -> bool
 }
 
 // Is the item allowed here?
-fn item_fits(inside: &[u8], i: usize) -> bool
-    requires { ⌜ i < length (now inside) ⌝ }
-    ensures { λ r. ⌜ r ≡ fits (eqb i 0) (drop i (old inside)) ⌝ }
+fn item_fits(text: &[u8], first: usize, at: usize) -> bool
+    requires { ⌜ at < length (now text) ⌝ }
+    ensures { λ r. ⌜ r ≡ fits (eqb at first) (drop at (old text)) ⌝ }
 {
-    if inside.len() - i <= 1 {
+    if begins_class(text, at) {
         return true;
     }
-    let c = inside[i];
-    if !may_begin(i == 0, c) {
+    if peek(text, at + 1) == b']' {
+        return true;
+    }
+    if !may_begin(at == first, text[at]) {
         return false;
     }
-    c <= upto(inside, i)
+    range_fits(text, at)
 }
 
 // Are all items well formed?
-fn are_items(inside: &[u8]) -> bool
-    ensures { λ r. ⌜ r ≡ is-some (left (old inside) 0) ⌝ }
+pub fn are_items(text: &[u8], first: usize) -> bool
+    requires { ⌜ Closing (now text) first first ⌝ }
+    ensures { λ r. ⌜ r ≡ is-some (left (old text) first first) ⌝ }
 {
-    let mut i = 0;
-    while i < inside.len() {
-        if !item_fits(inside, i) {
+    let mut i = first;
+    while i < text.len() {
+        if closes(text, first, i) {
+            return true;
+        }
+        if !item_fits(text, first, i) {
             return false;
         }
-        i += width(inside, i);
+        i = item_end(text, i);
+    }
+    false
+}
+
+// Is the item here no class of an unknown name?
+fn item_known(text: &[u8], at: usize) -> bool
+    requires { ⌜ at < length (now text) ⌝ }
+    ensures { λ r. ⌜ r ≡ is-some (item-ranges (item (drop at (old text)))) ⌝ }
+{
+    if begins_class(text, at) {
+        return is_class(class_name(text, at));
     }
     true
 }
 
-// Is the inside of a bracket well formed?
-pub fn are_members(inside: &[u8]) -> bool
-    ensures { λ r. ⌜ r ≡ is-some (members (old inside)) ⌝ }
+// Has each class a known name?
+pub fn are_known(text: &[u8], first: usize) -> bool
+    requires { ⌜ Closing (now text) first first × (is-some (left (now text) first first) ≡ true) ⌝ }
+    ensures { λ r. ⌜ r ≡ is-some (resolved (left (old text) first first)) ⌝ }
 {
-    if is_reserved(inside) {
-        return false;
-    }
-    are_items(inside)
-}
-
-// Is the byte in the range of the item here?
-fn item_has(inside: &[u8], i: usize, b: u8) -> bool
-    requires { ⌜ i < length (now inside) ⌝ }
-    ensures { λ r. ⌜ r ≡ within (range (getD (old inside) i 0) (uptoOf (drop i (old inside)))) b ⌝ }
-{
-    if b < inside[i] {
-        return false;
-    }
-    b <= upto(inside, i)
-}
-
-// Is the byte in the range of some item?
-pub fn has(inside: &[u8], b: u8) -> bool
-    requires { ⌜ is-some (members (now inside)) ≡ true ⌝ }
-    ensures { λ r. ⌜ r ≡ amongOf (listed (members (old inside))) b ⌝ }
-{
-    let mut i = 0;
-    while i < inside.len() {
-        if item_has(inside, i, b) {
+    let mut i = first;
+    while i < text.len() {
+        if closes(text, first, i) {
             return true;
         }
-        i += width(inside, i);
+        if !item_known(text, i) {
+            return false;
+        }
+        i = item_end(text, i);
+    }
+    false
+}
+
+// Is the byte in the range here?
+fn range_has(text: &[u8], at: usize, b: u8) -> bool
+    requires { ⌜ at < length (now text) ⌝ }
+    ensures { λ r. ⌜ r ≡ within (range (getD (old text) at 0) (uptoOf (drop at (old text)))) b ⌝ }
+{
+    if b < text[at] {
+        return false;
+    }
+    b <= upto(text, at)
+}
+
+// Is the byte in the item here?
+fn item_has(text: &[u8], at: usize, b: u8) -> bool
+    requires { ⌜ at < length (now text) ⌝ }
+    ensures { λ r. ⌜ r ≡ among (listed (item-ranges (item (drop at (old text))))) b ⌝ }
+{
+    if begins_class(text, at) {
+        return class_has(class_name(text, at), b);
+    }
+    range_has(text, at, b)
+}
+
+// Is the byte in some item?
+pub fn has(text: &[u8], first: usize, b: u8) -> bool
+    requires { ⌜ Closing (now text) first first × (is-some (resolved (left (now text) first first)) ≡ true) ⌝ }
+    ensures { λ r. ⌜ r ≡ among (listed (resolved (left (old text) first first))) b ⌝ }
+{
+    let mut i = first;
+    while i < text.len() {
+        if closes(text, first, i) {
+            return false;
+        }
+        if item_has(text, i, b) {
+            return true;
+        }
+        i = item_end(text, i);
     }
     false
 }

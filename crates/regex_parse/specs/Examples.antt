@@ -1,14 +1,15 @@
 -- Texts checked by computation: letters up to 128, and each of refusals 4 to 8.
 use mathlib.Core.Path.{_≡_, refl}
-use mathlib.Core.List.{List, [], _∷_, map}
+use mathlib.Core.List.{List, [], _∷_, map, flatMap}
 use Prim.Native.String.{String}
 use Rattle.refusal.specs.declared.Refusal.the-variants.{MisplacedSign, Depth, Count, Bracket, Foreign}
 use Rattle.text.specs.Bytes.{bytes}
 use Rattle.regex.specs.Letters.{labelsOf, letterCount}
+use Rattle.regex.specs.Classes.{classes, look-up, class-ranges}
 use Rattle.regex.specs.Parsing.{then, enclosed}
 use Rattle.text.specs.Text.{split}
 use Rattle.lists.specs.Cases.{first-of, provided}
-use Rattle.regex.specs.Sets.{closed, reserved, items, members, inside, bracket, escaped, a-set, labelled-set}
+use Rattle.regex.specs.Sets.{closed, reserved, items, members, ranges-of, known, inside, bracket, escaped, a-set, labelled-set}
 use Rattle.regex.specs.Repetition.{number, from-on, from-to, comma, counts, sign, repetition}
 use Rattle.regex.specs.Parse.{grouped, step, go, parse, whole, expressionOf}
 use Rattle.regex_parse.specs.declared.Parsed.{Parsed}
@@ -27,5 +28,5 @@ tried :
     × (answers ("((((((((((((((((a))))))))))))))))" ∷ "(((((((((((((((((a)))))))))))))))))" ∷ []) ≡ Letters 1 ∷ Refused Depth ∷ [])
     × (answers ("a{0}" ∷ "a{1,256}" ∷ "[b-a]" ∷ "[c]" ∷ "c" ∷ [])
     ≡ Refused Count ∷ Refused Count ∷ Refused Bracket ∷ Refused Foreign ∷ Refused Foreign ∷ [])
-unfolding answers map parsed expressionOf whole parse go step grouped repetition sign counts comma from-to from-on number labelled-set a-set escaped bracket inside members items reserved closed provided enclosed split first-of then letterCount labelsOf
+unfolding answers map parsed expressionOf whole parse go step grouped repetition sign counts comma from-to from-on number labelled-set a-set escaped bracket inside known classes look-up class-ranges ranges-of members flatMap items reserved closed provided enclosed split first-of then letterCount labelsOf
 tried = (refl, refl, refl, refl)

@@ -12,10 +12,11 @@ use Rattle.ctc.specs.Collapse.{merge, without-blanks, collapse}
 use Rattle.automaton.specs.Form.{encode}
 use Rattle.text.specs.Bytes.{bytes}
 use Rattle.regex.specs.Letters.{labelsOf, letterCount}
+use Rattle.regex.specs.Classes.{classes, look-up, class-ranges}
 use Rattle.regex.specs.Parsing.{then, enclosed}
 use Rattle.text.specs.Text.{split}
 use Rattle.lists.specs.Cases.{first-of, provided}
-use Rattle.regex.specs.Sets.{closed as closes, reserved, items, members, inside, bracket, escaped, a-set, labelled-set}
+use Rattle.regex.specs.Sets.{closed as closes, reserved, items, members, ranges-of, known, inside, bracket, escaped, a-set, labelled-set}
 use Rattle.regex.specs.Repetition.{number, from-on, from-to, comma, counts, sign, repetition}
 use Rattle.regex.specs.Parse.{grouped, step, go, parse, whole, expressionOf}
 use Rattle.positions.specs.Opened.{anyOf, copies, nested, repeated, opened, labels}
@@ -33,7 +34,7 @@ use Rattle.sheet_answer.specs.AnswerLaws.{prints-unique}
 
 -- "Input in full" and "Output in full"
 pub document-prints : Prints (bytes "ab\naa\n5 1 9\n5 1 9\n5 1 9\n") (bytes "7\naa\n1 0 1\n")
-unfolding cases onto pieces both every closed costOf columnOf flatten laid sheetFrom sheetOf provided digits decimal following spaced flatMap collapse merge without-blanks first-refusal compile-call distinct if-passed unless all any keep numbers encode labelsOf letterCount then first-of split enclosed closes reserved items members inside bracket escaped a-set labelled-set number from-on from-to comma counts sign repetition grouped step go parse whole expressionOf anyOf copies nested repeated opened labels numbered positionAutomaton
+unfolding cases onto pieces both every closed costOf columnOf flatten laid sheetFrom sheetOf provided digits decimal following spaced flatMap collapse merge without-blanks first-refusal compile-call distinct if-passed unless all any keep numbers encode labelsOf letterCount then first-of split enclosed closes reserved items members ranges-of class-ranges look-up classes known inside bracket escaped a-set labelled-set number from-on from-to comma counts sign repetition grouped step go parse whole expressionOf anyOf copies nested repeated opened labels numbered positionAutomaton
 document-prints = record { outcome = some (1 ∷ 0 ∷ 1 ∷ []); is = cases-stated .1 .0 .0; lines = refl }
 
 -- the program's output: the first bytes of its memory
@@ -51,7 +52,7 @@ pub others-print :
     × Prints (bytes "aa\n") (bytes "refused 18\n")
     × Prints (bytes "ab\nc\n") (bytes "refused 8\n")
     × Prints (bytes "ab\na\n1000001 2\n") (bytes "refused 12\n")
-unfolding cases onto pieces both every closed costOf columnOf flatten laid sheetFrom sheetOf provided digits decimal following spaced flatMap collapse merge without-blanks first-refusal compile-call distinct if-passed unless all any keep numbers encode labelsOf letterCount then first-of split enclosed closes reserved items members inside bracket escaped a-set labelled-set number from-on from-to comma counts sign repetition grouped step go parse whole expressionOf anyOf copies nested repeated opened labels numbered positionAutomaton
+unfolding cases onto pieces both every closed costOf columnOf flatten laid sheetFrom sheetOf provided digits decimal following spaced flatMap collapse merge without-blanks first-refusal compile-call distinct if-passed unless all any keep numbers encode labelsOf letterCount then first-of split enclosed closes reserved items members ranges-of class-ranges look-up classes known inside bracket escaped a-set labelled-set number from-on from-to comma counts sign repetition grouped step go parse whole expressionOf anyOf copies nested repeated opened labels numbered positionAutomaton
 others-print = (
   record { outcome = some (1 ∷ 2 ∷ []); is = cases-stated .0 .0; lines = refl },
   record { outcome = some []; is = cases-stated .1 .1 .1 .0 .0; lines = refl },

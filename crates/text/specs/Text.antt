@@ -24,7 +24,8 @@ abbrev pub rest : List ℕ → List ℕ
 rest [] = []
 rest (b ∷ s) = s
 
-abbrev pub in-front : ℕ → Option (List ℕ × List ℕ) → Option (List ℕ × List ℕ)
+-- one more in front of what was found before the rest of a text
+abbrev pub in-front : {X : Type 0} → X → Option (List X × List ℕ) → Option (List X × List ℕ)
 in-front b none = none
 in-front b (some x) = some (b ∷ x .0, x .1)
 

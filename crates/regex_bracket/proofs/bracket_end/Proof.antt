@@ -1,54 +1,59 @@
 -- `regex_bracket::bracket_end` meets its contract.
-use borrow.Author.Needs.{needs}
 use native.Mathlib.Omega.{arith}
 use denote.Ref.{now}
 use mathlib.Core.Path.{sym, _∙_}
-use Rattle.regex_bracket.specs.BracketLaws.{Bracket, bracket-order, bracket-unclosed, bracket-spoilt, bracket-ends, opened-within}
+use borrow.Author.Tests.{not-true, not-false}
+use Rattle.regex_bracket.specs.BracketLaws.{bracket-spoilt, bracket-left, bracket-closing, bracket-end, bracket-unknown, bracket-ends}
+use borrow.Author.Needs.{needs}
 use Rattle.regex_bracket.proofs.bracket_end.Statement.{statement}
 use Rattle.regex_bracket.proofs.bracket_end.Tie as tie
-
--- the bracket, once its first item and its end are known
-the-bracket : (c : tie.After-closing) → Bracket (now (c .before .before .before .args .text)) (c .before .before .before .args .at)
-    (c .before .opening .result) (c .closing .result)
-the-bracket c = record { begins = c .before .before .before .pre; opens = c .before .opening .ensures; closes = c .closing .ensures }
 
 opening-requires : tie.Need-opening-requires
 opening-requires c κs = search needs
 
 closing-requires : tie.Need-closing-requires
-closing-requires c κs =
-    let start = c .before .before in
-    rw (c .opening .ensures) (opened-within (now (start .args .text)) (start .args .at) (start .pre))
+closing-requires c κs = search needs
+
+is-well-formed-requires : tie.Need-is-well-formed-requires
+is-well-formed-requires c κs = c .closing .ensures
 
 returns : tie.Need-returns
-returns c = bracket-unclosed (the-bracket (c .before)) (c .if1 .taken)
+returns c =
+    let a = c .before .before .before .before .before .args in
+    let o = c .before .before .before .opening in
+    bracket-spoilt (now (a .text)) (a .at) (o .result) (o .ensures) (sym (c .before .is-well-formed .ensures) ∙ not-true _ (c .if1 .taken))
 
-sub-are-members : tie.Need-sub-are-members
-sub-are-members c = let o = bracket-order (the-bracket (c .before)) in omega arith
+are-known-requires : tie.Need-are-known-requires
+are-known-requires c κs =
+    let a = c .before .before .before .before .before .args in
+    let o = c .before .before .before .opening in
+    let m = sym (c .before .is-well-formed .ensures) ∙ not-false _ (c .if1 .left) in
+    (bracket-closing (now (a .text)) (a .at) (o .result) (o .ensures) m, bracket-left (now (a .text)) (a .at) (o .result) (o .ensures) m)
 
-part-are-members-start : tie.Need-part-are-members-start
-part-are-members-start c = bracket-order (the-bracket (c .before))
-
-part-are-members-end : tie.Need-part-are-members-end
-part-are-members-end c = search needs
-
-are-members-requires : tie.Need-are-members-requires
-are-members-requires c κs = search needs
-
-add-t12 : tie.Need-add-t12
-add-t12 c = search needs
+add-t9 : tie.Need-add-t9
+add-t9 c =
+    let a = c .before .before .before .before .before .before .before .args in
+    let o = c .before .before .before .before .before .opening in
+    let e = c .before .before .before .before .closing in
+    let m = sym (c .before .before .before .is-well-formed .ensures) ∙ not-false _ (c .before .before .if1 .left) in
+    let l = bracket-end (now (a .text)) (a .at) (o .result) (o .ensures) m (e .result) (e .ensures .1) in
+    omega arith
 
 returns-2 : tie.Need-returns-2
 returns-2 c =
-    let after-closing = c .before .before .before .before in
-    let else1 = c .before .before .before in
-    bracket-ends (the-bracket after-closing) (else1 .if1 .left) (sym (c .before .are-members .ensures) ∙ c .if2 .taken)
+    let a = c .before .before .before .before .before .before .before .args in
+    let o = c .before .before .before .before .before .opening in
+    let e = c .before .before .before .before .closing in
+    let m = sym (c .before .before .before .is-well-formed .ensures) ∙ not-false _ (c .before .before .if1 .left) in
+    bracket-ends (now (a .text)) (a .at) (o .result) (o .ensures) m (e .result) (e .ensures .1) (sym (c .before .are-known .ensures) ∙ c .if2 .taken)
 
 returns-3 : tie.Need-returns-3
 returns-3 c =
-    let after-closing = c .before .before .before .before in
-    let else1 = c .before .before .before in
-    bracket-spoilt (the-bracket after-closing) (else1 .if1 .left) (sym (c .before .are-members .ensures) ∙ c .if2 .left)
+    let a = c .before .before .before .before .before .before .before .args in
+    let o = c .before .before .before .before .before .opening in
+    let e = c .before .before .before .before .closing in
+    let m = sym (c .before .before .before .is-well-formed .ensures) ∙ not-false _ (c .before .before .if1 .left) in
+    bracket-unknown (now (a .text)) (a .at) (o .result) (o .ensures) m (e .result) (e .ensures .1) (sym (c .before .are-known .ensures) ∙ c .if2 .left)
 
 pub bracket-end-spec : {M : Type 1} → statement M
 bracket-end-spec =
@@ -56,11 +61,9 @@ bracket-end-spec =
     (tie.spec
     opening-requires
     closing-requires
+    is-well-formed-requires
     returns
-    sub-are-members
-    part-are-members-start
-    part-are-members-end
-    are-members-requires
-    add-t12
+    are-known-requires
+    add-t9
     returns-2
     returns-3)

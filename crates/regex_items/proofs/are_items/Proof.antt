@@ -3,67 +3,68 @@ use native.Mathlib.Omega.{arith}
 use denote.Ref.{now}
 use Prim.Native.Nat.{_≤_, _-_}
 use mathlib.Core.Path.{_≡_, refl, sym, _∙_}
-use lib.ListN.{length}
+use lib.ListN.{length, drop}
 use borrow.Author.Tests.{not-true, not-false}
-use Rattle.regex_items.specs.Items.{is-some, left}
-use Rattle.regex_items.specs.ItemsLaws.{width-bounds, left-spoilt, left-more, some-end}
+use Rattle.lists.specs.Options.{is-some}
+use Rattle.regex_items.specs.Items.{Closing, left}
+use Rattle.regex_items.specs.ItemsLaws.{width-some}
+use Rattle.regex_items.specs.LeftLoops.{closing-within, some-end, closing-more, left-spoilt, left-more}
+use borrow.Author.Needs.{needs}
 use Rattle.regex_items.proofs.are_items.Statement.{statement}
 use Rattle.regex_items.proofs.are_items.Tie as tie
 
 abbrev Inv-loop : tie.InvT-loop
-Inv-loop inside i₀ i = (i ≤ length inside) × (is-some (left inside i) ≡ is-some (left inside 0))
+Inv-loop text first i₀ i = (first ≤ i) × Closing text first i × (is-some (left text first i) ≡ is-some (left text first first))
 
 abbrev μ-loop : tie.MeasureT-loop
-μ-loop inside i₀ i = length inside - i
+μ-loop text first i₀ i = length text - i
 
 loop-holds : tie.Need-loop-holds Inv-loop μ-loop
-loop-holds c = (omega arith, refl)
+loop-holds c = (omega arith, c .before .pre, refl)
 
-item-fits-requires : tie.Need-item-fits-requires Inv-loop μ-loop
-item-fits-requires c κs = omega arith
+closes-requires : tie.Need-closes-requires Inv-loop μ-loop
+closes-requires c κs = search needs
 
 returns : tie.Need-returns Inv-loop μ-loop
 returns c =
-    let start = c .before .before .before .before .before in
-    let at-loop = c .before .before .before in
-    let s = now (start .args .inside) in
-    let l = at-loop .loop in
-    sym (left-spoilt s (l .i) (omega arith) (sym (c .before .item-fits .ensures) ∙ not-true _ (c .if1 .taken))) ∙ l .inv .1
+    let a = c .before .before .before .before .before .args in
+    let l = c .before .before .before .loop in
+    sym (some-end (now (a .text)) (a .first) (l .i) (l .inv .1) (sym (c .before .closes .ensures) ∙ c .if1 .taken)) ∙ l .inv .2
 
-width-requires : tie.Need-width-requires Inv-loop μ-loop
-width-requires c κs = omega arith
+item-fits-requires : tie.Need-item-fits-requires Inv-loop μ-loop
+item-fits-requires c κs = c .before .before .loop-test .taken
 
-add-i : tie.Need-add-i Inv-loop μ-loop
-add-i c =
-    let start = c .before .before .before .before .before .before in
-    let at-loop = c .before .before .before .before in
-    let w = width-bounds (now (start .args .inside)) (at-loop .loop .i) (c .width .result) (c .width .ensures) (omega arith) in
-    omega arith
+returns-2 : tie.Need-returns-2 Inv-loop μ-loop
+returns-2 c =
+    let a = c .before .before .before .before .before .before .before .args in
+    let l = c .before .before .before .before .before .loop in
+    sym (left-spoilt (now (a .text)) (a .first) (l .i) (l .inv .1) (l .inv .0) (sym (c .before .before .before .closes .ensures) ∙ c .before .before .if1 .left) (sym (c .before .item-fits .ensures) ∙ not-true _ (c .if2 .taken))) ∙ l .inv .2
+
+item-end-requires : tie.Need-item-end-requires Inv-loop μ-loop
+item-end-requires c κs = c .before .before .before .before .loop-test .taken
 
 loop-less : tie.Need-loop-less Inv-loop μ-loop
 loop-less c =
-    let start = c .before .before .before .before .before .before in
-    let at-loop = c .before .before .before .before in
-    let w = width-bounds (now (start .args .inside)) (at-loop .loop .i) (c .width .result) (c .width .ensures) (omega arith) in
+    let a = c .before .before .before .before .before .before .before .before .args in
+    let w = width-some (drop (c .before .before .before .before .before .before .loop .i) (now (a .text))) in
+    let e = c .item-end .ensures in
     omega arith
 
 loop-again : tie.Need-loop-again Inv-loop μ-loop
 loop-again c =
-    let start = c .before .before .before .before .before .before in
-    let at-loop = c .before .before .before .before in
-    let s = now (start .args .inside) in
-    let l = at-loop .loop in
-    let r = c .width in
-    let w = width-bounds s (l .i) (r .result) (r .ensures) (omega arith) in
-    let m = left-more s (l .i) (omega arith) (sym (c .before .before .item-fits .ensures) ∙ not-false _ (c .before .if1 .left)) in
-    (omega arith, rw (r .ensures) (sym m ∙ l .inv .1))
+    let a = c .before .before .before .before .before .before .before .before .args in
+    let l = c .before .before .before .before .before .before .loop in
+    let n = sym (c .before .before .before .before .closes .ensures) ∙ c .before .before .before .if1 .left in
+    let f = sym (c .before .before .item-fits .ensures) ∙ not-false _ (c .before .if2 .left) in
+    rw (c .item-end .ensures)
+    (omega arith, closing-more (now (a .text)) (a .first) (l .i) (l .inv .1) (l .inv .0) n f, sym (left-more (now (a .text)) (a .first) (l .i) (l .inv .1) (l .inv .0) n f) ∙ l .inv .2)
 
-returns-2 : tie.Need-returns-2 Inv-loop μ-loop
-returns-2 c =
-    let start = c .before .before .before in
-    let s = now (start .args .inside) in
+returns-3 : tie.Need-returns-3 Inv-loop μ-loop
+returns-3 c =
+    let a = c .before .before .before .args in
     let l = c .before .loop in
-    sym (some-end s (l .i) (omega arith)) ∙ l .inv .1
+    let w = closing-within (now (a .text)) (a .first) (l .i) (l .inv .1) in
+    absurd (omega arith)
 
 pub are-items-spec : {M : Type 1} → statement M
 are-items-spec =
@@ -72,10 +73,11 @@ are-items-spec =
     Inv-loop
     μ-loop
     loop-holds
-    item-fits-requires
+    closes-requires
     returns
-    width-requires
-    add-i
+    item-fits-requires
+    returns-2
+    item-end-requires
     loop-less
     loop-again
-    returns-2)
+    returns-3)

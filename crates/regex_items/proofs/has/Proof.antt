@@ -2,75 +2,76 @@
 use native.Mathlib.Omega.{arith}
 use denote.Ref.{now}
 use Prim.Native.Nat.{_≤_, _-_}
-use mathlib.Core.Path.{_≡_, sym, ap, _∙_}
+use mathlib.Core.Path.{_≡_, refl, sym, _∙_}
 use mathlib.Core.Bool.{true}
-use lib.ListN.{length}
+use lib.ListN.{length, drop}
+use Rattle.lists.specs.Options.{is-some, listed}
 use Rattle.regex.specs.Tree.{among}
-use Rattle.regex.specs.Sets.{members}
-use Rattle.regex_items.specs.Items.{is-some, listed, left}
-use Rattle.regex_items.specs.ItemsLaws.{width-bounds, members-left, unreserved, some-more, among-here, among-past, among-end}
+use Rattle.regex_items.specs.Items.{Closing, left, resolved}
+use Rattle.regex_items.specs.ItemsLaws.{width-some}
+use Rattle.regex_items.specs.LeftLoops.{closing-within, among-end, closing-more, is-allowed, known-good, resolved-more, among-here, among-past}
+use borrow.Author.Needs.{needs}
 use Rattle.regex_items.proofs.has.Statement.{statement}
 use Rattle.regex_items.proofs.has.Tie as tie
 
 abbrev Inv-loop : tie.InvT-loop
-Inv-loop inside b i₀ i = (i ≤ length inside) × (is-some (left inside i) ≡ true) ×
-    (among (listed (left inside i)) b ≡ among (listed (members inside)) b)
+Inv-loop text first b i₀ i = (first ≤ i) × Closing text first i × (is-some (resolved (left text first i)) ≡ true) × (among (listed (resolved (left text first i))) b ≡ among (listed (resolved (left text first first))) b)
 
 abbrev μ-loop : tie.MeasureT-loop
-μ-loop inside b i₀ i = length inside - i
+μ-loop text first b i₀ i = length text - i
 
 loop-holds : tie.Need-loop-holds Inv-loop μ-loop
-loop-holds c =
-    let s = now (c .before .args .inside) in
-    let m = members-left s (unreserved s (c .before .pre)) in
-    (omega arith, ap is-some m ∙ c .before .pre, ap (λ x. among (listed x) (c .before .args .b)) m)
+loop-holds c = (omega arith, c .before .pre .0, c .before .pre .1, refl)
 
-item-has-requires : tie.Need-item-has-requires Inv-loop μ-loop
-item-has-requires c κs = omega arith
+closes-requires : tie.Need-closes-requires Inv-loop μ-loop
+closes-requires c κs = search needs
 
 returns : tie.Need-returns Inv-loop μ-loop
 returns c =
-    let start = c .before .before .before .before .before in
-    let at-loop = c .before .before .before in
-    let s = now (start .args .inside) in
-    let l = at-loop .loop in
-    sym (among-here s (l .i) (omega arith) (start .args .b) (l .inv .1) (sym (c .before .item-has .ensures) ∙ c .if1 .taken)) ∙ l .inv .2
+    let a = c .before .before .before .before .before .args in
+    let l = c .before .before .before .loop in
+    sym (among-end (now (a .text)) (a .first) (l .i) (l .inv .1) (sym (c .before .closes .ensures) ∙ c .if1 .taken) (a .b)) ∙ l .inv .3
 
-width-requires : tie.Need-width-requires Inv-loop μ-loop
-width-requires c κs = omega arith
+item-has-requires : tie.Need-item-has-requires Inv-loop μ-loop
+item-has-requires c κs = c .before .before .loop-test .taken
 
-add-i : tie.Need-add-i Inv-loop μ-loop
-add-i c =
-    let start = c .before .before .before .before .before .before in
-    let at-loop = c .before .before .before .before in
-    let w = width-bounds (now (start .args .inside)) (at-loop .loop .i) (c .width .result) (c .width .ensures) (omega arith) in
-    omega arith
+returns-2 : tie.Need-returns-2 Inv-loop μ-loop
+returns-2 c =
+    let a = c .before .before .before .before .before .before .before .args in
+    let l = c .before .before .before .before .before .loop in
+    let n = sym (c .before .before .before .closes .ensures) ∙ c .before .before .if1 .left in
+    sym (among-here (now (a .text)) (a .first) (l .i) (l .inv .1) (l .inv .0) n (l .inv .2) (a .b) (sym (c .before .item-has .ensures) ∙ c .if2 .taken)) ∙ l .inv .3
+
+item-end-requires : tie.Need-item-end-requires Inv-loop μ-loop
+item-end-requires c κs = c .before .before .before .before .loop-test .taken
 
 loop-less : tie.Need-loop-less Inv-loop μ-loop
 loop-less c =
-    let start = c .before .before .before .before .before .before in
-    let at-loop = c .before .before .before .before in
-    let w = width-bounds (now (start .args .inside)) (at-loop .loop .i) (c .width .result) (c .width .ensures) (omega arith) in
+    let a = c .before .before .before .before .before .before .before .before .args in
+    let w = width-some (drop (c .before .before .before .before .before .before .loop .i) (now (a .text))) in
+    let e = c .item-end .ensures in
     omega arith
 
 loop-again : tie.Need-loop-again Inv-loop μ-loop
 loop-again c =
-    let start = c .before .before .before .before .before .before in
-    let at-loop = c .before .before .before .before in
-    let s = now (start .args .inside) in
-    let l = at-loop .loop in
-    let r = c .width in
-    let w = width-bounds s (l .i) (r .result) (r .ensures) (omega arith) in
-    let m = among-past s (l .i) (omega arith) (start .args .b) (l .inv .1)
-    (sym (c .before .before .item-has .ensures) ∙ c .before .if1 .left) in
-    (omega arith, rw (r .ensures) (some-more s (l .i) (omega arith) (l .inv .1)), rw (r .ensures) (sym m ∙ l .inv .2))
+    let a = c .before .before .before .before .before .before .before .before .args in
+    let l = c .before .before .before .before .before .before .loop in
+    let s = now (a .text) in
+    let n = sym (c .before .before .before .before .closes .ensures) ∙ c .before .before .before .if1 .left in
+    let g = known-good s (a .first) (l .i) (l .inv .1) (l .inv .0) n (l .inv .2) in
+    rw (c .item-end .ensures) (
+      omega arith,
+      closing-more s (a .first) (l .i) (l .inv .1) (l .inv .0) n (is-allowed s (a .first) (l .i) (l .inv .1) (l .inv .0) n g),
+      resolved-more s (a .first) (l .i) (l .inv .1) (l .inv .0) n (l .inv .2),
+      sym (among-past s (a .first) (l .i) (l .inv .1) (l .inv .0) n (l .inv .2) (a .b) (sym (c .before .before .item-has .ensures) ∙ c .before .if2 .left)) ∙ l .inv .3,
+    )
 
-returns-2 : tie.Need-returns-2 Inv-loop μ-loop
-returns-2 c =
-    let start = c .before .before .before in
-    let s = now (start .args .inside) in
+returns-3 : tie.Need-returns-3 Inv-loop μ-loop
+returns-3 c =
+    let a = c .before .before .before .args in
     let l = c .before .loop in
-    sym (among-end s (l .i) (omega arith) (start .args .b)) ∙ l .inv .2
+    let w = closing-within (now (a .text)) (a .first) (l .i) (l .inv .1) in
+    absurd (omega arith)
 
 pub has-spec : {M : Type 1} → statement M
 has-spec =
@@ -79,10 +80,11 @@ has-spec =
     Inv-loop
     μ-loop
     loop-holds
-    item-has-requires
+    closes-requires
     returns
-    width-requires
-    add-i
+    item-has-requires
+    returns-2
+    item-end-requires
     loop-less
     loop-again
-    returns-2)
+    returns-3)

@@ -1,26 +1,43 @@
 -- `regex_items::is_range` meets its contract.
-use borrow.Author.Needs.{needs}
 use denote.Ref.{now}
-use Rattle.regex_items.specs.ItemsLaws.{ranges-short, ranges-by}
+use Prim.Native.Char.{code}
+use mathlib.Core.Path.{sym, ap, _∙_}
+use mathlib.Core.Bool.{not}
+use lib.Dec.{eqb}
+use Rattle.regex_items.specs.PlacesLaws.{ranges-not, ranges-by}
+use borrow.Author.Needs.{needs}
 use Rattle.regex_items.proofs.is_range.Statement.{statement}
 use Rattle.regex_items.proofs.is_range.Tie as tie
 
-sub-if1 : tie.Need-sub-if1
-sub-if1 c = search needs
+add-peek : tie.Need-add-peek
+add-peek c = search needs
+
+peek-requires : tie.Need-peek-requires
+peek-requires c κs = search needs
 
 returns : tie.Need-returns
-returns c = ranges-short (now (c .before .args .inside)) (c .before .args .i) (c .if1 .taken)
+returns c =
+    let a = c .before .before .before .args in
+    ranges-not (now (a .text)) (a .at) (λ e. c .if1 .taken (c .before .peek .ensures ∙ e))
 
-add-result : tie.Need-add-result
-add-result c = search needs
+add-peek-2 : tie.Need-add-peek-2
+add-peek-2 c = search needs
 
-shared-slice-read-result : tie.Need-shared-slice-read-result
-shared-slice-read-result c = search needs
+peek-requires-2 : tie.Need-peek-requires-2
+peek-requires-2 c κs = search needs
 
 returns-2 : tie.Need-returns-2
 returns-2 c =
-    let start = c .before .before in
-    ranges-by (now (start .args .inside)) (start .args .i) (c .before .if1 .left)
+    let a = c .before .before .before .before .args in
+    ap (λ b. not (eqb b (code "]"))) (c .peek2 .ensures) ∙ ranges-by (now (a .text)) (a .at) (sym (c .before .before .peek .ensures) ∙ c .before .if1 .left)
 
 pub is-range-spec : {M : Type 1} → statement M
-is-range-spec = tie.close (tie.spec sub-if1 returns add-result shared-slice-read-result returns-2)
+is-range-spec =
+    tie.close
+    (tie.spec
+    add-peek
+    peek-requires
+    returns
+    add-peek-2
+    peek-requires-2
+    returns-2)

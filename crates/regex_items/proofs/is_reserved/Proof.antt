@@ -5,7 +5,7 @@ use Prim.Native.Nat.{_≤_, _-_}
 use mathlib.Core.Path.{_≡_, refl, sym, _∙_}
 use lib.ListN.{length, drop}
 use Rattle.regex.specs.Sets.{reserved}
-use Rattle.regex_items.specs.ItemsLaws.{reserved-here, reserved-more, reserved-end}
+use Rattle.regex_items.specs.ReservedLaws.{reserved-here, reserved-more, reserved-end}
 use Rattle.regex_items.proofs.is_reserved.Statement.{statement}
 use Rattle.regex_items.proofs.is_reserved.Tie as tie
 
@@ -18,8 +18,8 @@ abbrev μ-loop : tie.MeasureT-loop
 loop-holds : tie.Need-loop-holds Inv-loop μ-loop
 loop-holds c = (omega arith, refl)
 
-opens-class-requires : tie.Need-opens-class-requires Inv-loop μ-loop
-opens-class-requires c κs = omega arith
+reserves-requires : tie.Need-reserves-requires Inv-loop μ-loop
+reserves-requires c κs = omega arith
 
 returns : tie.Need-returns Inv-loop μ-loop
 returns c =
@@ -27,7 +27,7 @@ returns c =
     let at-loop = c .before .before .before in
     let s = now (start .args .inside) in
     let l = at-loop .loop in
-    sym (reserved-here s (l .i) (omega arith) (sym (c .before .opens-class .ensures) ∙ c .if1 .taken)) ∙ l .inv .1
+    sym (reserved-here s (l .i) (omega arith) (sym (c .before .reserves .ensures) ∙ c .if1 .taken)) ∙ l .inv .1
 
 add-i : tie.Need-add-i Inv-loop μ-loop
 add-i c = omega arith
@@ -41,7 +41,7 @@ loop-again c =
     let at-loop = c .before .before .before in
     let s = now (start .args .inside) in
     let l = at-loop .loop in
-    (omega arith, sym (reserved-more s (l .i) (omega arith) (sym (c .before .opens-class .ensures) ∙ c .if1 .left)) ∙ l .inv .1)
+    (omega arith, sym (reserved-more s (l .i) (omega arith) (sym (c .before .reserves .ensures) ∙ c .if1 .left)) ∙ l .inv .1)
 
 returns-2 : tie.Need-returns-2 Inv-loop μ-loop
 returns-2 c =
@@ -51,4 +51,4 @@ returns-2 c =
     sym (reserved-end s (l .i) (omega arith)) ∙ l .inv .1
 
 pub is-reserved-spec : {M : Type 1} → statement M
-is-reserved-spec = tie.close (tie.spec Inv-loop μ-loop loop-holds opens-class-requires returns add-i loop-less loop-again returns-2)
+is-reserved-spec = tie.close (tie.spec Inv-loop μ-loop loop-holds reserves-requires returns add-i loop-less loop-again returns-2)

@@ -1,44 +1,67 @@
 -- `regex_items::item_fits` meets its contract.
-use borrow.Author.Needs.{needs}
 use denote.Ref.{now}
-use mathlib.Core.Path.{sym, ap, _∙_}
-use lib.ListN.{getD}
-use lib.Dec.{eqb, leb}
+use mathlib.Core.Path.{sym, _∙_}
+use lib.ListN.{drop}
+use lib.Dec.{eqb}
 use borrow.Author.Tests.{not-true, not-false}
-use Rattle.regex_items.specs.ItemsLaws.{fits-last, fits-not, fits-by}
+use Rattle.regex_items.specs.ItemsLaws.{fits-class}
+use Rattle.regex_items.specs.PlacesLaws.{fits-last-at, fits-not-at, fits-by-at}
+use borrow.Author.Needs.{needs}
 use Rattle.regex_items.proofs.item_fits.Statement.{statement}
 use Rattle.regex_items.proofs.item_fits.Tie as tie
 
-sub-if1 : tie.Need-sub-if1
-sub-if1 c = search needs
+begins-class-requires : tie.Need-begins-class-requires
+begins-class-requires c κs = search needs
 
 returns : tie.Need-returns
 returns c =
-    let start = c .before .before in
-    fits-last (now (start .args .inside)) (start .args .i) (eqb (start .args .i) 0) (c .if1 .taken)
+    let a = c .before .before .before .args in
+    fits-class (drop (a .at) (now (a .text))) (eqb (a .at) (a .first)) (sym (c .before .begins-class .ensures) ∙ c .if1 .taken)
 
-shared-slice-read-c : tie.Need-shared-slice-read-c
-shared-slice-read-c c = search needs
+add-peek : tie.Need-add-peek
+add-peek c = search needs
+
+peek-requires : tie.Need-peek-requires
+peek-requires c κs = search needs
+
+returns-2 : tie.Need-returns-2
+returns-2 c =
+    let a = c .before .before .before .before .before .args in
+    fits-last-at (now (a .text)) (a .at) (sym (c .before .before .before .begins-class .ensures) ∙ c .before .before .if1 .left) (eqb (a .at) (a .first)) (sym (c .before .peek .ensures) ∙ c .if2 .taken)
+
+shared-slice-read-may-begin : tie.Need-shared-slice-read-may-begin
+shared-slice-read-may-begin c = search needs
 
 may-begin-requires : tie.Need-may-begin-requires
 may-begin-requires c κs = search needs
 
-returns-2 : tie.Need-returns-2
-returns-2 c =
-    let start = c .before .before .before .before .before in
-    let else1 = c .before .before .before in
-    fits-not (now (start .args .inside)) (start .args .i) (eqb (start .args .i) 0) (else1 .if1 .left)
-    (sym (c .before .may-begin .ensures) ∙ not-true _ (c .if2 .taken))
-
-upto-requires : tie.Need-upto-requires
-upto-requires c κs = search needs
-
 returns-3 : tie.Need-returns-3
 returns-3 c =
-    let start = c .before .before .before .before .before .before in
-    let else1 = c .before .before .before .before in
-    ap (leb (getD (now (start .args .inside)) (start .args .i) 0)) (c .upto .ensures) ∙ fits-by (now (start .args .inside)) (start .args .i)
-    (eqb (start .args .i) 0) (else1 .if1 .left) (sym (c .before .before .may-begin .ensures) ∙ not-false _ (c .before .if2 .left))
+    let a = c .before .before .before .before .before .before .before .before .args in
+    fits-not-at (now (a .text)) (a .at) (sym (c .before .before .before .before .before .before .begins-class .ensures) ∙ c .before .before .before .before .before .if1 .left) (λ e. c .before .before .before .if2 .left (c .before .before .before .before .peek .ensures ∙ e)) (eqb (a .at) (a .first))
+    (sym (c .before .may-begin .ensures) ∙ not-true _ (c .if3 .taken))
+
+range-fits-requires : tie.Need-range-fits-requires
+range-fits-requires c κs = search needs
+
+returns-4 : tie.Need-returns-4
+returns-4 c =
+    let a = c .before .before .before .before .before .before .before .before .before .args in
+    c .range-fits .ensures
+    ∙ fits-by-at (now (a .text)) (a .at) (sym (c .before .before .before .before .before .before .before .begins-class .ensures) ∙ c .before .before .before .before .before .before .if1 .left) (λ e. c .before .before .before .before .if2 .left (c .before .before .before .before .before .peek .ensures ∙ e)) (eqb (a .at) (a .first))
+    (sym (c .before .before .may-begin .ensures) ∙ not-false _ (c .before .if3 .left))
 
 pub item-fits-spec : {M : Type 1} → statement M
-item-fits-spec = tie.close (tie.spec sub-if1 returns shared-slice-read-c may-begin-requires returns-2 upto-requires returns-3)
+item-fits-spec =
+    tie.close
+    (tie.spec
+    begins-class-requires
+    returns
+    add-peek
+    peek-requires
+    returns-2
+    shared-slice-read-may-begin
+    may-begin-requires
+    returns-3
+    range-fits-requires
+    returns-4)

@@ -1,24 +1,44 @@
 -- `regex_items::item_has` meets its contract.
+use denote.Ref.{now}
+use mathlib.Core.Path.{sym, ap, _∙_}
+use Rattle.lists.specs.Options.{listed}
+use Rattle.regex.specs.Tree.{among}
+use Rattle.regex.specs.Classes.{class-ranges}
+use Rattle.regex_items.specs.PlacesLaws.{has-class, has-range}
 use borrow.Author.Needs.{needs}
-use mathlib.Core.Path.{ap}
-use lib.Dec.{leb}
-use borrow.Author.Tests.{lt-leb, le-leb}
 use Rattle.regex_items.proofs.item_has.Statement.{statement}
 use Rattle.regex_items.proofs.item_has.Tie as tie
 
-shared-slice-read-if1 : tie.Need-shared-slice-read-if1
-shared-slice-read-if1 c = search needs
+begins-class-requires : tie.Need-begins-class-requires
+begins-class-requires c κs = search needs
+
+class-name-requires : tie.Need-class-name-requires
+class-name-requires c κs = sym (c .before .begins-class .ensures) ∙ c .if1 .taken
+
+class-has-requires : tie.Need-class-has-requires
+class-has-requires c κs = search needs
 
 returns : tie.Need-returns
-returns c = rw (lt-leb _ _ (c .if1 .taken))
+returns c =
+    let a = c .before .before .before .before .before .args in
+    c .class-has .ensures ∙ ap (λ n. among (listed (class-ranges n)) (a .b)) (c .before .class-name .ensures)
+    ∙ has-class (now (a .text)) (a .at) (sym (c .before .before .before .begins-class .ensures) ∙ c .before .before .if1 .taken) (a .b)
 
-upto-requires : tie.Need-upto-requires
-upto-requires c κs = search needs
+range-has-requires : tie.Need-range-has-requires
+range-has-requires c κs = search needs
 
 returns-2 : tie.Need-returns-2
 returns-2 c =
-    let start = c .before .before .before .before in
-    rw (le-leb _ _ (c .before .if1 .left)) (ap (leb (start .args .b)) (c .upto .ensures))
+    let a = c .before .before .before .before .args in
+    c .range-has .ensures ∙ has-range (now (a .text)) (a .at) (sym (c .before .before .begins-class .ensures) ∙ c .before .if1 .left) (a .b)
 
 pub item-has-spec : {M : Type 1} → statement M
-item-has-spec = tie.close (tie.spec shared-slice-read-if1 returns upto-requires returns-2)
+item-has-spec =
+    tie.close
+    (tie.spec
+    begins-class-requires
+    class-name-requires
+    class-has-requires
+    returns
+    range-has-requires
+    returns-2)

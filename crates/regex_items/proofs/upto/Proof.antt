@@ -1,8 +1,8 @@
 -- `regex_items::upto` meets its contract.
-use borrow.Author.Needs.{needs}
 use denote.Ref.{now}
 use mathlib.Core.Path.{sym, _∙_}
-use Rattle.regex_items.specs.ItemsLaws.{upto-range, upto-single}
+use Rattle.regex_items.specs.PlacesLaws.{upto-range-at, upto-one-at}
+use borrow.Author.Needs.{needs}
 use Rattle.regex_items.proofs.upto.Statement.{statement}
 use Rattle.regex_items.proofs.upto.Tie as tie
 
@@ -17,17 +17,24 @@ peek-requires c κs = search needs
 
 returns : tie.Need-returns
 returns c =
-    let start = c .before .before .before .before in
-    c .peek .ensures ∙ upto-range (now (start .args .inside)) (start .args .i)
-    (sym (c .before .before .is-range .ensures) ∙ c .before .if1 .taken)
+    let a = c .before .before .before .before .args in
+    c .peek .ensures ∙ upto-range-at (now (a .text)) (a .at) (sym (c .before .before .is-range .ensures) ∙ c .before .if1 .taken)
 
 shared-slice-read-result : tie.Need-shared-slice-read-result
 shared-slice-read-result c = search needs
 
 returns-2 : tie.Need-returns-2
 returns-2 c =
-    let start = c .before .before .before .before in
-    upto-single (now (start .args .inside)) (start .args .i) (sym (c .before .before .is-range .ensures) ∙ c .before .if1 .left)
+    let a = c .before .before .before .before .args in
+    upto-one-at (now (a .text)) (a .at) (sym (c .before .before .is-range .ensures) ∙ c .before .if1 .left)
 
 pub upto-spec : {M : Type 1} → statement M
-upto-spec = tie.close (tie.spec is-range-requires add-peek peek-requires returns shared-slice-read-result returns-2)
+upto-spec =
+    tie.close
+    (tie.spec
+    is-range-requires
+    add-peek
+    peek-requires
+    returns
+    shared-slice-read-result
+    returns-2)

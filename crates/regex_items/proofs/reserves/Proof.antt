@@ -1,12 +1,12 @@
--- `regex_items::opens_class` meets its contract.
+-- `regex_items::reserves` meets its contract.
 use borrow.Author.Needs.{needs}
 use denote.Ref.{now}
 use mathlib.Core.Path.{ap, _∙_}
 use Rattle.text.specs.Bytes.{bytes}
 use Rattle.text.specs.Text.{one-of}
-use Rattle.regex_items.specs.ItemsLaws.{opens-not, opens-by}
-use Rattle.regex_items.proofs.opens_class.Statement.{statement}
-use Rattle.regex_items.proofs.opens_class.Tie as tie
+use Rattle.regex_items.specs.ReservedLaws.{reserves-not, reserves-by}
+use Rattle.regex_items.proofs.reserves.Statement.{statement}
+use Rattle.regex_items.proofs.reserves.Tie as tie
 
 shared-slice-read-if1 : tie.Need-shared-slice-read-if1
 shared-slice-read-if1 c = search needs
@@ -14,7 +14,7 @@ shared-slice-read-if1 c = search needs
 returns : tie.Need-returns
 returns c =
     let start = c .before .before .before in
-    opens-not (now (start .args .inside)) (start .args .i) (start .pre) (c .if1 .taken)
+    reserves-not (now (start .args .inside)) (start .args .i) (start .pre) (c .if1 .taken)
 
 slice-aggregate-one-of : tie.Need-slice-aggregate-one-of
 slice-aggregate-one-of c = search needs
@@ -32,11 +32,11 @@ returns-2 : tie.Need-returns-2
 returns-2 c =
     let start = c .before .before .before .before .before .before in
     let else1 = c .before .before .before in
-    c .one-of .ensures ∙ ap (one-of (bytes ".=:")) (c .before .peek .ensures) ∙ opens-by (now (start .args .inside)) (start .args .i)
+    c .one-of .ensures ∙ ap (one-of (bytes ".=")) (c .before .peek .ensures) ∙ reserves-by (now (start .args .inside)) (start .args .i)
     (start .pre) (else1 .if1 .left)
 
-pub opens-class-spec : {M : Type 1} → statement M
-opens-class-spec =
+pub reserves-spec : {M : Type 1} → statement M
+reserves-spec =
     tie.close
     (tie.spec
     shared-slice-read-if1
