@@ -10,12 +10,12 @@ static const struct {
     const char *name;
     uint32_t numbers;
 } CALL[CALLS] = {
-    {"compile", 0x007ff},  /* 0 to 10 */
+    {"compile", 0x807ff},  /* 0 to 10, 19 */
     {"judge", 0x20801},    /* 0, 11, 17 */
     {"collapse", 0x24001}, /* 0, 14, 17 */
     {"spread", 0x24001},   /* 0, 14, 17 */
     {"decode", 0x1f801},   /* 0, 11 to 16 */
-    {"read", 0x1f7ff},     /* 0 to 10, 12 to 16 */
+    {"read", 0x9f7ff},     /* 0 to 10, 12 to 16, 19 */
     {"costs", 0x04001},    /* 0, 14 */
 };
 

@@ -29,7 +29,7 @@ void hold_costs(struct bytes confidences, size_t memory, uint32_t number, struct
 void hold_judge(struct words form, struct bytes word, uint32_t number, uint32_t accepted);
 void hold_decode(struct words form, struct line line, struct answer answer);
 
-/* `form` is what must be written to the form memory: after 12 to 16 too, and nothing after 1 to 10. */
+/* `form` is what must be written to the form memory: after 12 to 16 too, and nothing after 1 to 10 and 19. */
 void hold_read(struct bytes alphabet, struct bytes text, struct line line, size_t memory, struct words form, struct answer answer);
 
 /* Returns how many calls were made; fails unless each call returned each of its numbers and no other. */

@@ -1,4 +1,4 @@
-/* Document 01's lines, with the forms written by hand, and the largest input. */
+/* Document 01's lines and some with classes, with the forms written by hand, and the largest input. */
 #include "tests.h"
 
 #include <string.h>
@@ -42,6 +42,15 @@ static void document_lines(void)
     document_line("a", a, WORDS(0, 0, 0, 0, 0, 0), 0, BYTES(0, 1), "a");
     document_line("a{2}", aa, WORDS(1, 0, 9, 1, 0, 9, 1, 0, 9, 1, 0, 9), 1, BYTES(1, 0, 1, 1), "aa");
     document_line("(a|b)*", any, WORDS(3, 1, 1, 3, 1, 1), 2, BYTES(1, 1), "a");
+}
+
+/* Classes in brackets: alone, beside a character, complemented. */
+static void class_lines(void)
+{
+    struct words either = WORDS(0x10020002, 0x20000301, 0x20000302), b = WORDS(0x10020001, 0x20000302);
+    document_line("[[:alpha:]]", either, WORDS(0, 4, 4), 4, BYTES(1), "a");
+    document_line("[b[:digit:]]", b, WORDS(5, 1, 9, 5, 9, 2), 7, BYTES(0, 2), "b");
+    document_line("[^a[:upper:]-]", b, WORDS(5, 1, 9), 9, BYTES(2), "b");
 }
 
 static void document_texts(void)
@@ -117,6 +126,7 @@ static void largest(void)
 void lines(void)
 {
     document_lines();
+    class_lines();
     document_texts();
     document_limits();
     largest();

@@ -42,7 +42,8 @@ static void alphabets_and_lengths(void)
     refuse_text(TEXT("a"), BYTES('a', 128, '{'), 3);
 }
 
-/* Texts over the alphabet ab; if one has several faults, the leftmost counts, and 4 to 8 come before 9. */
+/* Texts over the alphabet ab; if one has several faults, the leftmost counts, and 4 to 8 and 19 come before 9. At one bracket 19 comes
+   after 7 and before 8. */
 static void texts(void)
 {
     static const struct {
@@ -53,7 +54,10 @@ static void texts(void)
         {5, {"(((((((((((((((((a)))))))))))))))))", "a(((((((((((((((((c"}},
         {6, {"a{", "a{1", "a{0}", "a{2,1}", "a{256}", "a{1,256}", "a{0001}", "a{,2}", "a{b}", "a{0}c"}},
         {7, {"[", "[a", "[]", "[b-a]", "[a--]", "[[.a.]]", "[[=a=]]", "[a[:]", "[b-a]c"}},
-        {8, {"c", "[c]", "[^ab]", "\\(", "]", "c**", "(c", "a{255}c"}},
+        {7, {"[[:]]", "[[:alpha]", "[[:alpha:]", "[a-[:alpha:]]", "[[:alpha:]-b]", "[[:x:]b-a]", "[[:x[.:]]", "[b-a][[:x:]]"}},
+        {19, {"[[:x:]]", "[[::]]", "[^[:Alpha:]]", "[[:alpha:][:a]b:]]", "[[:[:alpha:]]", "[[:x:]c]", "[[:x:]]c", "[[:x:]]**", "([[:x:]]",
+              "a{128}[[:x:]]"}},
+        {8, {"c", "[c]", "[^ab]", "\\(", "]", "c**", "(c", "a{255}c", "[[:digit:]]", "[^[:alpha:]]", "c[[:x:]]"}},
         {9, {"a{128}", "a{255}", "(a{16}){8}", ".{64}", "((a{255}){255}){255}"}},
         {4, {"a**c", "*(((((((((((((((((", "(|c)", "a|)c", "*[", "+{0}"}},
     };

@@ -143,6 +143,7 @@ static void texts(void)
         {"ab", "(aa|b)*"},       {"ab", "(a?b){2}"},     {"ab", "a(ba)*|bb"},   {"ab", "(a*b)*a?"},
         {"ab", "((a|b)b){1,2}"}, {"ab", "b{0,2}a{2,}"},  {"ba", "[a-b]b"},      {"ba", "(b|ab?)+"},
         {"abc", "c?(a|b)+c?"},   {"abc", "[a-c]{2}"},    {"cab", "[a-b]+c|cc"}, {"+a.", "[.+]?a\\+*"},
+        {"a1B", "[[:alpha:]]+1?"}, {"1-a", "[[:digit:]-]{2}a*"}, {"aA ", "[^[:upper:]]*A"}, {"b 1", "([[:space:]]|[[:xdigit:]1]b)+"},
     };
     for (size_t n = 0; n < sizeof TEXTS / sizeof *TEXTS; n++) {
         const char *alphabet = TEXTS[n][0], *text = TEXTS[n][1];

@@ -1,8 +1,8 @@
 //! The proved calls of `libkavurehy.a` as safe functions: slices in, a [`Result`] with a [`Refusal`] out.
 //!
 //! Every call takes any input. An invalid one is turned away with a [`Refusal`]. All lent memory is then as it was, except the
-//! needed work words after [`Refusal::NoReading`], and except [`read`]'s form memory, which from [`Refusal::Matrix`] on is as
-//! [`compile`] leaves it. On success the memory after what was written is as it was too.
+//! needed work words after [`Refusal::NoReading`], and except [`read`]'s form memory, which after [`Refusal::Matrix`] to
+//! [`Refusal::NoReading`] is as [`compile`] leaves it. On success the memory after what was written is as it was too.
 //!
 //! ```
 //! use kavurehy::{read, work_words, Matrix, FORM_WORDS};
@@ -77,10 +77,16 @@ pub const fn work_words(columns: usize, letters: usize) -> usize {
 /// assert_eq!(form, [0x10020002, 0x20000301, 0x20000202, 0x30000102, 0x30000202]);
 /// assert_eq!(judge(&form, &[1, 2, 2]), Ok(true));
 /// assert_eq!(compile(b"ab", b"a**", &mut form), Err(Refusal::MisplacedSign));
+///
+/// // A class in a bracket means those of its characters that are in the alphabet: here the labels 2 and 4.
+/// assert_eq!(compile(b"a1b2", b"[[:digit:]]", &mut form), Ok(3));
+/// assert_eq!(judge(&form[..3], &[4]), Ok(true));
+/// assert_eq!(judge(&form[..3], &[3]), Ok(false));
+/// assert_eq!(compile(b"a1b2", b"[[:digits:]]", &mut form), Err(Refusal::ClassName));
 /// ```
 ///
-/// Refusals: 1 to 10, the first that applies; of 4 to 8 ([`Refusal::MisplacedSign`] to [`Refusal::Foreign`]) the leftmost in
-/// the text.
+/// Refusals, the first that applies: 1 to 3; of 4 to 8 ([`Refusal::MisplacedSign`] to [`Refusal::Foreign`]) and 19
+/// ([`Refusal::ClassName`]) the leftmost in the text, 19 at its bracket after 7 and before 8; then 9 and 10.
 pub fn compile(alphabet: &[u8], text: &[u8], form: &mut [u32]) -> Result<usize, Refusal> {
     let mut counts = [0];
     // SAFETY: each pointer comes with its list's length; `form` and `counts` are lent to nobody else.

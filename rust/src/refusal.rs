@@ -1,7 +1,8 @@
 //! The refusals and their numbers.
 use std::{error::Error, fmt};
 
-/// Why an input is turned away: the refusals of document 01, in its order. More may be added.
+/// Why an input is turned away: the refusals of document 01, then those that document 02 has added, in the order of their
+/// numbers. More may be added.
 #[derive(Clone, Copy, Debug, PartialEq, Eq)]
 #[non_exhaustive]
 pub enum Refusal {
@@ -24,13 +25,14 @@ pub enum Refusal {
     Label,
     /// Given by the sheet program alone.
     Sheet,
+    ClassName,
     /// A refusal of a newer library, by its number, which none of [`Refusal::ALL`] has.
     Other(u32),
 }
 
 impl Refusal {
     /// All refusals, in the order of their numbers.
-    pub const ALL: [Refusal; 18] = [
+    pub const ALL: [Refusal; 19] = [
         Refusal::Alphabet,
         Refusal::TextLength,
         Refusal::TextByte,
@@ -49,6 +51,7 @@ impl Refusal {
         Refusal::NoReading,
         Refusal::Label,
         Refusal::Sheet,
+        Refusal::ClassName,
     ];
 
     /// The refusal's number.
@@ -72,6 +75,7 @@ impl Refusal {
             Refusal::NoReading => 16,
             Refusal::Label => 17,
             Refusal::Sheet => 18,
+            Refusal::ClassName => 19,
             Refusal::Other(number) => number,
         }
     }
@@ -83,7 +87,7 @@ impl Refusal {
     ///
     /// assert_eq!(Refusal::from_number(0), None);
     /// assert_eq!(Refusal::from_number(16), Some(Refusal::NoReading));
-    /// assert_eq!(Refusal::from_number(19), Some(Refusal::Other(19)));
+    /// assert_eq!(Refusal::from_number(99), Some(Refusal::Other(99)));
     /// ```
     pub fn from_number(number: u32) -> Option<Refusal> {
         let known = Refusal::ALL.into_iter().find(|r| r.number() == number);
@@ -120,6 +124,7 @@ impl fmt::Display for Refusal {
             Refusal::NoReading => "no reading",
             Refusal::Label => "label",
             Refusal::Sheet => "sheet",
+            Refusal::ClassName => "class name",
             Refusal::Other(_) => "a refusal of a newer library",
         };
         write!(f, "refused {}: {name}", self.number())
@@ -136,12 +141,12 @@ mod tests {
     fn numbers() {
         assert_eq!(Refusal::from_number(0), None);
         assert_eq!(Refusal::check(0), Ok(()));
-        for (refusal, number) in Refusal::ALL.into_iter().zip(1..=18) {
+        for (refusal, number) in Refusal::ALL.into_iter().zip(1..) {
             assert_eq!(refusal.number(), number);
             assert_eq!(Refusal::from_number(number), Some(refusal));
             assert_eq!(Refusal::check(number), Err(refusal));
         }
-        for number in [19, u32::MAX] {
+        for number in [99, u32::MAX] {
             let other = Refusal::Other(number);
             assert_eq!(other.number(), number);
             assert_eq!(Refusal::from_number(number), Some(other));
@@ -153,7 +158,8 @@ mod tests {
     fn printed() {
         assert_eq!(Refusal::Alphabet.to_string(), "refused 1: alphabet");
         assert_eq!(Refusal::Sheet.to_string(), "refused 18: sheet");
-        let other = Refusal::Other(19).to_string();
-        assert_eq!(other, "refused 19: a refusal of a newer library");
+        assert_eq!(Refusal::ClassName.to_string(), "refused 19: class name");
+        let other = Refusal::Other(99).to_string();
+        assert_eq!(other, "refused 99: a refusal of a newer library");
     }
 }

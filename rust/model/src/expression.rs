@@ -39,7 +39,8 @@ enum Sign {
 /// A sign's place, and the sign with its length or a fault of its own.
 type Token = (usize, Result<(Sign, usize), u32>);
 
-/// The tree of a text, or the first of refusals 1 to 8 that applies.
+/// The tree of a text, or the first of refusals 1 to 8 and 19 that applies. The leftmost fault is taken, at one place that of the
+/// lowest number; 19 is the only fault at its place, since a bracket has one fault at most.
 pub fn parse(alphabet: &[u8], text: &[u8]) -> Result<Rc<Tree>, u32> {
     let printable = |b: &u8| (32..=126).contains(b);
     let doubled = (1..alphabet.len()).any(|n| alphabet[..n].contains(&alphabet[n]));

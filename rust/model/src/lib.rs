@@ -1,8 +1,10 @@
-//! Document 01 in plain Rust, as close to its sentences as possible. Nothing here is taken from the Rattle code; parser, matcher and
-//! search use other methods, and `ranked` breaks ties in another way. `input` makes random input, `tally` counts answers.
+//! Document 01 in plain Rust, as close to its sentences as possible, with the classes of document 02. Nothing here is taken from
+//! the Rattle code; parser, matcher and search use other methods, and `ranked` breaks ties in another way. `input` makes random
+//! input, `tally` counts answers.
 
 pub mod bracket;
 pub mod call;
+pub mod class;
 pub mod derivatives;
 pub mod expression;
 pub mod form;

@@ -4,7 +4,7 @@ use super::form::{Form, Letter};
 use std::collections::BTreeSet;
 use std::rc::Rc;
 
-/// The tree and the form of a text, or the first of refusals 1 to 9 that applies.
+/// The tree and the form of a text, or the first of refusals 1 to 9 and 19 that applies.
 pub fn compile(alphabet: &[u8], text: &[u8]) -> Result<(Rc<Tree>, Form), u32> {
     let tree = parse(alphabet, text)?;
     if letters(&tree) > 127 {
@@ -27,7 +27,7 @@ pub fn compile(alphabet: &[u8], text: &[u8]) -> Result<(Rc<Tree>, Form), u32> {
     Ok((tree, form))
 }
 
-/// The same with form memory of this length: the first of refusals 1 to 10.
+/// The same with form memory of this length: the first of refusals 1 to 10 and 19.
 pub fn compile_within(
     alphabet: &[u8],
     text: &[u8],

@@ -1,9 +1,12 @@
 //! How often each number was answered.
 use std::io::Write;
 
+/// The highest number that is answered.
+const HIGHEST: usize = 19;
+
 /// How often each number was answered.
 #[derive(Default)]
-pub struct Tally([usize; 19]);
+pub struct Tally([usize; HIGHEST + 1]);
 
 impl Tally {
     pub fn add(&mut self, number: u32) {

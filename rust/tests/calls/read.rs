@@ -15,7 +15,7 @@ use model::tally::Tally;
 use model::words::is_word;
 
 /// The numbers that Read answers.
-const REFUSALS: [usize; 16] = [0, 1, 2, 3, 4, 5, 6, 7, 8, 9, 10, 12, 13, 14, 15, 16];
+const REFUSALS: [usize; 17] = [0, 1, 2, 3, 4, 5, 6, 7, 8, 9, 10, 12, 13, 14, 15, 16, 19];
 
 #[test]
 fn small_reads() {

@@ -1,4 +1,4 @@
-//! Document 01's example and its lines to try, as sheets.
+//! Document 01's example and its lines to try, as sheets, and lines with classes.
 use crate::{prints, refuses};
 
 /// Over the alphabet `ab`: this text and these columns print these lines. Lines are written with `/` between.
@@ -56,6 +56,20 @@ fn traps() {
     line("b?a|ab?", "0 1 1/0 0 0/", "0/a/0 1/");
     prints(b"cba\n[a-c]\n9 0 9 9\n", "0\nc\n1\n");
     refuses(b"cba\n[c-a]\n9 0 9 9\n", 7);
+}
+
+/// Classes, as document 02 adds them.
+#[test]
+fn classes() {
+    line("[[:alpha:]]{2}", "5 1 9/5 9 2/", "3/ab/1 2/");
+    line("[^a[:digit:]]", "5 1 9/", "9/b/2/");
+    prints(
+        b"7 -+\n[[:digit:]-]+\n9 0 0 9 0\n9 9 9 0 9\n",
+        "0\n7-\n1 3\n",
+    );
+    refuses(b"7 -+\n[[:digit:]-+]\n", 7);
+    refuses(b"7 -+\n[[:digits:]]\n", 19);
+    refuses(b"7 -+\n[[:alpha:]]\n", 8);
 }
 
 /// No column line: the width counts as K + 1 whatever K is, and there are three lines although word and path are empty.

@@ -7,7 +7,7 @@ use model::sheet::{self, Sheet};
 use model::tally::Tally;
 
 /// All numbers that the program can answer: 16,384 words are enough for every form, 255 bytes for every path and word.
-const REFUSALS: [usize; 15] = [0, 1, 2, 3, 4, 5, 6, 7, 8, 9, 12, 13, 15, 16, 18];
+const REFUSALS: [usize; 16] = [0, 1, 2, 3, 4, 5, 6, 7, 8, 9, 12, 13, 15, 16, 18, 19];
 
 fn input(r: &mut Random) -> Vec<u8> {
     let mut sheet = Sheet::random(r);

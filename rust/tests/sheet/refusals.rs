@@ -18,8 +18,8 @@ pub fn refused() -> Vec<(u32, Vec<Vec<u8>>)> {
         (4, texts("* a** () (a a) a||b ^a a$ \\a |a")),
         (5, texts("(((((((((((((((((a)))))))))))))))))")),
         (6, texts("a{0} a{2,1} a{256} a{ a{1,2,3} a{x}")),
-        (7, texts("[b-a] [a [[:a:]] [a-b-b]")),
-        (8, texts("c ac [c] [^ab] \\.")),
+        (7, texts("[b-a] [a [[:a] [a-b-b] [a-[:alpha:]]")),
+        (8, texts("c ac [c] [^ab] \\. [[:digit:]]")),
         (9, texts("a{128} [ab]{64} (a{16}){8}")),
         (12, matrices()),
         (13, costs()),
@@ -32,6 +32,7 @@ pub fn refused() -> Vec<(u32, Vec<Vec<u8>>)> {
             16,
             vec![b"ab\na\n".to_vec(), b"ab\naa\n0 0 0\n0 0 0\n".to_vec()],
         ),
+        (19, texts("[[:a:]] [[::]] a[^[:Alpha:]] [[:x:]c] [[:a]b:]]")),
     ]
 }
 
@@ -122,7 +123,7 @@ fn largest_form() {
     prints(tildes.as_bytes(), &format!("0\n~\n{path}\n"));
 }
 
-/// The lowest number; among 4 to 8 the leftmost.
+/// The lowest number; among 4 to 8 and 19 the leftmost, before 9.
 #[test]
 fn first_number() {
     let refusals = [
@@ -134,6 +135,10 @@ fn first_number() {
         (4, "ab\n**c\n0\n"),
         (6, "ab\na{0}c**\n1000001\n"),
         (7, "ab\n[b-a]c*\n0\n"),
+        (7, "ab\n[[:x:]b-a]c*\n0\n"),
+        (19, "ab\n[[:x:]]c*\n0\n"),
+        (19, "ab\na{128}[[:x:]c]\n1000001\n"),
+        (8, "ab\nc[[:x:]]\n0\n"),
         (8, "ab\nc**\n0\n"),
         (9, "ab\na{128}\n0\n"),
         (12, "ab\naa\n1000001\n"),

@@ -1,5 +1,6 @@
-//! Random alphabets and texts of every kind: expressions, damaged ones, and the limits of depth, letters and length.
-use super::writer::{expression, set};
+//! Random alphabets and texts of every kind: expressions, damaged ones, classes with faults, and the limits of depth, letters and
+//! length.
+use super::writer::{expression, set, CLASSES};
 use super::Random;
 
 /// Bytes that mean something in texts, and a few that do not.
@@ -33,18 +34,19 @@ pub fn bad_alphabet(r: &mut Random) -> Vec<u8> {
     bytes
 }
 
-/// A text of any kind: mostly an expression, at times damaged, and the limits of depth, letters and length.
+/// A text of any kind: mostly an expression, at times damaged, brackets of classes, and the limits of depth, letters and length.
 pub fn text(r: &mut Random, alphabet: &[u8], size: usize) -> Vec<u8> {
     match r.below(100) {
-        0..=59 => expression(r, alphabet, size).0,
-        60..=79 => {
+        0..=54 => expression(r, alphabet, size).0,
+        55..=71 => {
             let mut text = expression(r, alphabet, size).0;
             for _ in 0..r.from(1, 3) {
                 damage(r, &mut text);
             }
             text
         }
-        80..=88 => (0..r.from(0, 12)).map(|_| *r.pick(SIGNS)).collect(),
+        72..=79 => signs(r, 12),
+        80..=88 => classes(r, alphabet),
         89..=92 => deep(r, alphabet),
         93..=96 => many_letters(r, alphabet),
         _ => long(r, alphabet),
@@ -65,6 +67,53 @@ pub fn damage(r: &mut Random, text: &mut Vec<u8>) {
         _ if r.chance(30) => text.insert(n, r.bits() as u8),
         _ => {}
     }
+}
+
+/// At most this many signs in any order.
+fn signs(r: &mut Random, most: usize) -> Vec<u8> {
+    (0..r.from(0, most)).map(|_| *r.pick(SIGNS)).collect()
+}
+
+/// A bracket of classes, characters and `-` in any order, so that a class may be at either end of a range; at times unclosed, or
+/// with signs before or after it.
+fn classes(r: &mut Random, alphabet: &[u8]) -> Vec<u8> {
+    let before = *r.pick(&[0, 0, 0, 0, 0, 2]);
+    let mut text = signs(r, before);
+    text.push(b'[');
+    for _ in 0..r.from(1, 3) {
+        match r.below(8) {
+            0 => text.push(*r.pick(b"^]-[")),
+            1 => text.push(b'-'),
+            2..=3 => text.push(*r.pick(alphabet)),
+            _ => text.extend(class(r).bytes()),
+        }
+    }
+    if r.chance(90) {
+        text.push(b']');
+    }
+    let after = *r.pick(&[0, 0, 2]);
+    text.extend(signs(r, after));
+    text
+}
+
+/// A class; at times its name is another one, or its end is missing.
+fn class(r: &mut Random) -> String {
+    let mut name = r.pick(&CLASSES).0.to_string();
+    let n = r.below(name.len() + 1);
+    match r.below(12) {
+        0 => name.truncate(n),
+        1 => drop(name.drain(..n)),
+        2 => name.insert(n, char::from(*r.pick(SIGNS))),
+        3 => name.insert_str(n, r.pick::<&str>(&["[:", ":]", "[.", "[=", "]"])),
+        4 => name.make_ascii_uppercase(),
+        5 => name.push('s'),
+        _ => {}
+    }
+    let end = match r.below(12) {
+        0 => *r.pick(&["", ":", "]", ".]", "=]"]),
+        _ => ":]",
+    };
+    format!("[:{name}{end}")
 }
 
 /// Groups around 16 deep.
@@ -91,16 +140,17 @@ pub fn many_letters(r: &mut Random, alphabet: &[u8]) -> Vec<u8> {
     repeated.into_bytes()
 }
 
-/// A bracket around 255 bytes long; at times a text without any byte.
+/// A bracket around 255 bytes long, at times by a class's name; at times a text without any byte.
 fn long(r: &mut Random, alphabet: &[u8]) -> Vec<u8> {
     let length = match r.below(4) {
         0 => return Vec::new(),
         1 => 1000,
         _ => r.from(250, 258),
     };
-    let mut text = vec![b'['];
-    text.push(*r.pick(alphabet));
-    text.resize(length - 1, b'a');
-    text.push(b']');
+    let (open, close) = *r.pick(&[("", "]"), ("", "]"), ("[:", ":]]")]);
+    let mut text = vec![b'[', *r.pick(alphabet)];
+    text.extend(open.bytes());
+    text.resize(length - close.len(), b'a');
+    text.extend(close.bytes());
     text
 }

@@ -3,6 +3,25 @@ use super::Random;
 use crate::expression::{either, joined, Tree};
 use std::rc::Rc;
 
+/// A class of characters: its name, and which bytes from 32 to 126 it has.
+type Class = (&'static str, fn(&u8) -> bool);
+
+/// The twelve classes by the functions of the standard library, and not by those that the model parses with.
+pub const CLASSES: [Class; 12] = [
+    ("alnum", u8::is_ascii_alphanumeric),
+    ("alpha", u8::is_ascii_alphabetic),
+    ("blank", |c| *c == b' '),
+    ("cntrl", u8::is_ascii_control),
+    ("digit", u8::is_ascii_digit),
+    ("graph", u8::is_ascii_graphic),
+    ("lower", u8::is_ascii_lowercase),
+    ("print", |_| true),
+    ("punct", u8::is_ascii_punctuation),
+    ("space", u8::is_ascii_whitespace),
+    ("upper", u8::is_ascii_uppercase),
+    ("xdigit", u8::is_ascii_hexdigit),
+];
+
 /// An expression of every construct, and its tree.
 pub fn expression(r: &mut Random, alphabet: &[u8], size: usize) -> (Vec<u8>, Rc<Tree>) {
     let mut writer = Writer::new(r, alphabet);
@@ -97,13 +116,10 @@ impl<'a> Writer<'a> {
         loop {
             let complement = self.r.chance(25);
             let (inside, members) = self.items(complement);
-            let label = |(n, c): (usize, &u8)| {
-                let member = members.iter().any(|&(low, high)| low <= *c && *c <= high);
-                (member != complement).then_some(n as u8 + 1)
-            };
+            let label =
+                |(n, c): (usize, &u8)| (members.contains(c) != complement).then_some(n as u8 + 1);
             let labels: Vec<u8> = self.alphabet.iter().enumerate().filter_map(label).collect();
-            let class = |pair: &[u8]| pair[0] == b'[' && b".=:".contains(&pair[1]);
-            if !labels.is_empty() && !inside.windows(2).any(class) {
+            if !labels.is_empty() {
                 self.text.push(b'[');
                 self.text.extend(complement.then_some(b'^'));
                 self.text.extend(inside);
@@ -113,32 +129,43 @@ impl<'a> Writer<'a> {
         }
     }
 
-    /// The items of a bracket and the ranges of bytes they mean. `]` is only first, `-` only first, last, or at a range's upper
-    /// end, `^` not first unless the bracket is a complement.
-    fn items(&mut self, complement: bool) -> (Vec<u8>, Vec<(u8, u8)>) {
+    /// The items of a bracket and the bytes they mean. `]` is only first, `-` only first, last, or at a range's upper end, `^`
+    /// not first unless the bracket is a complement; `.`, `=` and `:` are not behind `[`.
+    fn items(&mut self, complement: bool) -> (Vec<u8>, Vec<u8>) {
         let (mut inside, mut members) = (Vec::new(), Vec::new());
         for _ in 0..self.r.from(1, 3) {
+            if self.r.chance(20) {
+                let (name, has) = self.r.pick(&CLASSES);
+                inside.extend(format!("[:{name}:]").bytes());
+                members.extend((32..=126).filter(has));
+                continue;
+            }
             let first = inside.is_empty();
             let c = match self.r.below(8) {
                 0 if first => *self.r.pick(b"]-"),
                 1..=5 => *self.r.pick(self.alphabet),
                 _ => self.r.from(32, 126) as u8,
             };
-            if !first && b"]-".contains(&c) || first && c == b'^' && !complement {
+            let misplaced = match inside.last() {
+                None => c == b'^' && !complement,
+                Some(b'[') => b"]-.=:".contains(&c),
+                Some(_) => b"]-".contains(&c),
+            };
+            if misplaced {
                 continue;
             }
             let d = self.r.from(c.into(), (usize::from(c) + 20).min(126)) as u8;
             inside.push(c);
             if self.r.chance(35) && d != b']' {
                 inside.extend([b'-', d]);
-                members.push((c, d));
+                members.extend(c..=d);
             } else {
-                members.push((c, c));
+                members.push(c);
             }
         }
         if inside.is_empty() || self.r.chance(15) {
             inside.push(b'-');
-            members.push((b'-', b'-'));
+            members.push(b'-');
         }
         (inside, members)
     }
