@@ -30,7 +30,8 @@
                        missing ); ^ or $ outside brackets without \ before it; \ not before a sign that it makes ordinary
       5 depth          a 17th open group
       6 count          braces ill-formed or out of range
-      7 bracket        unclosed, a descending range, a hyphen where no item may begin with it, or [. [= [: inside
+      7 bracket        unclosed, a descending range, a hyphen where no item may begin with it, [. or [= inside, [: without :] after it, or
+                       a class as the end of a range
       8 foreign        a character that is not in the alphabet, or a bracket without a label
       9 letters        more than 127
      10 form memory    shorter than the form
@@ -42,9 +43,12 @@
      15 work           fewer than (columns + 1) * (2 * L + 1) words
      16 no reading     no path with one label for each column collapses to a word that the form accepts (read: to a word of the expression)
      17 label          K not 1 to 95, a label over K, 0 in a word, or a list longer than 255
-   If several apply, the lowest number is returned; among 4 to 8, that of the leftmost fault in the text. At a refusal each count is 0 and all other lent
-   memory is as it was, with two exceptions: after 16 the needed work words may hold anything, and after 12 to 16 the form memory of read is
-   as compile leaves it. On success the memory after what is counted is as it was too. */
+     19 class name     a class [:name:] in a bracket whose name is not one of alnum alpha blank cntrl digit graph lower print punct space
+                       upper xdigit
+   If several apply, the first in this order is returned: 1, 2, 3; then that of the leftmost fault in the text among 4 to 8 and 19, where 7,
+   19 and 8 of a bracket are at its [, and of faults at one byte the first in the order 4, 5, 6, 7, 19, 8; then the lowest of 9 to 17. At a
+   refusal each count is 0 and all other lent memory is as it was, with two exceptions: after 16 the needed work words may hold anything, and
+   after 12 to 16 the form memory of read is as compile leaves it. On success the memory after what is counted is as it was too. */
 #ifndef KAVUREHY_H
 #define KAVUREHY_H
 
@@ -56,8 +60,9 @@ extern "C" {
 #endif
 
 /* Writes the form of an expression over an alphabet to form, and its length to counts[0]. The form accepts a word of labels exactly if the
-   word is one of the expression's, by its text. No form is longer than 16,257 words: the head, 127 letters, an arc from each to each.
-   Returns 0, or a refusal: 1 to 10. */
+   word is one of the expression's, by its text. A bracket may have classes, as in [[:digit:].-]: the characters of the alphabet that are in
+   the class of that name in the POSIX locale. No form is longer than 16,257 words: the head, 127 letters, an arc from each to each.
+   Returns 0, or a refusal: 1 to 10, 19. */
 uint32_t kavurehy_compile(const uint8_t *alphabet, size_t alphabet_length, const uint8_t *text, size_t text_length, uint32_t *form,
                           size_t form_memory, uint32_t counts[1]);
 
@@ -86,7 +91,7 @@ uint32_t kavurehy_decode(const uint32_t *form, size_t form_length, const uint32_
    except that the word is in characters of the alphabet, and that the words of the expression take the place of those that the form
    accepts. Writes the price to counts[0], the word's length to counts[1] and the form's to counts[2]. The needed work words,
    (columns + 1) * (2 * L + 1) for an expression of L letters, may hold anything afterwards; the others are as they were. Returns 0, or a
-   refusal: 1 to 10, 12 to 16. After 12 to 16 the form memory holds the form, though counts[2] is 0: after 15 its first word says how many
+   refusal: 1 to 10, 12 to 16, 19. After 12 to 16 the form memory holds the form, though counts[2] is 0: after 15 its first word says how many
    work words are needed. */
 uint32_t kavurehy_read(const uint8_t *alphabet, size_t alphabet_length, const uint8_t *text, size_t text_length, const uint32_t *costs,
                        size_t costs_length, size_t width, size_t columns, uint32_t *form, size_t form_memory, uint8_t *path,

@@ -17,7 +17,7 @@ use Rattle.alphabet.specs.Alphabet.{text-checks}
 abbrev pub formed : List ℕ → ℕ → Tree → Verdict (List ℕ)
 formed A room t = unless (check (ltb 127 (letterCount A t)) Letters ∷ (check (ltb room (length (formOf A t))) FormMemory ∷ [])) (formOf A t)
 
--- refusals 4 to 8 are the parser's: that of the leftmost fault
+-- refusals 4 to 8 and 19 are the parser's: that of the leftmost fault
 abbrev pub parsed-form : List ℕ → ℕ → Parsing Tree → Verdict (List ℕ)
 parsed-form A room (found t rest) = formed A room t
 parsed-form A room (fault n rest) = refused n

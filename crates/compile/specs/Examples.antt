@@ -51,6 +51,9 @@ cases =
     -- 1 before 2 before 3 before 4; 3 anywhere before 4; 8 further left before 4; 8 before 9 before 10
     ∷ case "" "" 0 1 0 ∷ case "aa" "*" 0 1 0 ∷ case "ab" "" 0 2 0 ∷ case "ab" "*\t" 0 3 0 ∷ case "ab" "*" 0 4 0 ∷ case "ab" "c*" 0 8 0
     ∷ case "ab" "a{128}c" 0 8 0 ∷ case "ab" "a{128}" 0 9 0 ∷ case "ab" "a" 0 10 0
+    -- 19 after 3 and before 9; by its place, and at its place after 7 and before 8
+    ∷ case "ab" "[[:lower:]]" 3 0 3 ∷ case "ab" "[[:x:]]" 99 19 0 ∷ case "ab" "[[:x:]]\t" 99 3 0 ∷ case "ab" "a{128}[[:x:]]" 0 19 0 ∷ case "ab" "[[:x:]]c" 99 19 0
+    ∷ case "ab" "c[[:x:]]" 99 8 0 ∷ case "ab" "[[:x:]b-a]" 99 7 0 ∷ case "ab" "[[:x:]c]" 99 19 0 ∷ case "ab" "[[:digit:]]" 99 8 0
     ∷ []
 
 computed : failing cases ≡ []

@@ -5,7 +5,7 @@ use mathlib.Core.List.{List, [], _∷_, _++_, map}
 use Prim.Native.Nat.{ℕ}
 use Prim.Native.String.{String}
 use Rattle.lists.specs.Lists.{keep, numbers}
-use Rattle.lists.specs.Options.{is-some, listed}
+use Rattle.lists.specs.Options.{listed}
 use Rattle.text.specs.Bytes.{bytes}
 use Rattle.regex.specs.Tree.{among}
 use Rattle.regex.specs.Classes.{classes, look-up, class-ranges}

@@ -5,11 +5,11 @@ use mathlib.Core.Logic.{_↔_, _⊎_, inl, inr}
 use mathlib.Core.Option.{Option, some, none}
 use mathlib.Core.List.{List, [], _∷_, _++_, flatMap}
 use mathlib.Core.Bool.{Bool, true, false, not}
-use Prim.Native.Nat.{ℕ, _-_, _≤_}
+use Prim.Native.Nat.{ℕ, _-_}
 use native.Mathlib.Omega.{arith}
-use lib.ListN.{length, getD}
+use lib.ListN.{getD}
 use lib.Dec.{eqb}
-use borrow.Author.Tests.{eqb-true, ne-eqb}
+use borrow.Author.Tests.{ne-eqb}
 use Rattle.lists.specs.Cases.{first-of, provided}
 use Rattle.lists.specs.Each.{Each}
 use Rattle.lists.specs.Lists.{Among, same-list}
@@ -20,12 +20,12 @@ use Rattle.refusal.specs.declared.Refusal.{Refusal}
 use Rattle.refusal.specs.declared.Refusal.the-variants as refusal
 use Rattle.text.specs.Bytes.{bytes}
 use Rattle.text.specs.Text.{next}
-use Rattle.regex.specs.Tree.{Range, among, Set, only, except, member, Tree, set, Words}
+use Rattle.regex.specs.Tree.{Range, among, Set, only, except, member, set, Words}
 use Rattle.regex.specs.Letters.{labelsOf}
 use Rattle.regex.specs.Parsing.{found, fault, then, enclosed}
 use Rattle.regex.specs.Classes.{classes, look-up, class-ranges}
 use Rattle.regex.specs.Sets.{closed, reserved, items, members, ranges-of, known, inside, bracket, a-set, labelled-set}
-use Rattle.regex.specs.Parse.{m-alternation, m-branch, m-piece, m-group, step, parse, whole, expressionOf}
+use Rattle.regex.specs.Parse.{m-alternation, m-branch, m-piece, m-group, step, parse, expressionOf}
 use Rattle.regex.specs.Grammar.{TextOf, WordsOf}
 use Rattle.regex.specs.StepsLaws.{parse-step}
 use Rattle.regex.specs.Exact.{exact, one-tree}

@@ -1,4 +1,4 @@
--- A refusal is at the leftmost fault (document 01, "What is turned away": "among 4 to 8 the one leftmost in the text").
+-- A refusal is at the leftmost fault (document 01, "What is turned away": "among 4 to 8 the one leftmost in the text"; T-01 adds 19).
 -- For the reader: nothing uses it.
 use mathlib.Core.Path.{_≡_, refl}
 use mathlib.Core.List.{List, [], _∷_}

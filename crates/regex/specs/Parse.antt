@@ -1,5 +1,5 @@
 -- From text to tree, or to the refusal of the leftmost fault (document 01, "Expression text" and refusals 4 to 8 of "What is turned
--- away").
+-- away"; document 02, T-01: refusal 19).
 use mathlib.Core.List.{List, [], _∷_}
 use mathlib.Core.Bool.{Bool, true, false}
 use Prim.Native.Nat.{ℕ, zero, suc, _+_, _*_}

@@ -1,8 +1,8 @@
 -- The test of the table, carried to each row; and names and ranges, one at a time.
 use mathlib.Core.Path.{_≡_, refl, sym, ap, _∙_}
 use mathlib.Core.Option.{Option, some, none}
-use mathlib.Core.List.{List, [], _∷_, map}
-use mathlib.Core.Bool.{Bool, true, false, not, _&&_, _||_}
+use mathlib.Core.List.{List, [], _∷_}
+use mathlib.Core.Bool.{Bool, true, false, _&&_, _||_}
 use Prim.Native.Nat.{ℕ, zero, suc, _+_, _≤_, _<_}
 use native.Mathlib.Omega.{arith}
 use native.Mathlib.Nat.{le-of-suc-le-suc}
@@ -10,16 +10,15 @@ use lib.ListN.{length, take, drop, getD, length-map, List·getD-map}
 use lib.Seq.{getD-take, length-take-le}
 use lib.Dec.{eqb, leb}
 use borrow.Author.Tests.{eqb-true, leb-true, ne-eqb}
-use Rattle.lists.specs.Each.{Each, all}
+use Rattle.lists.specs.Each.{all}
 use Rattle.lists.specs.EachLaws.{all-each, drop-here, drop-all}
 use Rattle.lists.specs.AmongLaws.{each-among}
 use Rattle.lists.specs.AscendingLaws.{among-numbers}
 use Rattle.lists.specs.OrderLaws.{and-left, and-right}
 use Rattle.lists.specs.SameLaws.{same-list-true, same-list-length, same-list-here, same-list-not, same-list-end}
 use Rattle.lists.specs.Lists.{same-list, numbers}
-use Rattle.regex.specs.Tree.{Range, range, within, among}
+use Rattle.regex.specs.Tree.{Range, within, among}
 use Rattle.regex.specs.Classes.{classes, look-up, class-ranges}
-use Rattle.regex_class.specs.declared.table.Span.{Span}
 use Rattle.regex_class.specs.declared.table.Class.{Class}
 use Rattle.regex_class.specs.Table.{name-of, as-range, range-at, ranges-in, Shape, Row, equal, has-shape, is-row, agrees, Looked}
 
@@ -72,13 +71,6 @@ row-at default [] (d ∷ ds) e k l = let z : _≡_ {A = ℕ} 0 1 = cc in absurd 
 row-at default (c ∷ cs) [] e k l = absurd (omega arith)
 row-at default (c ∷ cs) (d ∷ ds) e zero l = row-tested d c (and-left (is-row d c) (agrees cs ds) e)
 row-at default (c ∷ cs) (d ∷ ds) e (suc k) l = row-at default cs ds (and-right (is-row d c) (agrees cs ds) e) k (le-of-suc-le-suc l)
-
-pub rows : (table : List Class) (ds : List (List ℕ × List Range)) → agrees table ds ≡ true → length table ≡ length ds
-unfolding agrees
-rows [] [] e = refl
-rows [] (d ∷ ds) e = let z : _≡_ {A = ℕ} 0 1 = cc in absurd (omega arith)
-rows (c ∷ cs) [] e = let z : _≡_ {A = ℕ} 0 1 = cc in absurd (omega arith)
-rows (c ∷ cs) (d ∷ ds) e = ap suc (rows cs ds (and-right (is-row d c) (agrees cs ds) e))
 
 twelve : length classes ≡ 12
 unfolding classes

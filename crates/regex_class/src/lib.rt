@@ -13,7 +13,7 @@ ghost use Rattle.lists.specs.Memory.{old};
 ghost use Rattle.lists.specs.Options.{is-some, listed};
 ghost use Rattle.regex.specs.Tree.{within, among};
 ghost use Rattle.regex.specs.Classes.{classes, class-ranges};
-ghost use Rattle.regex_class.specs.Table.{Shape, name-of, ranges-in, range-at, agrees, Looked};
+ghost use Rattle.regex_class.specs.Table.{Shape, name-of, range-at, agrees, Looked};
 
 // Is it the name of this class?
 fn is_name(class: Class, name: &[u8]) -> bool

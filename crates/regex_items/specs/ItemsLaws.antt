@@ -1,20 +1,20 @@
 -- Laws of the item at the front of a text: the items of a bracket are this item, if it is allowed, and the items of the text after it.
 use mathlib.Core.Path.{_≡_, refl, sym, ap, _∙_}
-use mathlib.Core.Option.{Option, some, none}
+use mathlib.Core.Option.{Option, none}
 use mathlib.Core.List.{List, [], _∷_}
-use mathlib.Core.Bool.{Bool, true, false, cond, not, _&&_, _||_, and-true, and-false}
-use Prim.Native.Nat.{ℕ, _+_, _≤_, _<_}
+use mathlib.Core.Bool.{Bool, true, false, cond, not, _&&_, and-true, and-false}
+use Prim.Native.Nat.{ℕ, _+_, _≤_}
 use Prim.Native.Char.{code}
 use native.Mathlib.Omega.{arith}
 use lib.ListN.{length, getD, drop}
-use lib.Seq.{drop-drop, getD-drop}
+use lib.Seq.{getD-drop}
 use lib.Dec.{eqb, leb}
-use borrow.Author.Tests.{eqb-true, eq-eqb, ne-eqb}
+use borrow.Author.Tests.{eqb-true}
 use Rattle.lists.specs.Cases.{provided}
 use Rattle.lists.specs.Options.{is-some}
 use Rattle.lists.specs.OrderLaws.{and-left, and-right, not-both}
 use Rattle.regex.specs.Tree.{range}
-use Rattle.regex.specs.Sets.{Sign, byte, class, class-begins, closes, closed, Item, ranged, classed, with, one, begins, up-to, items}
+use Rattle.regex.specs.Sets.{Sign, byte, class, closes, closed, ranged, classed, with, one, begins, up-to, items}
 use Rattle.regex_signs.specs.Signs.{name, opens, sign, past, signs}
 use Rattle.regex_signs.specs.SignsLaws.{closed-at, signs-at, first-at, opens-byte, opens-not}
 use Rattle.regex_items.specs.Items.{ranges, upto, item, width, range-fits, fits}

@@ -11,7 +11,7 @@ use lib.Dec.{eqb}
 use borrow.Author.Tests.{eq-eqb, ne-eqb}
 use Rattle.lists.specs.Cases.{provided}
 use Rattle.lists.specs.Options.{is-some, listed}
-use Rattle.lists.specs.OrderLaws.{and-left, and-right, not-both}
+use Rattle.lists.specs.OrderLaws.{and-right, not-both}
 use Rattle.regex.specs.Tree.{Range, among}
 use Rattle.regex.specs.Sets.{closes, closed, Item, with, items, item-ranges, together, ranges-of}
 use Rattle.regex.specs.RangesLaws.{together-known, together-among}

@@ -1,5 +1,5 @@
-// The checking parser (document 01, "Expression text"): the leftmost of refusals 4 to 8, or how many letters the expression opens into,
-// counted up to 128. The text may have any bytes. Alternation, branch, piece and group call each other; each call has less text to
+// The checking parser (document 01, "Expression text"): the leftmost of refusals 4 to 8 and 19, or how many letters the expression opens
+// into, counted up to 128. The text may have any bytes. Alternation, branch, piece and group call each other; each call has less text to
 // parse, or the same text and the next closer part.
 use refusal::Refusal;
 use regex_count::added;

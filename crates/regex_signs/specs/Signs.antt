@@ -1,7 +1,7 @@
 -- The sign at the front of a text: a byte, or a class with its name, and how many bytes it takes.
 use mathlib.Core.Option.{Option, some, none}
 use mathlib.Core.List.{List, [], _∷_}
-use mathlib.Core.Bool.{Bool, true, false, cond}
+use mathlib.Core.Bool.{Bool, cond}
 use Prim.Native.Nat.{ℕ, _+_}
 use lib.ListN.{length, getD, drop}
 use Rattle.regex.specs.Sets.{Sign, byte, class, class-begins, class-ends}

@@ -4,7 +4,7 @@ use mathlib.Core.Logic.{_⊎_, inl, inr}
 use mathlib.Core.Option.{Option, some, none}
 use mathlib.Core.List.{List, [], _∷_, _++_, append-nil, append-assoc}
 use mathlib.Core.Bool.{Bool, true, false, cond, not, _&&_, and-false}
-use Prim.Native.Nat.{ℕ, zero, suc, _+_, _-_, _≤_, _<_}
+use Prim.Native.Nat.{ℕ, suc, _+_, _-_, _≤_, _<_}
 use Prim.Native.Char.{code}
 use native.Mathlib.Omega.{arith}
 use lib.ListN.{length, getD, drop, take, length-drop}
@@ -12,7 +12,7 @@ use lib.Seq.{drop-drop, getD-drop}
 use lib.Dec.{eqb}
 use borrow.Author.Tests.{eqb-true, eq-eqb, ne-eqb}
 use Rattle.lists.specs.EachLaws.{drop-here, drop-all}
-use Rattle.lists.specs.OrderLaws.{and-left, and-right, lt-or-le, not-both}
+use Rattle.lists.specs.OrderLaws.{and-right, lt-or-le, not-both}
 use Rattle.lists.specs.Options.{is-some}
 use Rattle.text.specs.Text.{in-front}
 use Rattle.text.specs.TextLaws.{byte-is}

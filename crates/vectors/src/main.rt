@@ -79,7 +79,7 @@ fn all(input: &[u8], form: &mut [u32; 16258]) {
 }
 
 fn main() {
-    let mut input = [0u8; 32768];
+    let mut input = [0u8; 65536];
     let n = io::read_full(STDIN_FILENO, &mut input);
     let mut form = [9u32; 16258];
     all(&input[..n], &mut form);

@@ -32,7 +32,7 @@ enum Sign<'a> {
 }
 
 /// The signs of a bracket from the left, and the place of the `]` that closes it: the first that is a sign of its own, but not
-/// the first sign. A class goes from `[:` to the nearest `:]` behind that. None if the bracket or a class is not closed.
+/// the first sign. A class goes from `[:` to the nearest `:]` after that. None if the bracket or a class is not closed.
 fn signs(text: &[u8], start: usize) -> Option<(Vec<Sign<'_>>, usize)> {
     let mut signs = Vec::new();
     let mut at = start;

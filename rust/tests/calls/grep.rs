@@ -96,7 +96,7 @@ fn character(r: &mut Random, alphabet: &[u8]) -> char {
     }
 }
 
-/// A class, at times behind an ordinary `[`.
+/// A class, at times after an ordinary `[`.
 fn class(r: &mut Random, name: &str) -> String {
     format!("{}[:{name}:]", r.pick(&["", "", "", "["]))
 }

@@ -253,7 +253,7 @@ fn members_of_classes() {
     }
 }
 
-/// Characters that mean something beside classes, and what brackets with classes hold; some have an ordinary `]` behind them.
+/// Characters that mean something beside classes, and what brackets with classes hold; some have an ordinary `]` after them.
 const BESIDE_CLASSES: &[u8] = b"+-.:=A[]\\`ab}";
 const SETS_WITH_CLASSES: [(&str, &str); 28] = [
     ("[[:alpha:]]", "Aab"),

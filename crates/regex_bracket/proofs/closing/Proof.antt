@@ -9,7 +9,7 @@ use lib.Dec.{eqb}
 use Rattle.regex.specs.Sets.{closed}
 use Rattle.regex_signs.specs.SignsLaws.{past-some}
 use Rattle.regex_bracket.specs.Answers.{after}
-use Rattle.regex_bracket.specs.BracketLaws.{after-first, after-here, after-past, after-end}
+use Rattle.regex_bracket.specs.ClosingLaws.{after-first, after-here, after-past, after-end}
 use borrow.Author.Needs.{needs}
 use Rattle.regex_bracket.proofs.closing.Statement.{statement}
 use Rattle.regex_bracket.proofs.closing.Tie as tie

@@ -2,7 +2,7 @@
 use denote.Ref.{now}
 use mathlib.Core.Path.{sym, ap, _∙_}
 use Rattle.lists.specs.Options.{is-some}
-use Rattle.regex_bracket.specs.BracketLaws.{formed-open, formed-reserved, formed-closing, formed-left}
+use Rattle.regex_bracket.specs.ClosingLaws.{formed-open, formed-reserved, formed-closing, formed-left}
 use borrow.Author.Needs.{needs}
 use Rattle.regex_bracket.proofs.is_well_formed.Statement.{statement}
 use Rattle.regex_bracket.proofs.is_well_formed.Tie as tie

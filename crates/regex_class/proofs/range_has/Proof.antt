@@ -1,5 +1,4 @@
 -- `regex_class::range_has` meets its contract.
-use native.Mathlib.Omega.{arith}
 use borrow.Author.Tests.{lt-leb, le-leb}
 use borrow.Author.Needs.{needs}
 use Rattle.regex_class.proofs.range_has.Statement.{statement}

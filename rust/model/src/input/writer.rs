@@ -130,7 +130,7 @@ impl<'a> Writer<'a> {
     }
 
     /// The items of a bracket and the bytes they mean. `]` is only first, `-` only first, last, or at a range's upper end, `^`
-    /// not first unless the bracket is a complement; `.`, `=` and `:` are not behind `[`.
+    /// not first unless the bracket is a complement; `.`, `=` and `:` are not after `[`.
     fn items(&mut self, complement: bool) -> (Vec<u8>, Vec<u8>) {
         let (mut inside, mut members) = (Vec::new(), Vec::new());
         for _ in 0..self.r.from(1, 3) {
