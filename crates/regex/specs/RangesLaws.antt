@@ -5,10 +5,9 @@ use mathlib.Core.List.{List, [], _∷_, _++_}
 use mathlib.Core.Bool.{true, _&&_, _||_, or-assoc}
 use Prim.Native.Nat.{ℕ}
 use native.Mathlib.Omega.{arith}
-use Rattle.lists.specs.Lists.{any}
 use Rattle.lists.specs.Options.{is-some, listed}
 use Rattle.regex.specs.Tree.{Range, within, among}
-use Rattle.regex.specs.Sets.{Item, item-ranges, together, ranges-of}
+use Rattle.regex.specs.Sets.{together}
 
 pub among-append : (rs ss : List Range) (b : ℕ) → among (rs ++ ss) b ≡ (among rs b || among ss b)
 among-append [] ss b = refl
@@ -24,20 +23,3 @@ pub together-among :
 together-among none y b e = let z : _≡_ {A = ℕ} 0 1 = cc in absurd (omega arith)
 together-among (some rs) none b e = let z : _≡_ {A = ℕ} 0 1 = cc in absurd (omega arith)
 together-among (some rs) (some ss) b e = among-append rs ss b
-
--- A byte is in the ranges of some items exactly if it is in those of one of them. For the reader: nothing uses it.
-pub items-among :
-    (is : List Item) (rs : List Range) (b : ℕ) → ranges-of is ≡ some rs → among rs b ≡ any (λ i. among (listed (item-ranges i)) b) is
-unfolding ranges-of any
-items-among [] rs b e = let q : rs ≡ [] = cc in rw q
-items-among (i ∷ is) rs b e = by (item-ranges i) (ranges-of is) refl e (λ ss k. items-among is ss b k)
-  where
-    by :
-        (x y : Option (List Range)) → ranges-of is ≡ y → together x y ≡ some rs →
-        ((ss : List Range) → ranges-of is ≡ some ss → among ss b ≡ any (λ j. among (listed (item-ranges j)) b) is) →
-        among rs b ≡ (among (listed x) b || any (λ j. among (listed (item-ranges j)) b) is)
-    by none y k h f = let z : _≡_ {A = ℕ} 0 1 = cc in absurd (omega arith)
-    by (some xs) none k h f = let z : _≡_ {A = ℕ} 0 1 = cc in absurd (omega arith)
-    by (some xs) (some ys) k h f =
-        let q : rs ≡ xs ++ ys = cc in
-        rw q (among-append xs ys b ∙ ap (λ t. among xs b || t) (f ys k))
