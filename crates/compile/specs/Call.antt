@@ -1,5 +1,5 @@
 -- What Compile gives for an alphabet and a text: the form of its expression, or the refusal that applies (document 01, "What is turned
--- away", refusals 1 to 10).
+-- away", refusals 1 to 10; document 02, T-01: refusal 19).
 use Prim.Native.Nat.{ℕ}
 use mathlib.Core.List.{List, [], _∷_}
 use lib.ListN.{length}

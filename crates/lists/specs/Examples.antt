@@ -3,11 +3,11 @@ use Prim.Native.Nat.{ℕ}
 use mathlib.Core.Path.{_≡_, refl}
 use mathlib.Core.Bool.{true, false}
 use mathlib.Core.List.{[], _∷_, map}
-use mathlib.Core.Option.{Option, some as just, none}
+use mathlib.Core.Option.{some as just, none}
 use Rattle.lists.specs.Lists.{in-range, any, keep, same-list, numbers}
 use Rattle.lists.specs.Each.{all}
 use Rattle.lists.specs.Memory.{written}
-use Rattle.lists.specs.Cases.{Case, when, first-of, provided}
+use Rattle.lists.specs.Cases.{when, first-of, provided}
 
 record Examples : Type 0 where
   -- two elements written into memory of three

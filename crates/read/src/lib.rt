@@ -17,7 +17,7 @@ ghost use Rattle.read_text.specs.Promise.{Reads};
 // - On success it writes the compiled form to the front of `form`, the path to the front of `path` and its collapse, as characters, to the
 //   front of `word`, and returns the price, which is the sum of the path's costs, and the lengths of the collapse and of the form.
 // - Refusal 16, no reading, means that there is no such path. It leaves `path` and `word` as they were.
-// - Refusals 1 to 10 are Compile's, of the alphabet, the text and the length of `form`. They leave all memory as it was.
+// - Refusals 1 to 10 and 19 are Compile's, of the alphabet, the text and the length of `form`. They leave all memory as it was.
 // - Refusals 12 to 15 leave `path`, `word` and `work` as they were: 12 T is over 255, the width is not K + 1, or the number of costs is not
 //   T × (K + 1); 13 a cost is over 1,000,000; 14 `path` or `word` is shorter than T; 15 `work` is shorter than (T + 1) × (2L + 1).
 // After refusals 12 to 16 too, `form` begins with the compiled form. Success and refusal 16 may change (T + 1) × (2L + 1) words of `work`.

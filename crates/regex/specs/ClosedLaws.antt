@@ -194,7 +194,7 @@ mutual
       by false e true k h i = class-written first b c s e k (naming [] s) h
       by false e false k h i = byte-written first b c s e k (closed false (c ∷ s)) i
 
-  pub naming-written : (n s : List ℕ) → Writes (naming n) (bytes "[:" ++ n) s (naming n s)
+  naming-written : (n s : List ℕ) → Writes (naming n) (bytes "[:" ++ n) s (naming n s)
   naming-written n [] = tt
   naming-written n (b ∷ []) = tt
   naming-written n (b ∷ (c ∷ s)) = by (class-ends b c) refl (closed-written false s) (naming-written (n ++ (b ∷ [])) (c ∷ s))

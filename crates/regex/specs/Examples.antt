@@ -1,6 +1,6 @@
 -- Texts parsed by computation: the expression lines of document 01, what its rules on brackets and braces are taken to mean, a case for
 -- each refusal and for each tie of places.
-use mathlib.Core.Path.{_≡_, refl}
+use mathlib.Core.Path.{_≡_, refl, ap}
 use mathlib.Core.Option.{none}
 use mathlib.Core.List.{List, [], _∷_, _++_, flatMap}
 use mathlib.Core.Bool.{Bool, true, false, _&&_}
@@ -20,7 +20,8 @@ use Rattle.regex.specs.Classes.{classes, look-up, class-ranges}
 use Rattle.regex.specs.Parsing.{Parsing, found, fault, then, enclosed}
 use Rattle.text.specs.Text.{split}
 use Rattle.lists.specs.Cases.{first-of, provided}
-use Rattle.regex.specs.Sets.{Sign, byte, class, closed, reserved, items, members, ranges-of, known, inside, bracket, alone, escaped, a-set, labelled-set}
+use Rattle.lists.specs.CasesLaws.{provided-none}
+use Rattle.regex.specs.Sets.{Sign, byte, class, classed, with, begins, closed, reserved, items, members, ranges-of, known, inside, bracket, alone, escaped, a-set, labelled-set}
 use Rattle.regex.specs.Repetition.{number, from-on, from-to, comma, counts, sign, repetition}
 use Rattle.regex.specs.Parse.{grouped, step, go, parse, whole, expressionOf}
 
@@ -88,7 +89,7 @@ bracket-cases : List Case
 bracket-cases =
     letters-of "-" 1 ∷ letters-of "]}" 2 ∷ letters-of "." 13 ∷ letters-of "\\\\" 1 ∷ letters-of "\\." 1 ∷
     -- `-` first or just before the closing `]`, or as a range's end
-    letters-of "[--b]" 11 ∷ letters-of "[---]" 1 ∷ letters-of "[+--]" 2 ∷ letters-of "[a-b-]" 3 ∷ letters-of "[a-]" 2 ∷ letters-of "[-]" 1 ∷
+    letters-of "[--b]" 11 ∷ letters-of "[---]" 1 ∷ letters-of "[+--]" 2 ∷ letters-of "[a-b-]" 3 ∷ letters-of "[ab-]" 3 ∷ letters-of "[a-]" 2 ∷ letters-of "[-]" 1 ∷
     letters-of "[--]" 1 ∷ letters-of "[^-a]" 11 ∷ refused-as "[a--]" Bracket 0 ∷ refused-as "[a-b-c]" Bracket 0 ∷
     refused-as "[a-b-ca]" Bracket 0 ∷ refused-as "[a-b-+ab]" Bracket 0 ∷ refused-as "[+-a-b]" Bracket 0 ∷ letters-of "[+-a-]" 11 ∷
     -- `]` as first item is ordinary
@@ -98,32 +99,43 @@ bracket-cases =
     letters-of "[.]" 1 ∷ letters-of "[=]" 1 ∷ letters-of "[:a:]" 2 ∷ letters-of "[[a]" 2 ∷ letters-of "[\\a]" 2 ∷ refused-as "[A-[.]" Bracket 0 ∷
     refused-as "[[.]" Bracket 0 ∷ refused-as "[a[=]" Bracket 0 ∷ []
 
--- over `+-.:=A[]\`ab}`: classes
+-- over `+-.:=A[]\`ab}`: classes that are well formed
 class-cases : List Case
 class-cases =
-    -- beside other items, complemented, and as a plain set if the bracket itself begins with `[:`
-    letters-of "[[:alpha:]]" 3 ∷ letters-of "[^[:alpha:]]" 10 ∷ letters-of "[-[:alpha:]+]" 5 ∷ letters-of "[[:alpha:][:punct:]]" 13 ∷
-    letters-of "[][:alpha:]]" 4 ∷ letters-of "[^][:alpha:]]" 9 ∷ letters-of "[[[:upper:]]" 2 ∷ letters-of "[[:upper:]a-b]" 3 ∷
-    letters-of "[a-b[:upper:]-]" 4 ∷ letters-of "[[:upper:]]]" 2 ∷ letters-of "a[[:upper:]]b" 3 ∷ letters-of "[[:upper:]]{3}" 3 ∷
-    letters-of "[:alpha:]" 2 ∷ letters-of "[:[:upper:]:]" 2 ∷ letters-of "[[:alpha:]:]]" 5 ∷
+    letters-of "[[:alpha:]]" 3 ∷ letters-of "[^[:alpha:]]" 10 ∷ letters-of "[[:upper:]]{3}" 3 ∷ letters-of "a[[:upper:]]b" 3 ∷
+    -- beside other items
+    letters-of "[-[:alpha:]+]" 5 ∷ letters-of "[[:alpha:][:punct:]]" 13 ∷ letters-of "[ab[:upper:]]" 3 ∷ letters-of "[[:upper:]a-b]" 3 ∷
+    letters-of "[a-b[:upper:]-]" 4 ∷ letters-of "[[:alpha:]-]" 4 ∷ letters-of "[-[:alpha:]]" 4 ∷ letters-of "[[[:upper:]]" 2 ∷
+    letters-of "[][:alpha:]]" 4 ∷ letters-of "[^][:alpha:]]" 9 ∷
+    -- the opening `[` is not inside; a `]` after the bracket is ordinary
+    letters-of "[:alpha:]" 2 ∷ letters-of "[:[:upper:]:]" 2 ∷ letters-of "[[:upper:]]]" 2 ∷ letters-of "[[:alpha:]:]]" 5 ∷
     -- a class without a label adds nothing
     letters-of "[[:digit:]a]" 1 ∷ letters-of "[^[:digit:]]" 13 ∷ refused-as "[[:digit:]]" Foreign 0 ∷ refused-as "[[:cntrl:]]" Foreign 0 ∷
-    refused-as "[^[:print:]]" Foreign 0 ∷ refused-as "a[[:digit:]c]" Foreign 1 ∷
-    -- 7: a class as a range's end, either end
-    refused-as "[a-[:alpha:]]" Bracket 0 ∷ refused-as "[[:alpha:]-a]" Bracket 0 ∷ refused-as "[--[:alpha:]]" Bracket 0 ∷
-    refused-as "[[:alpha:]-[:alpha:]]" Bracket 0 ∷ refused-as "[[:alpha:]--]" Bracket 0 ∷ letters-of "[[:alpha:]-]" 4 ∷ letters-of "[-[:alpha:]]" 4 ∷
-    -- 7: `[:` without `:]` after it, and unclosed brackets
-    refused-as "[[:]" Bracket 0 ∷ refused-as "[[:]]" Bracket 0 ∷ refused-as "[[:alpha]" Bracket 0 ∷ refused-as "a[b[:alpha]]" Bracket 1 ∷ refused-as "[[:" Bracket 0 ∷
-    refused-as "[[:alpha:" Bracket 0 ∷ refused-as "[[:alpha:]" Bracket 0 ∷ refused-as "[[:alpha:a]]" Bracket 0 ∷ refused-as "[^[:a]" Bracket 0 ∷
-    -- 7: `[.` and `[=` anywhere inside, also within a name
+    refused-as "[^[:print:]]" Foreign 0 ∷ refused-as "a[[:digit:]c]" Foreign 1 ∷ []
+
+-- 7
+class-bracket-cases : List Case
+class-bracket-cases =
+    -- a class as a range's end, either end
+    refused-as "[a-[:alpha:]]" Bracket 0 ∷ refused-as "[A-[:alpha:]b]" Bracket 0 ∷ refused-as "[--[:alpha:]]" Bracket 0 ∷
+    refused-as "[[:alpha:]-a]" Bracket 0 ∷ refused-as "[a[:alpha:]-b]" Bracket 0 ∷ refused-as "[[:alpha:]-[:alpha:]]" Bracket 0 ∷
+    refused-as "[[:alpha:]--]" Bracket 0 ∷
+    -- `[:` without `:]` after it, and unclosed brackets
+    refused-as "[[:]" Bracket 0 ∷ refused-as "[[:]]" Bracket 0 ∷ refused-as "[[:" Bracket 0 ∷ refused-as "[^[:a]" Bracket 0 ∷
+    refused-as "[[:alpha]" Bracket 0 ∷ refused-as "[[:alpha.]]" Bracket 0 ∷ refused-as "[[:alpha:a]]" Bracket 0 ∷ refused-as "a[b[:alpha]]" Bracket 1 ∷
+    refused-as "[[:alpha:" Bracket 0 ∷ refused-as "[[:alpha:]" Bracket 0 ∷
+    -- `[.` and `[=` anywhere inside, also within a name
     refused-as "[[:a[.:]]" Bracket 0 ∷ refused-as "[[:[=:]]" Bracket 0 ∷ refused-as "[[:alpha:][.]" Bracket 0 ∷ refused-as "[[:x:][=a]" Bracket 0 ∷
-    -- 19: an unknown or empty name
+    -- with an unknown name, wherever the fault is in the bracket
+    refused-as "[[:x:]b-a]" Bracket 0 ∷ refused-as "[b-a[:x:]]" Bracket 0 ∷ refused-as "[[:x:]-a]" Bracket 0 ∷ refused-as "[a-[:x:]]" Bracket 0 ∷
+    refused-as "[[:x:]" Bracket 0 ∷ []
+
+-- 19
+class-name-cases : List Case
+class-name-cases =
     refused-as "[[:a:]]" ClassName 0 ∷ refused-as "[[::]]" ClassName 0 ∷ refused-as "ab[^[:Alpha:]]" ClassName 2 ∷ refused-as "[[:alpha :]]" ClassName 0 ∷
     refused-as "[[:alph:]]" ClassName 0 ∷ refused-as "[[:alphaa:]]" ClassName 0 ∷ refused-as "[a[:alpha:][:x:]]" ClassName 0 ∷
-    -- after 7, wherever that fault is in the bracket
-    refused-as "[[:x:]b-a]" Bracket 0 ∷ refused-as "[b-a[:x:]]" Bracket 0 ∷ refused-as "[[:x:]-a]" Bracket 0 ∷ refused-as "[a-[:x:]]" Bracket 0 ∷
-    refused-as "[[:x:]" Bracket 0 ∷
-    -- before 8
+    -- where no label is there either
     refused-as "[[:x:]c]" ClassName 0 ∷ refused-as "[c[:x:]]" ClassName 0 ∷ refused-as "[[:digit:][:x:]]" ClassName 0 ∷ refused-as "[^[:print:][:x:]]" ClassName 0 ∷
     -- the nearest `:]`, wherever it is; a `]` in a name closes nothing; a colon belongs to one sign
     refused-as "[[:a]b:]]" ClassName 0 ∷ refused-as "[[:x]|[[:alpha:]]" ClassName 0 ∷ refused-as "[[:a[:]]" ClassName 0 ∷
@@ -159,6 +171,8 @@ tried :
     (failing (bytes "ab") text-cases ≡ [])
     × (failing (bytes "+-.:=A[]\\`ab}") bracket-cases ≡ [])
     × (failing (bytes "+-.:=A[]\\`ab}") class-cases ≡ [])
+    × (failing (bytes "+-.:=A[]\\`ab}") class-bracket-cases ≡ [])
+    × (failing (bytes "+-.:=A[]\\`ab}") class-name-cases ≡ [])
     × (failing (bytes "^ab") complement-cases ≡ [])
     × (failing (bytes "ba") label-cases ≡ [])
     -- each sign, made ordinary
@@ -177,12 +191,20 @@ tried :
     -- `alpha` and `:`, and then an ordinary `]`
     × (expressionOf (bytes ":A]") (bytes "[[:alpha:]:]]")
     ≡ found (join (set (only (range 65 90 ∷ range 97 122 ∷ range 58 58 ∷ []))) (set (alone 93))) [])
-unfolding failing meets text-cases bracket-cases class-cases complement-cases label-cases many size signs sign-texts labelsOf letterCount then first-of split enclosed provided closed reserved items members ranges-of class-ranges look-up classes known flatMap inside bracket escaped a-set labelled-set number from-on from-to comma counts sign repetition grouped step go parse whole expressionOf
-tried = (refl, refl, refl, refl, refl, refl, refl, refl, refl, refl, refl)
+unfolding failing meets text-cases bracket-cases class-cases class-bracket-cases class-name-cases complement-cases label-cases many size signs sign-texts labelsOf letterCount then first-of split enclosed provided closed reserved items members ranges-of class-ranges look-up classes known flatMap inside bracket escaped a-set labelled-set number from-on from-to comma counts sign repetition grouped step go parse whole expressionOf
+tried = (refl, refl, refl, refl, refl, refl, refl, refl, refl, refl, refl, refl, refl)
 
 -- "A `-` may begin an item only first or just before the closing `]`": in the middle it may not, whatever follows it inside
 hyphen-inside : (b : Sign) (s : List Sign) → items false (byte (code "-") ∷ (b ∷ s)) ≡ none
 unfolding items provided
-hyphen-inside (byte b) [] = refl
-hyphen-inside (byte b) (d ∷ s) = refl
-hyphen-inside (class n) s = refl
+hyphen-inside b [] = refl
+hyphen-inside b (d ∷ s) = refl
+
+-- "A class may stand .. never as a range's end": neither as the last, nor as the first
+class-no-last-end : (first : Bool) (c : ℕ) (n : List ℕ) (s : List Sign) → items first (byte c ∷ (byte (code "-") ∷ (class n ∷ s))) ≡ none
+unfolding items provided
+class-no-last-end first c n s = provided-none (begins first c)
+
+class-no-first-end : (first : Bool) (n : List ℕ) (b : Sign) (s : List Sign) → items first (class n ∷ (byte (code "-") ∷ (b ∷ s))) ≡ none
+unfolding items provided
+class-no-first-end first n b s = ap (with (classed n)) (hyphen-inside b s)

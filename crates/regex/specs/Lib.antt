@@ -23,6 +23,7 @@ pub mod Exact
 pub mod Leftmost
 pub mod TogetherLaws
 pub mod LabelsLaws
+pub mod NameLaws
 pub mod ClassLaws
 pub mod ClassExamples
 pub mod Few

@@ -198,6 +198,9 @@ record NoPlaces : Type 0 where
   bracket-place : Place (bytes "a") refusal.Bracket (bytes "[a]") → ⊥
   class-place : Place (bytes "a") refusal.ClassName (bytes "[[:lower:]]") → ⊥
   set-place : Place (bytes "a") refusal.Foreign (bytes "a") → ⊥
+  -- nor is a place of 19 one of 7, or the other way round
+  class-not-bracket : Place (bytes "a") refusal.Bracket (bytes "[[:x:]]") → ⊥
+  bracket-not-class : Place (bytes "a") refusal.ClassName (bytes "[b-a]") → ⊥
 
 plain-bracket : a-set (bytes "[a]") ≡ found (only (range 97 97 ∷ [])) []
 unfolding a-set first-of bracket inside enclosed closed members reserved items provided flatMap ranges-of known then
@@ -206,6 +209,14 @@ plain-bracket = refl
 known-class : a-set (bytes "[[:lower:]]") ≡ found (only (range 97 122 ∷ [])) []
 unfolding a-set first-of bracket inside enclosed closed members reserved items provided flatMap ranges-of class-ranges look-up classes known then
 known-class = refl
+
+unknown-class : a-set (bytes "[[:x:]]") ≡ fault refusal.ClassName (bytes "[[:x:]]")
+unfolding a-set first-of bracket inside enclosed closed members reserved items provided flatMap ranges-of class-ranges look-up classes known then
+unknown-class = refl
+
+descending : a-set (bytes "[b-a]") ≡ fault refusal.Bracket (bytes "[b-a]")
+unfolding a-set first-of bracket inside enclosed closed members reserved items provided flatMap ranges-of known then
+descending = refl
 
 character : (a-set (bytes "a") ≡ found (alone 97) []) × (labelsOf (bytes "a") (alone 97) ≡ 1)
 unfolding a-set first-of labelsOf
@@ -220,4 +231,6 @@ no-places = record {
   bracket-place = elim [ at-bracket k e ↦ let q = plain-bracket in let z : _≡_ {A = ℕ} 0 1 = cc in omega arith ];
   class-place = elim [ at-class k e ↦ let q = known-class in let z : _≡_ {A = ℕ} 0 1 = cc in omega arith ];
   set-place = elim [ at-set c v e l ↦ let q = character .0 in let m = character .1 in let z : _≡_ {A = ℕ} 0 1 = cc in omega arith ];
+  class-not-bracket = elim [ at-bracket k e ↦ let q = unknown-class in let z : _≡_ {A = ℕ} 0 1 = cc in omega arith ];
+  bracket-not-class = elim [ at-class k e ↦ let q = descending in let z : _≡_ {A = ℕ} 0 1 = cc in omega arith ];
 }

@@ -73,10 +73,15 @@ one c = ranged (range c c)
 abbrev pub begins : Bool → ℕ → Bool
 begins first c = first || not (eqb c (code "-"))
 
+-- the sign is a `-`
+abbrev pub is-hyphen : Sign → Bool
+is-hyphen (byte b) = eqb b (code "-")
+is-hyphen (class n) = false
+
 -- the range from c to a sign, and the items after it: a class may be "never .. a range's end, which is 7"
-abbrev pub up-to : ℕ → Sign → Option (List Item) → Option (List Item)
-up-to c (byte d) is = provided (leb c d) (with (ranged (range c d)) is)
-up-to c (class n) is = none
+abbrev pub range-to : ℕ → Sign → Option (List Item) → Option (List Item)
+range-to c (byte d) is = provided (leb c d) (with (ranged (range c d)) is)
+range-to c (class n) is = none
 
 -- "An item c followed by `-` and then a byte d other than `]` is the range c to d by byte value; otherwise c alone." "A class may stand
 -- beside other items." The items of what is left inside, from the first item or a later one on:
@@ -84,11 +89,10 @@ unfoldable pub items : Bool → List Sign → Option (List Item)
 items first [] = some []
 items first (class n ∷ s) = with (classed n) (items false s)
 items first (byte c ∷ []) = some (one c ∷ [])
-items first (byte c ∷ (class n ∷ s)) = provided (begins first c) (with (one c) (items false (class n ∷ s)))
-items first (byte c ∷ (byte b ∷ [])) = provided (begins first c) (with (one c) (items false (byte b ∷ [])))
-items first (byte c ∷ (byte b ∷ (d ∷ s))) = provided (begins first c) (elim (eqb b (code "-")) [
-  | true ↦ up-to c d (items false s)
-  | false ↦ with (one c) (items false (byte b ∷ (d ∷ s)))
+items first (byte c ∷ (m ∷ [])) = provided (begins first c) (with (one c) (items false (m ∷ [])))
+items first (byte c ∷ (m ∷ (d ∷ s))) = provided (begins first c) (elim (is-hyphen m) [
+  | true ↦ range-to c d (items false s)
+  | false ↦ with (one c) (items false (m ∷ (d ∷ s)))
 ])
 
 unfoldable pub members : List Sign → Option (List Item)

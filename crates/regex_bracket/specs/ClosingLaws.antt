@@ -29,7 +29,7 @@ after-front g none = refl
 after-front g (some x) = refl
 
 module _ (text : List ℕ) (first i : ℕ) where
-  abbrev pub after-from : Option (List ℕ)
+  abbrev after-from : Option (List ℕ)
   after-from = after (closed (eqb i first) (drop i text))
 
   pub after-here : i < length text → closes (eqb i first) (getD text i 0) ≡ true → beyond text i ≡ after-from

@@ -118,7 +118,7 @@ module _ (name : List ℕ) where
 
 -- A name against an array, one byte at a time.
 module _ (array name : List ℕ) (fits : length name ≤ length array) where
-  abbrev pub same-from : ℕ → Bool
+  abbrev same-from : ℕ → Bool
   same-from i = same-list (drop i (take (length name) array)) (drop i name)
 
   taken : length (take (length name) array) ≡ length name
@@ -139,8 +139,8 @@ module _ (c : Class) (shape : Shape c) where
   pub name-fits : (name : List ℕ) → length name ≡ c .size → length name ≤ length (c .name)
   name-fits name e = let n = shape .name-length in let m = shape .name-size in omega arith
 
-  pub name-taken : (name : List ℕ) → length name ≡ c .size → same-list (take (length name) (c .name)) name ≡ same-list (name-of c) name
-  name-taken name e = ap (λ n. same-list (take n (c .name)) name) e
+  pub name-sized : (name : List ℕ) → length name ≡ c .size → same-list (take (length name) (c .name)) name ≡ same-list (name-of c) name
+  name-sized name e = ap (λ n. same-list (take n (c .name)) name) e
 
   pub other-length : (name : List ℕ) → (length name ≡ c .size → ⊥) → same-list (name-of c) name ≡ false
   other-length name h =

@@ -1,6 +1,6 @@
 -- Laws of the item at the front of a text: the items of a bracket are this item, if it is allowed, and the items of the text after it.
 use mathlib.Core.Path.{_≡_, refl, sym, ap, _∙_}
-use mathlib.Core.Option.{Option, none}
+use mathlib.Core.Option.{none}
 use mathlib.Core.List.{List, [], _∷_}
 use mathlib.Core.Bool.{Bool, true, false, cond, not, _&&_, and-true, and-false}
 use Prim.Native.Nat.{ℕ, _+_, _≤_}
@@ -9,12 +9,13 @@ use native.Mathlib.Omega.{arith}
 use lib.ListN.{length, getD, drop}
 use lib.Seq.{getD-drop}
 use lib.Dec.{eqb, leb}
-use borrow.Author.Tests.{eqb-true}
+use borrow.Author.Tests.{eqb-true, not-true, not-false}
 use Rattle.lists.specs.Cases.{provided}
+use Rattle.lists.specs.CasesLaws.{provided-none, provided-both, provided-true, provided-false}
 use Rattle.lists.specs.Options.{is-some}
 use Rattle.lists.specs.OrderLaws.{and-left, and-right, not-both}
 use Rattle.regex.specs.Tree.{range}
-use Rattle.regex.specs.Sets.{Sign, byte, class, closes, closed, ranged, classed, with, one, begins, up-to, items}
+use Rattle.regex.specs.Sets.{Sign, byte, class, closes, closed, ranged, classed, with, one, begins, is-hyphen, range-to, items}
 use Rattle.regex_signs.specs.Signs.{name, opens, sign, past, signs}
 use Rattle.regex_signs.specs.SignsLaws.{closed-at, signs-at, first-at, opens-byte, opens-not}
 use Rattle.regex_items.specs.Items.{ranges, upto, item, width, range-fits, fits}
@@ -94,6 +95,10 @@ module _ (s : List ℕ) where
   unfolding range-fits
   range-fits-by r o = rw (r, o)
 
+hyphen-is : (m : Sign) → is-hyphen m ≡ true → m ≡ byte (code "-")
+hyphen-is (byte b) e = ap byte (eqb-true b (code "-") e)
+hyphen-is (class n) e = let z : _≡_ {A = ℕ} 0 1 = cc in absurd (omega arith)
+
 -- What the items are, by the first signs.
 module _ (first : Bool) (c : ℕ) where
   items-last : items first (byte c ∷ []) ≡ with (one c) (items false [])
@@ -105,38 +110,19 @@ module _ (first : Bool) (c : ℕ) where
       (m : Sign) (ms : List Sign) → ((d : Sign) (r : List Sign) → ms ≡ d ∷ r → m ≡ byte (code "-") → ⊥) →
       items first (byte c ∷ (m ∷ ms)) ≡ provided (begins first c) (with (one c) (items false (m ∷ ms)))
   unfolding items
-  items-one (class n) ms h = refl
-  items-one (byte b) [] h = refl
-  items-one (byte b) (d ∷ ms) h = by (eqb b (code "-")) refl
+  items-one m [] h = refl
+  items-one m (d ∷ ms) h = by (is-hyphen m) refl
     where
       by :
-          (t : Bool) → eqb b (code "-") ≡ t →
-          provided (begins first c) (elim t [ true ↦ up-to c d (items false ms) | false ↦ with (one c) (items false (byte b ∷ (d ∷ ms))) ])
-          ≡ provided (begins first c) (with (one c) (items false (byte b ∷ (d ∷ ms))))
-      by true e = absurd (h d ms refl (ap byte (eqb-true b (code "-") e)))
+          (t : Bool) → is-hyphen m ≡ t →
+          provided (begins first c) (elim t [ true ↦ range-to c d (items false ms) | false ↦ with (one c) (items false (m ∷ (d ∷ ms))) ])
+          ≡ provided (begins first c) (with (one c) (items false (m ∷ (d ∷ ms))))
+      by true e = absurd (h d ms refl (hyphen-is m e))
       by false e = refl
 
-  items-to : (d : Sign) (ms : List Sign) → items first (byte c ∷ (byte (code "-") ∷ (d ∷ ms))) ≡ provided (begins first c) (up-to c d (items false ms))
+  items-to : (d : Sign) (ms : List Sign) → items first (byte c ∷ (byte (code "-") ∷ (d ∷ ms))) ≡ provided (begins first c) (range-to c d (items false ms))
   unfolding items
   items-to d ms = refl
-
-provided-none : {X : Type 0} (t : Bool) → provided {X = X} t none ≡ none
-unfolding provided
-provided-none true = refl
-provided-none false = refl
-
-provided-both : {X : Type 0} (a b : Bool) (x : Option X) → provided a (provided b x) ≡ provided (a && b) x
-unfolding provided
-provided-both true b x = refl
-provided-both false b x = refl
-
-pub provided-true : {X : Type 0} (t : Bool) (x : Option X) → t ≡ true → provided t x ≡ x
-unfolding provided
-provided-true t x e = rw e
-
-pub provided-false : {X : Type 0} (t : Bool) (x : Option X) → t ≡ false → provided t x ≡ none
-unfolding provided
-provided-false t x e = rw e
 
 -- The items of a bracket from an item on, if the bracket is closed after it.
 pub record ItemStep (first : Bool) (s : List ℕ) : Type 0 where
@@ -212,7 +198,7 @@ module _ (first : Bool) (s : List ℕ) where
           c : ℕ
           c = getD s 0 0
 
-          to : (d : Sign) (l : List Sign) → after s 2 ≡ d ∷ l → items first (signs (closed first s)) ≡ provided (begins first c) (up-to c d (items false l))
+          to : (d : Sign) (l : List Sign) → after s 2 ≡ d ∷ l → items first (signs (closed first s)) ≡ provided (begins first c) (range-to c d (items false l))
           to d l k = ap (items first) (q ∙ ap (λ l. byte c ∷ l) (n ∙ ap (λ l. byte (code "-") ∷ l) k)) ∙ items-to first c d l
 
           by : (t : Bool) → opens (drop 2 s) ≡ t → ItemStep first s
@@ -245,20 +231,12 @@ module _ (first : Bool) (s : List ℕ) where
 
   more-at : ranges s ≡ true → eqb (getD s 2 0) (code "]") ≡ false
   unfolding ranges
-  more-at r = by (eqb (getD s 2 0) (code "]")) (and-right (eqb (getD s 1 0) (code "-")) (not (eqb (getD s 2 0) (code "]"))) r)
-    where
-      by : (t : Bool) → not t ≡ true → t ≡ false
-      by true e = sym e
-      by false e = refl
+  more-at r = not-true (eqb (getD s 2 0) (code "]")) (and-right (eqb (getD s 1 0) (code "-")) (not (eqb (getD s 2 0) (code "]"))) r)
 
   -- where there is none, a `-` is just before the closing `]`
   last-at : ranges s ≡ false → getD s 1 0 ≡ code "-" → eqb (getD s 2 0) (code "]") ≡ true
   unfolding ranges
-  last-at r e = by (eqb (getD s 2 0) (code "]")) (ap (λ b. eqb b (code "-") && not (eqb (getD s 2 0) (code "]"))) (sym e) ∙ r)
-    where
-      by : (t : Bool) → not t ≡ false → t ≡ true
-      by true e = refl
-      by false e = sym e
+  last-at r e = not-false (eqb (getD s 2 0) (code "]")) (ap (λ b. eqb b (code "-") && not (eqb (getD s 2 0) (code "]"))) (sym e) ∙ r)
 
   hyphen-byte : getD s 1 0 ≡ code "-" → opens (drop 1 s) ≡ false
   hyphen-byte e = sym (opens-not s 1 (λ z. let y : code "-" ≡ code "[" = sym e ∙ z in absurd (omega arith)))

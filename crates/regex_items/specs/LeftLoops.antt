@@ -10,6 +10,7 @@ use lib.Seq.{drop-drop}
 use lib.Dec.{eqb}
 use borrow.Author.Tests.{eq-eqb, ne-eqb}
 use Rattle.lists.specs.Cases.{provided}
+use Rattle.lists.specs.CasesLaws.{provided-true, provided-false}
 use Rattle.lists.specs.Options.{is-some, listed}
 use Rattle.lists.specs.OrderLaws.{and-right, not-both}
 use Rattle.regex.specs.Tree.{Range, among}
@@ -18,7 +19,7 @@ use Rattle.regex.specs.RangesLaws.{together-known, together-among}
 use Rattle.regex_signs.specs.Signs.{signs}
 use Rattle.regex_signs.specs.SignsLaws.{closed-at, first-at, found-within}
 use Rattle.regex_items.specs.Items.{item, width, fits, Closing, left, resolved}
-use Rattle.regex_items.specs.ItemsLaws.{width-some, provided-true, provided-false, ItemStep, item-step}
+use Rattle.regex_items.specs.ItemsLaws.{width-some, ItemStep, item-step}
 
 with-some : (i : Item) (x : Option (List Item)) → is-some (with i x) ≡ is-some x
 with-some i none = refl

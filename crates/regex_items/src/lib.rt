@@ -118,7 +118,7 @@ fn item_fits(text: &[u8], first: usize, at: usize) -> bool
     range_fits(text, at)
 }
 
-// Are all items well formed?
+// Are all items well formed? The bracket is closed, so the loop ends at its `]`, here and in the functions below.
 pub fn are_items(text: &[u8], first: usize) -> bool
     requires { ⌜ Closing (now text) first first ⌝ }
     ensures { λ r. ⌜ r ≡ is-some (left (old text) first first) ⌝ }

@@ -20,7 +20,7 @@ use Rattle.regex.specs.Sets.{Sign, byte, class, class-begins, class-ends, close
 use Rattle.regex.specs.ClosedLaws.{closed-here, closed-class, closed-byte, closed-last, naming-here, naming-more}
 use Rattle.regex_signs.specs.Signs.{name, opens, sign, past, signs}
 
-pub name-short : (s : List ℕ) → length (name s) ≤ length s
+name-short : (s : List ℕ) → length (name s) ≤ length s
 unfolding name
 name-short [] = omega arith
 name-short (b ∷ []) = omega arith

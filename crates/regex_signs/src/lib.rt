@@ -55,7 +55,7 @@ fn name_end(text: &[u8], from: usize) -> usize
     i
 }
 
-// The name of the class that begins here.
+// The name of the class that begins here: the bytes up to the nearest `:]`, or up to the text's end if there is none.
 pub fn class_name(text: &[u8], at: usize) -> &[u8]
     requires { ⌜ opens (drop at (now text)) ≡ true ⌝ }
     ensures { λ r. ⌜ now r ≡ name (drop (at + 2) (old text)) ⌝ }

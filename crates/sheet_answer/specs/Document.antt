@@ -44,7 +44,7 @@ document-written out out′ n a =
     prints-unique (bytes "ab\naa\n5 1 9\n5 1 9\n5 1 9\n") (take n out′) (bytes "7\naa\n1 0 1\n")
     (answers-printed (Prints (bytes "ab\naa\n5 1 9\n5 1 9\n5 1 9\n")) out out′ n a .0) document-prints
 
--- two columns that differ; no column: three lines, two of them empty; two columns are too few for `aa`; 18 before 1; 8; 12 before 13
+-- two columns that differ; no column: three lines, two of them empty; two columns are too few for `aa`; 18 before 1; 8; 12 before 13; 19
 pub others-print :
     Prints (bytes "ab\nab\n5 1 9\n5 9 2\n") (bytes "3\nab\n1 2\n")
     × Prints (bytes "ab\na*\n") (bytes "0\n\n\n")
@@ -52,11 +52,13 @@ pub others-print :
     × Prints (bytes "aa\n") (bytes "refused 18\n")
     × Prints (bytes "ab\nc\n") (bytes "refused 8\n")
     × Prints (bytes "ab\na\n1000001 2\n") (bytes "refused 12\n")
+    × Prints (bytes "ab\n[[:x:]]\n") (bytes "refused 19\n")
 unfolding cases onto pieces both every closed costOf columnOf flatten laid sheetFrom sheetOf provided digits decimal following spaced flatMap collapse merge without-blanks first-refusal compile-call distinct if-passed unless all any keep numbers encode labelsOf letterCount then first-of split enclosed closes reserved items members ranges-of class-ranges look-up classes known inside bracket escaped a-set labelled-set number from-on from-to comma counts sign repetition grouped step go parse whole expressionOf anyOf copies nested repeated opened labels numbered positionAutomaton
 others-print = (
   record { outcome = some (1 ∷ 2 ∷ []); is = cases-stated .0 .0; lines = refl },
   record { outcome = some []; is = cases-stated .1 .1 .1 .0 .0; lines = refl },
   record { outcome = none; is = cases-stated .1 .1 .0 .0; lines = refl },
+  refl,
   refl,
   refl,
   refl,

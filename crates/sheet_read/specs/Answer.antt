@@ -47,7 +47,7 @@ abbrev pub PrintsChecked : Checked → (A s : List ℕ) (M : Matrix) (output : L
 PrintsChecked (Refused n) A s M output = output ≡ refusal-line (numberOf n)
 PrintsChecked Passed A s M output = PrintsOutcome A s M output
 
--- refusals 1 to 10
+-- refusals 1 to 10 and 19
 abbrev pub PrintsCompiled : Verdict (List ℕ) → (A s : List ℕ) (M : Matrix) (output : List ℕ) → Type 0
 PrintsCompiled (refused n) A s M output = output ≡ refusal-line (numberOf n)
 PrintsCompiled (passed f) A s M output = PrintsChecked (first-refusal (matrix-checks (length A) (lettersOf f) M lent-rooms)) A s M output

@@ -24,10 +24,10 @@ abbrev pub rest : List ℕ → List ℕ
 rest [] = []
 rest (b ∷ s) = s
 
--- one more in front of what was found before the rest of a text
+-- x before the elements that were found; the rest of the text is unchanged
 abbrev pub in-front : {X : Type 0} → X → Option (List X × List ℕ) → Option (List X × List ℕ)
-in-front b none = none
-in-front b (some x) = some (b ∷ x .0, x .1)
+in-front x none = none
+in-front x (some y) = some (x ∷ y .0, y .1)
 
 -- the text before the first such sign, and the text after that sign
 unfoldable pub split : Char → List ℕ → Option (List ℕ × List ℕ)

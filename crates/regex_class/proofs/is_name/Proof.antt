@@ -5,7 +5,7 @@ use Prim.Native.Nat.{_≤_, _-_}
 use mathlib.Core.Path.{_≡_, refl, sym, _∙_}
 use lib.ListN.{length, drop, take}
 use Rattle.lists.specs.Lists.{same-list}
-use Rattle.regex_class.specs.TableLaws.{byte-same, byte-other, bytes-end, name-fits, name-taken, other-length}
+use Rattle.regex_class.specs.TableLaws.{byte-same, byte-other, bytes-end, name-fits, name-sized, other-length}
 use Rattle.regex_class.proofs.is_name.Statement.{statement}
 use Rattle.regex_class.proofs.is_name.Tie as tie
 
@@ -38,7 +38,7 @@ returns-2 c =
     let l = c .before .before .before .loop in
     let f = name-fits (a .class) (c .before .before .before .before .before .before .before .pre) (now (a .name)) (c .before .before .before .before .before .if1 .left) in
     sym (byte-other (a .class .name) (now (a .name)) f (l .i) (omega arith) (c .if2 .taken)) ∙ l .inv .1
-    ∙ name-taken (a .class) (c .before .before .before .before .before .before .before .pre) (now (a .name)) (c .before .before .before .before .before .if1 .left)
+    ∙ name-sized (a .class) (c .before .before .before .before .before .before .before .pre) (now (a .name)) (c .before .before .before .before .before .if1 .left)
 
 add-i : tie.Need-add-i Inv-loop μ-loop
 add-i c = omega arith
@@ -59,7 +59,7 @@ returns-3 c =
     let l = c .before .loop in
     let f = name-fits (a .class) (c .before .before .before .before .before .pre) (now (a .name)) (c .before .before .before .if1 .left) in
     sym (bytes-end (a .class .name) (now (a .name)) f (l .i) (omega arith)) ∙ l .inv .1
-    ∙ name-taken (a .class) (c .before .before .before .before .before .pre) (now (a .name)) (c .before .before .before .if1 .left)
+    ∙ name-sized (a .class) (c .before .before .before .before .before .pre) (now (a .name)) (c .before .before .before .if1 .left)
 
 pub is-name-spec : {M : Type 1} → statement M
 is-name-spec =

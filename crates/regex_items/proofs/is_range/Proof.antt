@@ -4,7 +4,7 @@ use Prim.Native.Char.{code}
 use mathlib.Core.Path.{sym, ap, _∙_}
 use mathlib.Core.Bool.{not}
 use lib.Dec.{eqb}
-use Rattle.regex_items.specs.PlacesLaws.{ranges-not, ranges-by}
+use Rattle.regex_items.specs.ItemAtLaws.{ranges-not, ranges-by}
 use borrow.Author.Needs.{needs}
 use Rattle.regex_items.proofs.is_range.Statement.{statement}
 use Rattle.regex_items.proofs.is_range.Tie as tie

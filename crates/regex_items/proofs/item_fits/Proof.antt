@@ -5,7 +5,7 @@ use lib.ListN.{drop}
 use lib.Dec.{eqb}
 use borrow.Author.Tests.{not-true, not-false}
 use Rattle.regex_items.specs.ItemsLaws.{fits-class}
-use Rattle.regex_items.specs.PlacesLaws.{fits-last-at, fits-not-at, fits-by-at}
+use Rattle.regex_items.specs.ItemAtLaws.{fits-last-at, fits-not-at, fits-by-at}
 use borrow.Author.Needs.{needs}
 use Rattle.regex_items.proofs.item_fits.Statement.{statement}
 use Rattle.regex_items.proofs.item_fits.Tie as tie

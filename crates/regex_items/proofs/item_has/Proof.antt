@@ -4,7 +4,7 @@ use mathlib.Core.Path.{sym, ap, _∙_}
 use Rattle.lists.specs.Options.{listed}
 use Rattle.regex.specs.Tree.{among}
 use Rattle.regex.specs.Classes.{class-ranges}
-use Rattle.regex_items.specs.PlacesLaws.{has-class, has-range}
+use Rattle.regex_items.specs.ItemAtLaws.{has-class, has-range}
 use borrow.Author.Needs.{needs}
 use Rattle.regex_items.proofs.item_has.Statement.{statement}
 use Rattle.regex_items.proofs.item_has.Tie as tie

@@ -3,7 +3,7 @@ use denote.Ref.{now}
 use mathlib.Core.Path.{sym, ap, _∙_}
 use Rattle.lists.specs.Options.{is-some}
 use Rattle.regex.specs.Classes.{class-ranges}
-use Rattle.regex_items.specs.PlacesLaws.{known-class, known-range}
+use Rattle.regex_items.specs.ItemAtLaws.{known-class, known-range}
 use borrow.Author.Needs.{needs}
 use Rattle.regex_items.proofs.item_known.Statement.{statement}
 use Rattle.regex_items.proofs.item_known.Tie as tie

@@ -5,7 +5,7 @@ use lib.ListN.{getD, drop}
 use lib.Dec.{leb}
 use borrow.Author.Tests.{not-true, not-false}
 use Rattle.regex_items.specs.ItemsLaws.{range-fits-one}
-use Rattle.regex_items.specs.PlacesLaws.{range-fits-class-at, range-fits-by-at}
+use Rattle.regex_items.specs.ItemAtLaws.{range-fits-class-at, range-fits-by-at}
 use borrow.Author.Needs.{needs}
 use Rattle.regex_items.proofs.range_fits.Statement.{statement}
 use Rattle.regex_items.proofs.range_fits.Tie as tie

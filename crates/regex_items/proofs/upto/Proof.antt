@@ -1,7 +1,7 @@
 -- `regex_items::upto` meets its contract.
 use denote.Ref.{now}
 use mathlib.Core.Path.{sym, _∙_}
-use Rattle.regex_items.specs.PlacesLaws.{upto-range-at, upto-one-at}
+use Rattle.regex_items.specs.ItemAtLaws.{upto-range-at, upto-one-at}
 use borrow.Author.Needs.{needs}
 use Rattle.regex_items.proofs.upto.Statement.{statement}
 use Rattle.regex_items.proofs.upto.Tie as tie
