@@ -1,5 +1,5 @@
--- "The name is what stands before the nearest" `:]` (document 02, T-01): a class is read as its name, whatever the name's bytes are, if no
--- `:]` is in them; and `[:` without `:]` after it is never closed. For the reader: nothing uses it.
+-- The name of a class is what is before the nearest `:]` (document 02, T-01): a class is read as its name, whatever the bytes of the name
+-- are, if no `:]` is in them; and `[:` without `:]` after it is never closed. For the reader: nothing uses it.
 use mathlib.Core.Path.{_≡_, refl, ap, _∙_}
 use mathlib.Core.Option.{none}
 use mathlib.Core.List.{List, [], _∷_, _++_, append-nil, append-assoc}

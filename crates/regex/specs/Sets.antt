@@ -30,7 +30,7 @@ abbrev pub closes : Bool → ℕ → Bool
 closes first b = not first && eqb b (code "]")
 
 -- The signs up to the closing `]` and the text after it, from the first sign or a later one on; or from within a class on, after the bytes
--- n of its name. The name "is what stands before the nearest" `:]`, so a `]` in it closes nothing.
+-- n of its name. The name is what is before the nearest `:]`, so a `]` in it closes nothing.
 unfoldable mutual
   pub closed : Bool → List ℕ → Option (List Sign × List ℕ)
   closed first [] = none

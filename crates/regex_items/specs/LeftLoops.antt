@@ -45,9 +45,14 @@ left-first text first = rw (eq-eqb first first refl)
 pub closing-first : (text : List ℕ) (first : ℕ) → is-some (closed true (drop first text)) ≡ true → Closing text first first
 closing-first text first h = rw (eq-eqb first first refl) h
 
-module _ (text : List ℕ) (first at : ℕ) (closing : Closing text first at) where
-  pub closing-within : at < length text
-  closing-within = found-within text at (eqb at first) closing
+-- a place in the bracket, from its first sign to its closing `]`
+pub record Inner (text : List ℕ) (first at : ℕ) : Type 0 where
+  pub order : first ≤ at
+  pub closing : Closing text first at
+
+module _ {text : List ℕ} {first at : ℕ} (p : Inner text first at) where
+  pub inner-within : at < length text
+  inner-within = found-within text at (eqb at first) (p .closing)
 
   -- at the closing `]` there is no item
   module _ (here : closes (eqb at first) (getD text at 0) ≡ true) where
@@ -67,7 +72,7 @@ module _ (text : List ℕ) (first at : ℕ) (closing : Closing text first at) wh
     among-end b = ap (λ x. among (listed (resolved x)) b) left-end
 
   -- Before it there is one.
-  module _ (after-first : first ≤ at) (inside : closes (eqb at first) (getD text at 0) ≡ false) where
+  module _ (inside : closes (eqb at first) (getD text at 0) ≡ false) where
     abbrev rest : List ℕ
     rest = drop at text
 
@@ -78,13 +83,15 @@ module _ (text : List ℕ) (first at : ℕ) (closing : Closing text first at) wh
     beyond = at + width rest
 
     step : ItemStep (eqb at first) rest
-    step = item-step (eqb at first) rest closing (ap (closes (eqb at first)) (first-at text at) ∙ inside)
+    step = item-step (eqb at first) rest (p .closing) (ap (closes (eqb at first)) (first-at text at) ∙ inside)
 
     not-first : eqb beyond first ≡ false
-    not-first = ne-eqb beyond first (λ z. omega (arith, width-some rest))
+    not-first = let o = p .order in ne-eqb beyond first (λ z. omega (arith, width-some rest))
 
-    pub closing-more : allowed ≡ true → Closing text first beyond
-    closing-more h = rw (not-first, sym (drop-drop (width rest) at text)) (step .more h)
+    pub inner-more : allowed ≡ true → Inner text first beyond
+    inner-more h =
+        let o = p .order in
+        record { order = omega arith; closing = rw (not-first, sym (drop-drop (width rest) at text)) (step .more h) }
 
     left-step : left text first at ≡ provided allowed (with (item rest) (left text first beyond))
     left-step = step .reads ∙ rw (not-first, drop-drop (width rest) at text)

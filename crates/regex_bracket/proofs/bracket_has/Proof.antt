@@ -16,8 +16,10 @@ add-if1 c = search needs
 has-requires : tie.Need-has-requires
 has-requires c κs =
     let a = c .before .before .before .args in
+    let s = now (a .text) in
     let o = c .before .opening in
-    (bracket-closing (now (a .text)) (a .at) (o .result) (o .ensures) (good-formed (now (a .text)) (a .at) (o .result) (o .ensures) (c .before .before .before .pre .1)), good-known (now (a .text)) (a .at) (o .result) (o .ensures) (c .before .before .before .pre .1))
+    let good = c .before .before .before .pre .1 in
+    (bracket-closing s (a .at) (o .result) (o .ensures) (good-formed s (a .at) (o .result) (o .ensures) good), good-known s (a .at) (o .result) (o .ensures) good)
 
 returns : tie.Need-returns
 returns c =
@@ -28,14 +30,17 @@ returns c =
 has-requires-2 : tie.Need-has-requires-2
 has-requires-2 c κs =
     let a = c .before .before .before .args in
+    let s = now (a .text) in
     let o = c .before .opening in
-    (bracket-closing (now (a .text)) (a .at) (o .result) (o .ensures) (good-formed (now (a .text)) (a .at) (o .result) (o .ensures) (c .before .before .before .pre .1)), good-known (now (a .text)) (a .at) (o .result) (o .ensures) (c .before .before .before .pre .1))
+    let good = c .before .before .before .pre .1 in
+    (bracket-closing s (a .at) (o .result) (o .ensures) (good-formed s (a .at) (o .result) (o .ensures) good), good-known s (a .at) (o .result) (o .ensures) good)
 
 returns-2 : tie.Need-returns-2
 returns-2 c =
     let a = c .before .before .before .before .args in
     let o = c .before .before .opening in
-    ap not (c .has2 .ensures) ∙ bracket-except (now (a .text)) (a .at) (o .result) (o .ensures) (c .before .before .before .before .pre .1) (a .b) (c .before .if1 .left)
+    ap not (c .has2 .ensures)
+    ∙ bracket-except (now (a .text)) (a .at) (o .result) (o .ensures) (c .before .before .before .before .pre .1) (a .b) (c .before .if1 .left)
 
 pub bracket-has-spec : {M : Type 1} → statement M
 bracket-has-spec =

@@ -32,7 +32,8 @@ returns : tie.Need-returns Inv-loop μ-loop
 returns c =
     let a = c .before .before .before .before .before .args in
     let l = c .before .before .before .loop in
-    (l .inv .0, after-here (now (a .text)) (a .first) (l .i) (c .before .before .loop-test .taken) (sym (c .before .closes .ensures) ∙ c .if1 .taken) ∙ l .inv .1)
+    let here = sym (c .before .closes .ensures) ∙ c .if1 .taken in
+    (l .inv .0, after-here (now (a .text)) (a .first) (l .i) (c .before .before .loop-test .taken) here ∙ l .inv .1)
 
 sign-end-requires : tie.Need-sign-end-requires Inv-loop μ-loop
 sign-end-requires c κs = c .before .before .loop-test .taken
@@ -48,8 +49,9 @@ loop-again : tie.Need-loop-again Inv-loop μ-loop
 loop-again c =
     let a = c .before .before .before .before .before .before .args in
     let l = c .before .before .before .before .loop in
+    let inside = sym (c .before .before .closes .ensures) ∙ c .before .if1 .left in
     rw (c .sign-end .ensures)
-    (omega arith, sym (after-past (now (a .text)) (a .first) (l .i) (l .inv .0) (sym (c .before .before .closes .ensures) ∙ c .before .if1 .left)) ∙ l .inv .1)
+    (omega arith, sym (after-past (now (a .text)) (a .first) (l .i) (l .inv .0) inside) ∙ l .inv .1)
 
 returns-2 : tie.Need-returns-2 Inv-loop μ-loop
 returns-2 c =

@@ -10,7 +10,8 @@ use Rattle.regex_bracket.proofs.is_well_formed.Tie as tie
 returns : tie.Need-returns
 returns c =
     let a = c .before .before .args in
-    formed-open (now (a .text)) (a .first) (a .e) (c .before .before .pre .0) (c .before .before .pre .1) (c .if1 .taken)
+    let is = (c .before .before .pre) in
+    formed-open (now (a .text)) (a .first) (a .e) (is .0) (is .1) (c .if1 .taken)
 
 sub-is-reserved : tie.Need-sub-is-reserved
 sub-is-reserved c = search needs
@@ -27,18 +28,21 @@ is-reserved-requires c κs = search needs
 returns-2 : tie.Need-returns-2
 returns-2 c =
     let a = c .before .before .before .before .before .args in
-    formed-reserved (now (a .text)) (a .first) (a .e) (c .before .before .before .before .before .pre .0) (c .before .before .before .before .before .pre .1) (c .before .before .before .if1 .left) (sym (c .before .is-reserved .ensures) ∙ c .if2 .taken)
+    let is = (c .before .before .before .before .before .pre) in
+    formed-reserved (now (a .text)) (a .first) (a .e) (is .0) (is .1) (c .before .before .before .if1 .left) (sym (c .before .is-reserved .ensures) ∙ c .if2 .taken)
 
 are-items-requires : tie.Need-are-items-requires
 are-items-requires c κs =
     let a = c .before .before .before .before .before .args in
-    formed-closing (now (a .text)) (a .first) (a .e) (c .before .before .before .before .before .pre .0) (c .before .before .before .before .before .pre .1) (c .before .before .before .if1 .left)
+    let is = (c .before .before .before .before .before .pre) in
+    formed-closing (now (a .text)) (a .first) (a .e) (is .0) (is .1) (c .before .before .before .if1 .left)
 
 returns-3 : tie.Need-returns-3
 returns-3 c =
     let a = c .before .before .before .before .before .before .args in
-    c .are-items .ensures
-    ∙ ap is-some (formed-left (now (a .text)) (a .first) (a .e) (c .before .before .before .before .before .before .pre .0) (c .before .before .before .before .before .before .pre .1) (c .before .before .before .before .if1 .left) (sym (c .before .before .is-reserved .ensures) ∙ c .before .if2 .left))
+    let is = (c .before .before .before .before .before .before .pre) in
+    let free = sym (c .before .before .is-reserved .ensures) ∙ c .before .if2 .left in
+    c .are-items .ensures ∙ ap is-some (formed-left (now (a .text)) (a .first) (a .e) (is .0) (is .1) (c .before .before .before .before .if1 .left) free)
 
 pub is-well-formed-spec : {M : Type 1} → statement M
 is-well-formed-spec =

@@ -29,10 +29,11 @@ range-has-requires c κs =
 
 returns : tie.Need-returns Inv-loop μ-loop
 returns c =
+    let b = c .before .before .before .before .before .before .before .args .b in
     let k = c .before .before .before .before .before .look-up in
     let l = c .before .before .before .before .loop in
-    sym (in-range-here (k .result) (k .ensures .shape) (c .before .before .before .before .before .before .before .args .b) (l .j) (c .before .before .if1 .taken) (sym (c .before .range-has .ensures) ∙ c .if2 .taken)) ∙ l .inv .1
-    ∙ k .ensures .has (c .before .before .before .before .before .before .before .args .b) (search needs)
+    let here = sym (c .before .range-has .ensures) ∙ c .if2 .taken in
+    sym (in-range-here (k .result) (k .ensures .shape) b (l .j) (c .before .before .if1 .taken) here) ∙ l .inv .1 ∙ k .ensures .has b (search needs)
 
 add-j : tie.Need-add-j Inv-loop μ-loop
 add-j c =
@@ -46,13 +47,15 @@ loop-again : tie.Need-loop-again Inv-loop μ-loop
 loop-again c =
     let k = c .before .before .before .before .before .look-up in
     let l = c .before .before .before .before .loop in
-    (omega arith, sym (in-range-past (k .result) (k .ensures .shape) (c .before .before .before .before .before .before .before .args .b) (l .j) (c .before .before .if1 .taken) (sym (c .before .range-has .ensures) ∙ c .if2 .left)) ∙ l .inv .1)
+    let past = sym (c .before .range-has .ensures) ∙ c .if2 .left in
+    (omega arith, sym (in-range-past (k .result) (k .ensures .shape) (c .before .before .before .before .before .before .before .args .b) (l .j) (c .before .before .if1 .taken) past) ∙ l .inv .1)
 
 returns-2 : tie.Need-returns-2 Inv-loop μ-loop
 returns-2 c =
+    let b = c .before .before .before .before .before .args .b in
     let k = c .before .before .before .look-up in
     let l = c .before .before .loop in
-    sym (in-range-end (k .result) (k .ensures .shape) (c .before .before .before .before .before .args .b) (l .j) (omega arith)) ∙ l .inv .1 ∙ k .ensures .has (c .before .before .before .before .before .args .b) (search needs)
+    sym (in-range-end (k .result) (k .ensures .shape) b (l .j) (omega arith)) ∙ l .inv .1 ∙ k .ensures .has b (search needs)
 
 pub class-has-spec : {M : Type 1} → statement M
 class-has-spec =

@@ -10,7 +10,9 @@ use Rattle.regex_class.proofs.is_name.Statement.{statement}
 use Rattle.regex_class.proofs.is_name.Tie as tie
 
 abbrev Inv-loop : tie.InvT-loop
-Inv-loop name spelt i₀ i = (i ≤ length name) × (same-list (drop i (take (length name) spelt)) (drop i name) ≡ same-list (take (length name) spelt) name)
+Inv-loop name spelt i₀ i =
+    (i ≤ length name)
+    × (same-list (drop i (take (length name) spelt)) (drop i name) ≡ same-list (take (length name) spelt) name)
 
 abbrev μ-loop : tie.MeasureT-loop
 μ-loop name spelt i₀ i = length name - i
@@ -36,9 +38,10 @@ returns-2 : tie.Need-returns-2 Inv-loop μ-loop
 returns-2 c =
     let a = c .before .before .before .before .before .before .before .args in
     let l = c .before .before .before .loop in
-    let f = name-fits (a .class) (c .before .before .before .before .before .before .before .pre) (now (a .name)) (c .before .before .before .before .before .if1 .left) in
+    let size = c .before .before .before .before .before .if1 .left in
+    let f = name-fits (a .class) (c .before .before .before .before .before .before .before .pre) (now (a .name)) size in
     sym (byte-other (a .class .name) (now (a .name)) f (l .i) (omega arith) (c .if2 .taken)) ∙ l .inv .1
-    ∙ name-sized (a .class) (c .before .before .before .before .before .before .before .pre) (now (a .name)) (c .before .before .before .before .before .if1 .left)
+    ∙ name-sized (a .class) (c .before .before .before .before .before .before .before .pre) (now (a .name)) size
 
 add-i : tie.Need-add-i Inv-loop μ-loop
 add-i c = omega arith
@@ -50,16 +53,18 @@ loop-again : tie.Need-loop-again Inv-loop μ-loop
 loop-again c =
     let a = c .before .before .before .before .before .before .before .args in
     let l = c .before .before .before .loop in
-    let f = name-fits (a .class) (c .before .before .before .before .before .before .before .pre) (now (a .name)) (c .before .before .before .before .before .if1 .left) in
+    let size = c .before .before .before .before .before .if1 .left in
+    let f = name-fits (a .class) (c .before .before .before .before .before .before .before .pre) (now (a .name)) size in
     (omega arith, sym (byte-same (a .class .name) (now (a .name)) f (l .i) (omega arith) (c .if2 .left)) ∙ l .inv .1)
 
 returns-3 : tie.Need-returns-3 Inv-loop μ-loop
 returns-3 c =
     let a = c .before .before .before .before .before .args in
     let l = c .before .loop in
-    let f = name-fits (a .class) (c .before .before .before .before .before .pre) (now (a .name)) (c .before .before .before .if1 .left) in
+    let size = c .before .before .before .if1 .left in
+    let f = name-fits (a .class) (c .before .before .before .before .before .pre) (now (a .name)) size in
     sym (bytes-end (a .class .name) (now (a .name)) f (l .i) (omega arith)) ∙ l .inv .1
-    ∙ name-sized (a .class) (c .before .before .before .before .before .pre) (now (a .name)) (c .before .before .before .if1 .left)
+    ∙ name-sized (a .class) (c .before .before .before .before .before .pre) (now (a .name)) size
 
 pub is-name-spec : {M : Type 1} → statement M
 is-name-spec =

@@ -24,13 +24,16 @@ array-copy-out-class : tie.Need-array-copy-out-class Inv-loop μ-loop
 array-copy-out-class c = omega arith
 
 is-name-requires : tie.Need-is-name-requires Inv-loop μ-loop
-is-name-requires c κs = row-here (now (c .before .before .before .before .args .name)) _ (c .before .before .before .before .args .t1) (c .before .before .before .before .pre) (c .before .before .loop .k) (omega arith) .shape
+is-name-requires c κs =
+    let a = c .before .before .before .before .args in
+    row-here (now (a .name)) _ (a .t1) (c .before .before .before .before .pre) (c .before .before .loop .k) (omega arith) .shape
 
 returns : tie.Need-returns Inv-loop μ-loop
 returns c =
     let a = c .before .before .before .before .before .before .args in
     let l = c .before .before .before .before .loop in
-    sought-here (now (a .name)) _ (a .t1) (c .before .before .before .before .before .before .pre) (l .k) (omega arith) _ (l .inv .1) (sym (c .before .is-name .ensures) ∙ c .if1 .taken)
+    let same = sym (c .before .is-name .ensures) ∙ c .if1 .taken in
+    sought-here (now (a .name)) _ (a .t1) (c .before .before .before .before .before .before .pre) (l .k) (omega arith) _ (l .inv .1) same
 
 add-k : tie.Need-add-k Inv-loop μ-loop
 add-k c = omega arith
@@ -42,7 +45,8 @@ loop-again : tie.Need-loop-again Inv-loop μ-loop
 loop-again c =
     let a = c .before .before .before .before .before .before .args in
     let l = c .before .before .before .before .loop in
-    (omega arith, sym (sought-past (now (a .name)) _ (a .t1) (c .before .before .before .before .before .before .pre) (l .k) (omega arith) (sym (c .before .is-name .ensures) ∙ c .if1 .left)) ∙ l .inv .1)
+    let other = sym (c .before .is-name .ensures) ∙ c .if1 .left in
+    (omega arith, sym (sought-past (now (a .name)) _ (a .t1) (c .before .before .before .before .before .before .pre) (l .k) (omega arith) other) ∙ l .inv .1)
 
 returns-2 : tie.Need-returns-2 Inv-loop μ-loop
 returns-2 c =

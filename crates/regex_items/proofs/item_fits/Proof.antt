@@ -27,7 +27,8 @@ peek-requires c κs = search needs
 returns-2 : tie.Need-returns-2
 returns-2 c =
     let a = c .before .before .before .before .before .args in
-    fits-last-at (now (a .text)) (a .at) (sym (c .before .before .before .begins-class .ensures) ∙ c .before .before .if1 .left) (eqb (a .at) (a .first)) (sym (c .before .peek .ensures) ∙ c .if2 .taken)
+    let byte = sym (c .before .before .before .begins-class .ensures) ∙ c .before .before .if1 .left in
+    fits-last-at (now (a .text)) (a .at) byte (eqb (a .at) (a .first)) (sym (c .before .peek .ensures) ∙ c .if2 .taken)
 
 shared-slice-read-may-begin : tie.Need-shared-slice-read-may-begin
 shared-slice-read-may-begin c = search needs
@@ -38,7 +39,10 @@ may-begin-requires c κs = search needs
 returns-3 : tie.Need-returns-3
 returns-3 c =
     let a = c .before .before .before .before .before .before .before .before .args in
-    fits-not-at (now (a .text)) (a .at) (sym (c .before .before .before .before .before .before .begins-class .ensures) ∙ c .before .before .before .before .before .if1 .left) (λ e. c .before .before .before .if2 .left (c .before .before .before .before .peek .ensures ∙ e)) (eqb (a .at) (a .first))
+    let byte = sym (c .before .before .before .before .before .before .begins-class .ensures) ∙ c .before .before .before .before .before .if1 .left in
+    let p = c .before .before .before .before .peek in
+    let more = c .before .before .before .if2 in
+    fits-not-at (now (a .text)) (a .at) byte (λ e. more .left (p .ensures ∙ e)) (eqb (a .at) (a .first))
     (sym (c .before .may-begin .ensures) ∙ not-true _ (c .if3 .taken))
 
 range-fits-requires : tie.Need-range-fits-requires
@@ -47,8 +51,11 @@ range-fits-requires c κs = search needs
 returns-4 : tie.Need-returns-4
 returns-4 c =
     let a = c .before .before .before .before .before .before .before .before .before .args in
+    let byte = sym (c .before .before .before .before .before .before .before .begins-class .ensures) ∙ c .before .before .before .before .before .before .if1 .left in
+    let p = c .before .before .before .before .before .peek in
+    let more = c .before .before .before .before .if2 in
     c .range-fits .ensures
-    ∙ fits-by-at (now (a .text)) (a .at) (sym (c .before .before .before .before .before .before .before .begins-class .ensures) ∙ c .before .before .before .before .before .before .if1 .left) (λ e. c .before .before .before .before .if2 .left (c .before .before .before .before .before .peek .ensures ∙ e)) (eqb (a .at) (a .first))
+    ∙ fits-by-at (now (a .text)) (a .at) byte (λ e. more .left (p .ensures ∙ e)) (eqb (a .at) (a .first))
     (sym (c .before .before .may-begin .ensures) ∙ not-false _ (c .before .if3 .left))
 
 pub item-fits-spec : {M : Type 1} → statement M

@@ -27,7 +27,8 @@ begins-class-requires c κs = search needs
 returns-2 : tie.Need-returns-2
 returns-2 c =
     let a = c .before .before .before .before .before .args in
-    range-fits-class-at (now (a .text)) (a .at) (sym (c .before .before .before .is-range .ensures) ∙ not-false _ (c .before .before .if1 .left)) (sym (c .before .begins-class .ensures) ∙ c .if2 .taken)
+    let range = sym (c .before .before .before .is-range .ensures) ∙ not-false _ (c .before .before .if1 .left) in
+    range-fits-class-at (now (a .text)) (a .at) range (sym (c .before .begins-class .ensures) ∙ c .if2 .taken)
 
 shared-slice-read-result : tie.Need-shared-slice-read-result
 shared-slice-read-result c = search needs
@@ -41,8 +42,9 @@ peek-requires c κs = search needs
 returns-3 : tie.Need-returns-3
 returns-3 c =
     let a = c .before .before .before .before .before .before .before .args in
+    let range = sym (c .before .before .before .before .before .is-range .ensures) ∙ not-false _ (c .before .before .before .before .if1 .left) in
     ap (leb (getD (now (a .text)) (a .at) 0)) (c .peek .ensures)
-    ∙ range-fits-by-at (now (a .text)) (a .at) (sym (c .before .before .before .before .before .is-range .ensures) ∙ not-false _ (c .before .before .before .before .if1 .left)) (sym (c .before .before .before .begins-class .ensures) ∙ c .before .before .if2 .left)
+    ∙ range-fits-by-at (now (a .text)) (a .at) range (sym (c .before .before .before .begins-class .ensures) ∙ c .before .before .if2 .left)
 
 pub range-fits-spec : {M : Type 1} → statement M
 range-fits-spec =
