@@ -11,6 +11,7 @@ use lib.Dec.{eqb}
 use borrow.Author.Tests.{eqb-true}
 use Rattle.lists.specs.OrderLaws.{and-left, and-right}
 use Rattle.lists.specs.Cases.{provided}
+use Rattle.lists.specs.CasesLaws.{provided-true, provided-false}
 use Rattle.text.specs.Bytes.{bytes}
 use Rattle.text.specs.Text.{in-front}
 use Rattle.regex.specs.Sets.{Sign, byte, class, class-begins, class-ends, closes, closed, naming, sign-bytes}
@@ -26,11 +27,8 @@ branch-false false x y e = refl
 -- By the first bytes.
 module _ (first : Bool) (b : ℕ) where
   pub closed-here : (s : List ℕ) → closes first b ≡ true → closed first (b ∷ s) ≡ some ([], s)
-  unfolding closed provided
-  closed-here [] e = by (closes first b) e
-    where
-      by : (t : Bool) → t ≡ true → provided {X = List Sign × List ℕ} t (some ([], [])) ≡ some ([], [])
-      by t e = rw e
+  unfolding closed
+  closed-here [] e = provided-true (closes first b) (some ([], [])) e
   closed-here (c ∷ s) e = branch-true (closes first b) _ _ e
 
   pub closed-class : (c : ℕ) (s : List ℕ) → closes first b ≡ false → class-begins b c ≡ true → closed first (b ∷ (c ∷ s)) ≡ naming [] s
@@ -44,11 +42,8 @@ module _ (first : Bool) (b : ℕ) where
   closed-byte c s e k = branch-false (closes first b) _ _ e ∙ branch-false (class-begins b c) _ _ k
 
   pub closed-last : closes first b ≡ false → closed first (b ∷ []) ≡ none
-  unfolding closed provided
-  closed-last e = by (closes first b) e
-    where
-      by : (t : Bool) → t ≡ false → provided {X = List Sign × List ℕ} t (some ([], [])) ≡ none
-      by t e = rw e
+  unfolding closed
+  closed-last e = provided-false (closes first b) (some ([], [])) e
 
 module _ (n : List ℕ) (b c : ℕ) (s : List ℕ) where
   pub naming-here : class-ends b c ≡ true → naming n (b ∷ (c ∷ s)) ≡ in-front (class n) (closed false s)

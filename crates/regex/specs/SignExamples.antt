@@ -29,7 +29,7 @@ signs = bytes "^.[$()|*+?{\\"
 abbrev ordinary : List ℕ
 ordinary = bytes " !\"#%&',-/0123456789:;<=>@ABCDEFGHIJKLMNOPQRSTUVWXYZ]_`abcdefghijklmnopqrstuvwxyz}~"
 
--- all but `-` and `]`
+-- all except `-` and `]`
 abbrev inner : List ℕ
 inner = bytes " !\"#$%&'()*+,./0123456789:;<=>?@ABCDEFGHIJKLMNOPQRSTUVWXYZ[\\^_`abcdefghijklmnopqrstuvwxyz{|}~"
 

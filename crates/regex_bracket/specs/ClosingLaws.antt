@@ -16,8 +16,8 @@ use Rattle.lists.specs.Options.{is-some}
 use Rattle.text.specs.Text.{in-front}
 use Rattle.regex.specs.Sets.{Sign, closes, closed, sign-bytes, reserved, members}
 use Rattle.regex.specs.ClosedLaws.{Written, closed-written}
-use Rattle.regex_signs.specs.Signs.{sign, past, signs}
-use Rattle.regex_signs.specs.SignsLaws.{closed-at, step-at, past-some}
+use Rattle.regex_signs.specs.Signs.{sign, sign-width, signs}
+use Rattle.regex_signs.specs.SignsLaws.{closed-at, step-at, sign-width-some}
 use Rattle.regex_items.specs.Items.{Closing, left}
 use Rattle.regex_items.specs.LeftLoops.{left-first, closing-first}
 use Rattle.regex_bracket.specs.Answers.{after, beyond, formed}
@@ -36,11 +36,11 @@ module _ (text : List ℕ) (first i : ℕ) where
   unfolding beyond
   after-here l e = rw (lt-ltb i (length text) l) (sym (ap after (closed-at text i (eqb i first) e)))
 
-  pub after-past : first ≤ i → closes (eqb i first) (getD text i 0) ≡ false → after-from ≡ after (closed (eqb (i + past (drop i text)) first) (drop (i + past (drop i text)) text))
+  pub after-past : first ≤ i → closes (eqb i first) (getD text i 0) ≡ false → after-from ≡ after (closed (eqb (i + sign-width (drop i text)) first) (drop (i + sign-width (drop i text)) text))
   after-past l e =
-      let n : eqb (i + past (drop i text)) first ≡ false = ne-eqb (i + past (drop i text)) first (λ z. omega (arith, past-some text i)) in
-      ap after (step-at text i (eqb i first) e) ∙ after-front (sign (drop i text)) (closed false (drop (i + past (drop i text)) text))
-      ∙ ap (λ t. after (closed t (drop (i + past (drop i text)) text))) (sym n)
+      let n : eqb (i + sign-width (drop i text)) first ≡ false = ne-eqb (i + sign-width (drop i text)) first (λ z. omega (arith, sign-width-some text i)) in
+      ap after (step-at text i (eqb i first) e) ∙ after-front (sign (drop i text)) (closed false (drop (i + sign-width (drop i text)) text))
+      ∙ ap (λ t. after (closed t (drop (i + sign-width (drop i text)) text))) (sym n)
 
   pub after-end : length text ≤ i → beyond text i ≡ after-from
   unfolding beyond closed

@@ -12,7 +12,7 @@ use Rattle.text.specs.Bytes.{bytes}
 use Rattle.text.specs.Text.{next-of}
 use Rattle.regex.specs.Tree.{Range, range}
 use Rattle.regex.specs.Sets.{Item, ranged, classed, begins, closed, items, ranges-of}
-use Rattle.regex_signs.specs.Signs.{name, opens, past, signs}
+use Rattle.regex_signs.specs.Signs.{name, opens, sign-width, signs}
 
 -- a range: a byte, `-` and a sign other than the closing `]`
 unfoldable pub ranges : List ℕ → Bool
@@ -27,7 +27,7 @@ item s = cond (opens s) (classed (name (drop 2 s))) (ranged (range (getD s 0 0) 
 
 -- how many bytes it takes
 unfoldable pub width : List ℕ → ℕ
-width s = cond (ranges s) 3 (past s)
+width s = cond (ranges s) 3 (sign-width s)
 
 -- a range does not end in a class and does not descend
 unfoldable pub range-fits : List ℕ → Bool

@@ -16,7 +16,7 @@ use Rattle.lists.specs.Options.{is-some}
 use Rattle.lists.specs.OrderLaws.{and-left, and-right, not-both}
 use Rattle.regex.specs.Tree.{range}
 use Rattle.regex.specs.Sets.{Sign, byte, class, closes, closed, ranged, classed, with, one, begins, is-hyphen, range-to, items}
-use Rattle.regex_signs.specs.Signs.{name, opens, sign, past, signs}
+use Rattle.regex_signs.specs.Signs.{name, opens, sign, sign-width, signs}
 use Rattle.regex_signs.specs.SignsLaws.{closed-at, signs-at, first-at, opens-byte, opens-not}
 use Rattle.regex_items.specs.Items.{ranges, upto, item, width, range-fits, fits}
 
@@ -44,7 +44,7 @@ module _ (s : List ℕ) where
   unfolding width
   width-range r = rw r
 
-  pub width-sign : ranges s ≡ false → past s ≡ width s
+  pub width-sign : ranges s ≡ false → sign-width s ≡ width s
   unfolding width
   width-sign r = rw r
 
@@ -137,14 +137,14 @@ abbrev found : List ℕ → ℕ → Type 0
 found s k = is-some (closed false (drop k s)) ≡ true
 
 module _ (first : Bool) (s : List ℕ) where
-  class-step : opens s ≡ true → signs (closed first s) ≡ sign s ∷ after s (past s) → found s (past s) → ItemStep first s
+  class-step : opens s ≡ true → signs (closed first s) ≡ sign s ∷ after s (sign-width s) → found s (sign-width s) → ItemStep first s
   unfolding items provided
   class-step o q f =
       let w = width-sign s (class-no-range s o) in
       let g : sign s ≡ class (name (drop 2 s)) = rw o in
       record {
         reads =
-            ap (items first) (q ∙ ap (λ m. m ∷ after s (past s)) g)
+            ap (items first) (q ∙ ap (λ m. m ∷ after s (sign-width s)) g)
             ∙ ap (λ k. with (classed (name (drop 2 s))) (items false (after s k))) w
             ∙ ap (λ i. with i (items false (after s (width s)))) (sym (item-class s o))
             ∙ sym (provided-true (fits first s) _ (sym (fits-class s first o)));
@@ -191,8 +191,8 @@ module _ (first : Bool) (s : List ℕ) where
 
       -- a range, to a class or to a byte
       range-step :
-          ranges s ≡ true → after s 1 ≡ byte (code "-") ∷ after s 2 → after s 2 ≡ sign (drop 2 s) ∷ after s (2 + past (drop 2 s)) →
-          found s (2 + past (drop 2 s)) → ItemStep first s
+          ranges s ≡ true → after s 1 ≡ byte (code "-") ∷ after s 2 → after s 2 ≡ sign (drop 2 s) ∷ after s (2 + sign-width (drop 2 s)) →
+          found s (2 + sign-width (drop 2 s)) → ItemStep first s
       range-step r n k g = by (opens (drop 2 s)) refl
         where
           c : ℕ
@@ -206,19 +206,19 @@ module _ (first : Bool) (s : List ℕ) where
               let x : fits first s ≡ false = fits-other s first o e ∙ ap (λ t. begins first c && t) (sym (range-fits-class s r u)) ∙ and-false (begins first c) in
               let d : sign (drop 2 s) ≡ class (name (drop 2 (drop 2 s))) = rw u in
               record {
-                reads = to (class (name (drop 2 (drop 2 s)))) (after s (2 + past (drop 2 s))) (k ∙ ap (λ m. m ∷ after s (2 + past (drop 2 s))) d)
+                reads = to (class (name (drop 2 (drop 2 s)))) (after s (2 + sign-width (drop 2 s))) (k ∙ ap (λ m. m ∷ after s (2 + sign-width (drop 2 s))) d)
                     ∙ provided-none (begins first c) ∙ sym (provided-false (fits first s) (with (item s) (items false (after s (width s)))) x);
                 more = λ h. absurd (not-both true refl (sym h ∙ x));
               }
           by false u =
               let x : fits first s ≡ (begins first c && leb c (getD s 2 0)) = fits-other s first o e ∙ ap (λ t. begins first c && t) (sym (range-fits-by s r u)) in
               let d : sign (drop 2 s) ≡ byte (getD s 2 0) = rw u (ap byte (getD-drop 2 s 0 0)) in
-              let p : 2 + past (drop 2 s) ≡ width s = ap (λ t. 2 + cond t (2 + (length (name (drop 2 (drop 2 s))) + 2)) 1) u ∙ width-range s r in
+              let p : 2 + sign-width (drop 2 s) ≡ width s = ap (λ t. 2 + cond t (2 + (length (name (drop 2 (drop 2 s))) + 2)) 1) u ∙ width-range s r in
               let i : item s ≡ ranged (range c (getD s 2 0)) = item-range s o ∙ ap (λ d. ranged (range c d)) (sym (upto-range s r)) in
               record {
-                reads = to (byte (getD s 2 0)) (after s (2 + past (drop 2 s))) (k ∙ ap (λ m. m ∷ after s (2 + past (drop 2 s))) d)
-                    ∙ provided-both (begins first c) (leb c (getD s 2 0)) (with (ranged (range c (getD s 2 0))) (items false (after s (2 + past (drop 2 s)))))
-                    ∙ ap (λ t. provided t (with (ranged (range c (getD s 2 0))) (items false (after s (2 + past (drop 2 s)))))) (sym x)
+                reads = to (byte (getD s 2 0)) (after s (2 + sign-width (drop 2 s))) (k ∙ ap (λ m. m ∷ after s (2 + sign-width (drop 2 s))) d)
+                    ∙ provided-both (begins first c) (leb c (getD s 2 0)) (with (ranged (range c (getD s 2 0))) (items false (after s (2 + sign-width (drop 2 s)))))
+                    ∙ ap (λ t. provided t (with (ranged (range c (getD s 2 0))) (items false (after s (2 + sign-width (drop 2 s)))))) (sym x)
                     ∙ ap (λ k. provided (fits first s) (with (ranged (range c (getD s 2 0))) (items false (after s k)))) p
                     ∙ ap (λ j. provided (fits first s) (with j (items false (after s (width s))))) (sym i);
                 more = λ h. rw (sym p) g;
@@ -252,15 +252,15 @@ module _ (first : Bool) (s : List ℕ) where
       by true o k = let z : _≡_ {A = ℕ} 0 1 = cc in absurd (omega arith)
       by false o k = let f = first-at s 1 in (o, cc)
 
-  next-past : opens (drop 1 s) ≡ false → 1 + past (drop 1 s) ≡ 2
-  next-past o = ap (λ t. 1 + cond t (2 + (length (name (drop 2 (drop 1 s))) + 2)) 1) o
+  next-width : opens (drop 1 s) ≡ false → 1 + sign-width (drop 1 s) ≡ 2
+  next-width o = ap (λ t. 1 + cond t (2 + (length (name (drop 2 (drop 1 s))) + 2)) 1) o
 
   no-range :
-      ranges s ≡ false → (d : Sign) (l : List Sign) → after s (1 + past (drop 1 s)) ≡ d ∷ l → next ≡ byte (code "-") → ⊥
+      ranges s ≡ false → (d : Sign) (l : List Sign) → after s (1 + sign-width (drop 1 s)) ≡ d ∷ l → next ≡ byte (code "-") → ⊥
   no-range r d l k h =
       let b = byte-next (code "-") h in
       let n : after s 2 ≡ [] = ap signs (closed-at s 2 false (last-at r (b .1))) in
-      let m : after s (1 + past (drop 1 s)) ≡ after s 2 = ap (after s) (next-past (b .0)) in
+      let m : after s (1 + sign-width (drop 1 s)) ≡ after s 2 = ap (after s) (next-width (b .0)) in
       let z : _≡_ {A = ℕ} 0 1 = cc in omega arith
 
   byte-step : opens s ≡ false → signs (closed first s) ≡ byte (getD s 0 0) ∷ after s 1 → found s 1 → ItemStep first s
@@ -269,15 +269,15 @@ module _ (first : Bool) (s : List ℕ) where
       by-range : (e : eqb (getD s 1 0) (code "]") ≡ false) (t : Bool) → ranges s ≡ t → ItemStep first s
       by-range e false r =
           let n = signs-at s 1 false f e in
-          plain-step o q f e r next (after s (1 + past (drop 1 s))) (n .0) (no-range r)
+          plain-step o q f e r next (after s (1 + sign-width (drop 1 s))) (n .0) (no-range r)
       by-range e true r =
           let n = signs-at s 1 false f e in
           let h = hyphen-at r in
           let u = hyphen-byte h in
           let b : next ≡ byte (code "-") = rw u (ap byte (first-at s 1 ∙ h)) in
-          let p = next-past u in
+          let p = next-width u in
           let m = signs-at s 2 false (rw p at (n .1)) (more-at r) in
-          range-step o q f e r (n .0 ∙ ap (λ g. g ∷ after s (1 + past (drop 1 s))) b ∙ ap (λ k. byte (code "-") ∷ after s k) p) (m .0) (m .1)
+          range-step o q f e r (n .0 ∙ ap (λ g. g ∷ after s (1 + sign-width (drop 1 s))) b ∙ ap (λ k. byte (code "-") ∷ after s k) p) (m .0) (m .1)
 
       by : (t : Bool) → eqb (getD s 1 0) (code "]") ≡ t → ItemStep first s
       by true e = last-step o q f e
@@ -288,9 +288,9 @@ module _ (first : Bool) (s : List ℕ) where
     where
       by :
           (t : Bool) → opens s ≡ t →
-          (signs (closed first s) ≡ sign s ∷ after s (0 + past s)) × found s (0 + past s) → ItemStep first s
-      by true o n = let z : 0 + past s ≡ past s = omega arith in class-step o (rw z at (n .0)) (rw z at (n .1))
+          (signs (closed first s) ≡ sign s ∷ after s (0 + sign-width s)) × found s (0 + sign-width s) → ItemStep first s
+      by true o n = let z : 0 + sign-width s ≡ sign-width s = omega arith in class-step o (rw z at (n .0)) (rw z at (n .1))
       by false o n =
-          let z : 0 + past s ≡ 1 = ap (λ t. 0 + cond t (2 + (length (name (drop 2 s)) + 2)) 1) o in
+          let z : 0 + sign-width s ≡ 1 = ap (λ t. 0 + cond t (2 + (length (name (drop 2 s)) + 2)) 1) o in
           let g : sign s ≡ byte (getD s 0 0) = rw o in
-          byte-step o (n .0 ∙ ap (λ m. m ∷ after s (0 + past s)) g ∙ ap (λ k. byte (getD s 0 0) ∷ after s k) z) (rw z at (n .1))
+          byte-step o (n .0 ∙ ap (λ m. m ∷ after s (0 + sign-width s)) g ∙ ap (λ k. byte (getD s 0 0) ∷ after s k) z) (rw z at (n .1))

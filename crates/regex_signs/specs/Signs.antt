@@ -19,8 +19,8 @@ opens s = class-begins (getD s 0 0) (getD s 1 0)
 abbrev pub sign : List ℕ → Sign
 sign s = cond (opens s) (class (name (drop 2 s))) (byte (getD s 0 0))
 
-abbrev pub past : List ℕ → ℕ
-past s = cond (opens s) (2 + (length (name (drop 2 s)) + 2)) 1
+abbrev pub sign-width : List ℕ → ℕ
+sign-width s = cond (opens s) (2 + (length (name (drop 2 s)) + 2)) 1
 
 -- the signs that were found
 abbrev pub signs : Option (List Sign × List ℕ) → List Sign

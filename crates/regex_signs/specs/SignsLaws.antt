@@ -18,7 +18,7 @@ use Rattle.text.specs.Text.{in-front}
 use Rattle.text.specs.TextLaws.{byte-is}
 use Rattle.regex.specs.Sets.{Sign, byte, class, class-begins, class-ends, closes, closed, naming}
 use Rattle.regex.specs.ClosedLaws.{closed-here, closed-class, closed-byte, closed-last, naming-here, naming-more}
-use Rattle.regex_signs.specs.Signs.{name, opens, sign, past, signs}
+use Rattle.regex_signs.specs.Signs.{name, opens, sign, sign-width, signs}
 
 name-short : (s : List ℕ) → length (name s) ≤ length s
 unfolding name
@@ -104,7 +104,7 @@ naming-step n (b ∷ (c ∷ s)) = by (class-ends b c) refl (naming-step (n ++ (b
         more = omega arith
 
 -- The signs of a text that does not begin with the closing `]`: the first, and those of the text after it.
-pub closed-step : (first : Bool) (s : List ℕ) → closes first (getD s 0 0) ≡ false → closed first s ≡ in-front (sign s) (closed false (drop (past s) s))
+pub closed-step : (first : Bool) (s : List ℕ) → closes first (getD s 0 0) ≡ false → closed first s ≡ in-front (sign s) (closed false (drop (sign-width s) s))
 unfolding closed opens
 closed-step first [] e = refl
 closed-step first (b ∷ []) e = closed-last first b e ∙ by (eqb b (code "["))
@@ -170,14 +170,14 @@ module _ (text : List ℕ) (at : ℕ) where
   pub name-part : (e : ℕ) → e ≡ at + length (name (drop at text)) → take (e - at) (drop at text) ≡ name (drop at text)
   name-part e q = let k : e - at ≡ length (name (drop at text)) = omega arith in rw k (name-taken (drop at text))
 
-  pub past-class : opens (drop at text) ≡ true → at + 2 + length (name (drop (at + 2) text)) + 2 ≡ at + past (drop at text)
-  past-class e = rw (e, drop-drop 2 at text) (omega arith)
+  pub sign-width-class : opens (drop at text) ≡ true → at + 2 + length (name (drop (at + 2) text)) + 2 ≡ at + sign-width (drop at text)
+  sign-width-class e = rw (e, drop-drop 2 at text) (omega arith)
 
-  pub past-byte : opens (drop at text) ≡ false → at + 1 ≡ at + past (drop at text)
-  past-byte e = rw e
+  pub sign-width-byte : opens (drop at text) ≡ false → at + 1 ≡ at + sign-width (drop at text)
+  sign-width-byte e = rw e
 
-  pub past-some : 1 ≤ past (drop at text)
-  past-some = by (opens (drop at text))
+  pub sign-width-some : 1 ≤ sign-width (drop at text)
+  sign-width-some = by (opens (drop at text))
     where
       by : (t : Bool) → 1 ≤ cond t (2 + (length (name (drop 2 (drop at text))) + 2)) 1
       by true = omega arith
@@ -203,16 +203,16 @@ module _ (text : List ℕ) (at : ℕ) where
   -- the sign there, and the signs of the text after it
   pub step-at :
       (first : Bool) → closes first (getD text at 0) ≡ false →
-      closed first (drop at text) ≡ in-front (sign (drop at text)) (closed false (drop (at + past (drop at text)) text))
+      closed first (drop at text) ≡ in-front (sign (drop at text)) (closed false (drop (at + sign-width (drop at text)) text))
   step-at first e =
       closed-step first (drop at text) (ap (closes first) first-at ∙ e)
-      ∙ ap (λ s. in-front (sign (drop at text)) (closed false s)) (drop-drop (past (drop at text)) at text)
+      ∙ ap (λ s. in-front (sign (drop at text)) (closed false s)) (drop-drop (sign-width (drop at text)) at text)
 
   pub signs-at :
       (first : Bool) → is-some (closed first (drop at text)) ≡ true → closes first (getD text at 0) ≡ false →
-      (signs (closed first (drop at text)) ≡ sign (drop at text) ∷ signs (closed false (drop (at + past (drop at text)) text)))
-      × (is-some (closed false (drop (at + past (drop at text)) text)) ≡ true)
+      (signs (closed first (drop at text)) ≡ sign (drop at text) ∷ signs (closed false (drop (at + sign-width (drop at text)) text)))
+      × (is-some (closed false (drop (at + sign-width (drop at text)) text)) ≡ true)
   signs-at first h e =
       let q = step-at first e in
-      let r = front-some (sign (drop at text)) (closed false (drop (at + past (drop at text)) text)) (sym (ap is-some q) ∙ h) in
+      let r = front-some (sign (drop at text)) (closed false (drop (at + sign-width (drop at text)) text)) (sym (ap is-some q) ∙ h) in
       (ap signs q ∙ r .0, r .1)

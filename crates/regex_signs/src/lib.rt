@@ -8,7 +8,7 @@ ghost use lib.ListN.{length, getD, drop};
 ghost use lib.Dec.{eqb};
 ghost use Rattle.lists.specs.Memory.{old};
 ghost use Rattle.regex.specs.Sets.{class-ends, closes as closesOf};
-ghost use Rattle.regex_signs.specs.Signs.{name, opens, past};
+ghost use Rattle.regex_signs.specs.Signs.{name, opens, sign-width};
 
 // Is the bracket closed here? Its first sign is at `first`, and a `]` there is ordinary.
 pub fn closes(text: &[u8], first: usize, at: usize) -> bool
@@ -68,7 +68,7 @@ pub fn class_name(text: &[u8], at: usize) -> &[u8]
 // Where the sign that begins here ends; past the end if it is a class without a `:]`.
 pub fn sign_end(text: &[u8], at: usize) -> usize
     requires { ⌜ at < length (now text) ⌝ }
-    ensures { λ r. ⌜ r ≡ at + past (drop at (old text)) ⌝ }
+    ensures { λ r. ⌜ r ≡ at + sign-width (drop at (old text)) ⌝ }
 {
     if begins_class(text, at) {
         return name_end(text, at + 2) + 2;

@@ -1,5 +1,5 @@
 //! Refusals 1 to 10, text by text, with the numbers written by hand: the model and Compile must both answer with them. And what
-//! brackets hold.
+//! brackets hold; those with classes, and 19, are in `classes`.
 use crate::compile::hold;
 use kavurehy::FORM_WORDS;
 use model::opening::compile;

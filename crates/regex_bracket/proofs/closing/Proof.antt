@@ -7,7 +7,7 @@ use mathlib.Core.Bool.{true}
 use lib.ListN.{length, drop}
 use lib.Dec.{eqb}
 use Rattle.regex.specs.Sets.{closed}
-use Rattle.regex_signs.specs.SignsLaws.{past-some}
+use Rattle.regex_signs.specs.SignsLaws.{sign-width-some}
 use Rattle.regex_bracket.specs.Answers.{after}
 use Rattle.regex_bracket.specs.ClosingLaws.{after-first, after-here, after-past, after-end}
 use borrow.Author.Needs.{needs}
@@ -41,7 +41,7 @@ sign-end-requires c κs = c .before .before .loop-test .taken
 loop-less : tie.Need-loop-less Inv-loop μ-loop
 loop-less c =
     let a = c .before .before .before .before .before .before .args in
-    let p = past-some (now (a .text)) (c .before .before .before .before .loop .i) in
+    let p = sign-width-some (now (a .text)) (c .before .before .before .before .loop .i) in
     let e = c .sign-end .ensures in
     omega arith
 

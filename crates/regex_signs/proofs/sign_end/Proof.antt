@@ -3,7 +3,7 @@ use native.Mathlib.Omega.{arith}
 use denote.Ref.{now}
 use Prim.Native.Nat.{_+_}
 use mathlib.Core.Path.{sym, ap, _∙_}
-use Rattle.regex_signs.specs.SignsLaws.{opens-within, name-within, past-class, past-byte}
+use Rattle.regex_signs.specs.SignsLaws.{opens-within, name-within, sign-width-class, sign-width-byte}
 use borrow.Author.Needs.{needs}
 use Rattle.regex_signs.proofs.sign_end.Statement.{statement}
 use Rattle.regex_signs.proofs.sign_end.Tie as tie
@@ -28,7 +28,7 @@ add-result c =
 returns : tie.Need-returns
 returns c =
     let a = c .before .before .before .before .args in
-    ap (λ e. e + 2) (c .name-end .ensures) ∙ past-class (now (a .text)) (a .at) (sym (c .before .before .begins-class .ensures) ∙ c .before .if1 .taken)
+    ap (λ e. e + 2) (c .name-end .ensures) ∙ sign-width-class (now (a .text)) (a .at) (sym (c .before .before .begins-class .ensures) ∙ c .before .if1 .taken)
 
 add-result-2 : tie.Need-add-result-2
 add-result-2 c = search needs
@@ -36,7 +36,7 @@ add-result-2 c = search needs
 returns-2 : tie.Need-returns-2
 returns-2 c =
     let a = c .before .before .before .args in
-    past-byte (now (a .text)) (a .at) (sym (c .before .begins-class .ensures) ∙ c .if1 .left)
+    sign-width-byte (now (a .text)) (a .at) (sym (c .before .begins-class .ensures) ∙ c .if1 .left)
 
 pub sign-end-spec : {M : Type 1} → statement M
 sign-end-spec =
