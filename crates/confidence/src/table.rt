@@ -1,7 +1,7 @@
 // The cost of each confidence c, 0 to 255; from 1 on it is the largest whole n with 2^n * c^8 <= 2^64.
 // Printed by the program confidence_table.
 pub const COSTS: [u32; 256] = [
-    72, // 0
+    4294967295, // 0
     64, // 1
     56, // 2
     51, // 3

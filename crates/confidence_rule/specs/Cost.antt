@@ -1,7 +1,8 @@
--- The cost of a confidence byte (document 01, "Confidences and the sheet program").
+-- The cost of a confidence byte (document 01, "Confidences and the sheet program"; document 02, T-06).
 use Prim.Native.Nat.{ℕ, zero, suc, _*_, _^_}
 use mathlib.Core.Bool.{Bool, true, false}
 use lib.Dec.{leb, eqb}
+use Rattle.matrix.specs.Matrix.{BARRED}
 
 abbrev pub either : Bool → ℕ → ℕ → ℕ
 either true a b = a
@@ -20,6 +21,6 @@ within p n = leb (2 ^ n * p) (2 ^ 64)
 unfoldable pub shift : ℕ → ℕ
 shift p = largest (within p) 64
 
--- for a confidence c from 1 to 255 the largest whole n with 2ⁿ × c⁸ ≤ 2⁶⁴; for 0 it is 72
+-- for a confidence c from 1 to 255 the largest whole n with 2ⁿ × c⁸ ≤ 2⁶⁴; for 0 the cost of a barred label
 unfoldable pub cost-of : ℕ → ℕ
-cost-of c = either (eqb c 0) 72 (shift (c ^ 8))
+cost-of c = either (eqb c 0) BARRED (shift (c ^ 8))

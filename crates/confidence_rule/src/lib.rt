@@ -1,5 +1,6 @@
 // The cost of a confidence byte, computed by the eighth-power rule (document 01, "Confidences and the sheet program"). The program
 // `confidence_table` computes the table of costs by this crate.
+use matrix::BARRED;
 ghost use mathlib.Core.Path.{_≡_};
 ghost use Prim.Native.Nat.{_*_, _^_, _≤_};
 ghost use Rattle.confidence_rule.specs.Cost.{shift, cost-of};
@@ -40,7 +41,7 @@ pub fn cost(c: u8) -> u32
     ensures { λ r. ⌜ r ≡ cost-of c ⌝ }
 {
     if c == 0 {
-        return 72;
+        return BARRED;
     }
     largest_shift(eighth_power(c))
 }

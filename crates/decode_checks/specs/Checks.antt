@@ -8,7 +8,7 @@ use Rattle.lists.specs.Each.{all}
 use Rattle.refusal.specs.declared.Refusal.the-variants.{BadForm, Matrix as MatrixRefusal, Cost, OutputMemory, Work}
 use Rattle.refusal.specs.Verdict.{Check, check}
 use Rattle.automaton.specs.Form.{validForm, lettersOf, alphabetOf}
-use Rattle.matrix.specs.Matrix.{Matrix}
+use Rattle.matrix.specs.Matrix.{Matrix, BARRED}
 
 -- the lengths of the lent lists
 pub record Rooms : Type 0 where
@@ -24,9 +24,9 @@ needed t l = (t + 1) * (2 * l + 1)
 abbrev pub matrix-fault : ℕ → Matrix → Bool
 matrix-fault k M = ltb 255 (M .count) || (not (eqb (M .width) (k + 1)) || not (eqb (length (M .costs)) (M .count * M .width)))
 
--- the cost is at most 1,000,000
+-- the cost is at most 1,000,000, or it is that of a barred label
 abbrev pub passes : ℕ → Bool
-passes c = leb c 1000000
+passes c = leb c 1000000 || eqb c BARRED
 
 -- refusals 12 to 15, for a form of l letters over k characters
 abbrev pub matrix-checks : (k l : ℕ) → Matrix → Rooms → List Check

@@ -40,8 +40,12 @@ record Examples : Type 0 where
   short-word : said three 3 3 3 2 20 ≡ Refused OutputMemory
   short-path : said three 3 3 2 3 20 ≡ Refused OutputMemory
   no-column : said [] 3 0 0 0 5 ≡ Passed
-  -- "Cost 1,000,000 passes, 1,000,001 is 13."
-  costs : map (λ c. said (column c) 3 1 1 1 10) (0 ∷ 1000000 ∷ 1000001 ∷ []) ≡ Passed ∷ Passed ∷ Refused Cost ∷ []
+  -- "Cost 1,000,000 passes, 1,000,001 is 13." "Refusal 13 spares that one number": 4,294,967,295
+  costs :
+      map (λ c. said (column c) 3 1 1 1 10) (0 ∷ 1000000 ∷ 1000001 ∷ 4294967294 ∷ 4294967295 ∷ [])
+      ≡ Passed ∷ Passed ∷ Refused Cost ∷ Refused Cost ∷ Passed ∷ []
+  -- a barred label does not hide another cost
+  beside-barred : said (5 ∷ 4294967295 ∷ 1000001 ∷ []) 3 1 1 1 10 ≡ Refused Cost
   -- 255 columns, and one more
   columns : map (λ t. said (replicate (t * 3) 1) 3 t t t 2000) (255 ∷ 256 ∷ []) ≡ Passed ∷ Refused MatrixRefusal ∷ []
   -- a width of K and of K + 2, also without a column; a list too short, and too long
@@ -69,6 +73,7 @@ examples = record {
   short-path = refl;
   no-column = refl;
   costs = refl;
+  beside-barred = refl;
   columns = refl;
   widths = refl;
   lengths = refl;

@@ -1,5 +1,6 @@
 // The checks of the matrix and of the lent memory that Decode and Read make, in their order (document 01, "What is turned away",
 // refusals 12 to 15).
+use matrix::BARRED;
 use refusal::Checked;
 use refusal::Refusal;
 ghost use mathlib.Core.Path.{_≡_};
@@ -10,14 +11,15 @@ ghost use Rattle.refusal.specs.Verdict.{first-refusal};
 ghost use Rattle.matrix.specs.Matrix.{matrix};
 ghost use Rattle.decode_checks.specs.Checks.{passes, matrix-fault, matrix-checks};
 
-// Is no cost over 1,000,000? One pass without an early exit, so that several costs can be compared at once.
+// Is each cost at most 1,000,000, or that of a barred label? One pass without an early exit, so that several costs can be compared at once.
 fn all_pass(costs: &[u32]) -> bool
     ensures { λ r. ⌜ r ≡ all passes (old costs) ⌝ }
 {
     let mut pass = true;
     let mut i: usize = 0;
     while i < costs.len() {
-        pass = pass & (costs[i] <= 1000000);
+        let c = costs[i];
+        pass = pass & ((c <= 1000000) | (c == BARRED));
         i += 1;
     }
     pass

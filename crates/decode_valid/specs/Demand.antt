@@ -1,10 +1,9 @@
--- What demand 3 asks of Decode and Read past their checks, for any set of words.
+-- What demand 3 asks of Decode and Read past their checks, for any set of words. What it calls a rival is `Plain-rival` (outcome/Plain).
 use Prim.Native.Nat.{ℕ, _≤_}
 use mathlib.Core.Path.{_≡_}
 use mathlib.Core.Logic.{_⊎_}
 use mathlib.Core.List.{List}
 use lib.ListN.{length}
-use Rattle.lists.specs.Each.{Each}
 use Rattle.lists.specs.Memory.{written}
 use Rattle.refusal.specs.declared.Refusal.the-variants.{NoReading}
 use Rattle.refusal.specs.Report.{Report, turned-away}
@@ -12,13 +11,8 @@ use Rattle.answers.specs.Decoded.{read}
 use Rattle.ctc.specs.Collapse.{collapse}
 use Rattle.matrix.specs.Matrix.{Matrix, price}
 use Rattle.outcome.specs.Order.{NotAfter}
+use Rattle.outcome.specs.Plain.{Plain-rival}
 use Rattle.decode_valid.specs.Lent.{Lent}
-
--- what demand 3 calls a rival: a list of labels, one for each column, each 0 to k, whose collapse is a word
-pub record Plain-rival (Word : List ℕ → Type 0) (k : ℕ) (M : Matrix) (p : List ℕ) : Type 0 where
-  pub one-each : length p ≡ M .count
-  pub labels : Each (λ x. x ≤ k) p
-  pub word : Word (collapse p)
 
 abbrev pub No-rival : (Word : List ℕ → Type 0) (k : ℕ) → Matrix → Type 0
 No-rival Word k M = (q : List ℕ) → Plain-rival Word k M q → ⊥

@@ -1,15 +1,13 @@
 -- Laws: past the checks, `Answers` says what demands 1 and 3 ask, and nothing else. Past the checks with memory enough means that none of
 -- refusals 12 to 15 applies.
-use Prim.Native.Nat.{ℕ, _+_, _<_, _≤_}
+use Prim.Native.Nat.{ℕ, _≤_}
 use mathlib.Core.Path.{_≡_, sym, ap, _∙_}
 use mathlib.Core.Logic.{inl, inr, _↔_}
 use mathlib.Core.Option.{Option, some, none}
-use mathlib.Core.List.{List, [], _∷_}
+use mathlib.Core.List.{List}
 use native.Mathlib.Omega.{arith}
 use lib.ListN.{length, drop}
 use lib.Seq.{drop-at}
-use Rattle.lists.specs.EachLaws.{each-map}
-use Rattle.lists.specs.Each.{Each}
 use Rattle.lists.specs.WrittenLaws.{written-none, length-written}
 use Rattle.lists.specs.Memory.{written}
 use Rattle.refusal.specs.declared.Checked.the-variants.{Passed}
@@ -19,33 +17,22 @@ use Rattle.answers.specs.Decoded.{read}
 use Rattle.ctc.specs.Collapse.{collapse}
 use Rattle.ctc.specs.CollapseLaws.{collapse-shorter}
 use Rattle.matrix.specs.Matrix.{Matrix, price}
-use Rattle.matrix.specs.Paths.{PathFrom}
 use Rattle.outcome.specs.Outcome.{Rival, OutcomeOf}
-use Rattle.outcome.specs.OutcomeLaws.{outcome-of-same, passing-rival}
+use Rattle.outcome.specs.Plain.{Plain-rival}
+use Rattle.outcome.specs.OutcomeLaws.{outcome-of-same, plain-exactly}
 use Rattle.decode_checks.specs.Checks.{Rooms, matrix-checks}
 use Rattle.decode_checks.specs.PassingLaws.{fits}
 use Rattle.decode_valid.specs.Answers.{outcome-report, path-of, word-of, Answers}
 use Rattle.decode_valid.specs.Lent.{Lent, rooms}
-use Rattle.decode_valid.specs.Demand.{Plain-rival, No-rival, Best-or-none}
+use Rattle.decode_valid.specs.Demand.{No-rival, Best-or-none}
 use Rattle.decode_valid.specs.Kept.{Kept-from, Kept}
 
--- Past the checks every cost is usable, and a column has one for each label 0 to k. So a list is what demand 3 calls a rival
--- exactly if it is a `Rival`.
-module _ (k l : ℕ) (M : Matrix) (room : Rooms) (passes : first-refusal (matrix-checks k l M room) ≡ Passed) where
-  wide : M .width ≡ k + 1
-  wide = fits k l M room passes .wide
-
-  low : (t : ℕ) (p : List ℕ) → PathFrom M t p → Each (λ x. x ≤ k) p
-  low t [] h = tt
-  low t (x ∷ p) h = (let w = wide in let b = h .0 in omega arith, low (t + 1) p (h .2))
-
-  pub plain-is-rival : (Word : List ℕ → Type 0) (p : List ℕ) → Plain-rival Word k M p ↔ Rival Word M p
-  plain-is-rival Word p = (
-    λ r.
-        passing-rival M (fits k l M room passes .pass) Word p (r .one-each)
-        (each-map (λ x. x ≤ k) (λ x. x < M .width) (λ x h. let w = wide in omega arith) p (r .labels)) (r .word),
-    λ r. record { one-each = r .path .one-each; labels = low 0 p (r .path .labels); word = r .word },
-  )
+-- Past the checks every cost is usable or that of a barred label, and a column has one for each label 0 to k. So a list is what demand 3
+-- calls a rival exactly if it is a `Rival`.
+pub plain-is-rival :
+    (k l : ℕ) (M : Matrix) (room : Rooms) → first-refusal (matrix-checks k l M room) ≡ Passed
+    → (Word : List ℕ → Type 0) (p : List ℕ) → Plain-rival Word k M p ↔ Rival Word M p
+plain-is-rival k l M room passes Word p = let fit = fits k l M room passes in plain-exactly Word k M (fit .wide) p (fit .pass)
 
 kept-same : (n : ℕ) {before after : List ℕ} → after ≡ before → Kept-from n before after
 kept-same n e = record { rest = ap (drop n) e; size = ap length e }

@@ -1,16 +1,21 @@
--- Costs, prices and paths on document 01's first line to try, the dearest cost that is usable, and the fields of a view.
+-- Costs, prices and paths on document 01's first line to try, the dearest cost that is usable, a barred label, and the fields of a view.
 use mathlib.Core.Path.{_≡_, refl}
 use mathlib.Core.List.{[], _∷_}
+use mathlib.Core.Logic.{inl, inr}
 use native.Mathlib.Omega.{arith}
 use denote.Ref.{now}
-use Rattle.matrix.specs.Matrix.{Matrix, matrix, cost, price}
-use Rattle.matrix.specs.Paths.{Usable, PathOf}
+use Rattle.matrix.specs.Matrix.{Matrix, matrix, BARRED, cost, price}
+use Rattle.matrix.specs.Paths.{Usable, PathOf, Passing, Unbarred}
 use Rattle.matrix.specs.View.{value}
 use Rattle.matrix.specs.declared.Matrix.{Matrix as View}
 
 -- two columns, each with the costs of blank, a and b
 abbrev two : Matrix
 two = matrix (5 ∷ 1 ∷ 9 ∷ 6 ∷ 8 ∷ 2 ∷ []) 3 2
+
+-- two columns: in the first the blank is barred, in the second b
+abbrev barred : Matrix
+barred = matrix (4294967295 ∷ 1 ∷ 9 ∷ 6 ∷ 8 ∷ 4294967295 ∷ []) 3 2
 
 record Examples : Type 0 where
   first-column : cost two 0 2 ≡ 9
@@ -24,6 +29,14 @@ record Examples : Type 0 where
   dearest : Usable 1000000
   too-dear : Usable 1000001 → ⊥
   free : Usable 0
+  -- "Cost 4,294,967,295 now means a barred label", and of the numbers above 1,000,000 refusal 13 spares that one
+  mark : cost barred 1 2 ≡ BARRED
+  spared : Passing 4294967295
+  others : (Passing 1000001 → ⊥) × (Passing 4294967294 → ⊥) × (Passing 4294967296 → ⊥)
+  -- "A list that uses a barred label is no rival": labels are barred in their column only
+  used : (Unbarred barred (0 ∷ 0 ∷ []) → ⊥) × (Unbarred barred (1 ∷ 2 ∷ []) → ⊥)
+  no-path : PathOf barred (0 ∷ 0 ∷ []) → ⊥
+  unused : Unbarred barred (2 ∷ 0 ∷ []) × PathOf barred (2 ∷ 0 ∷ []) × (price barred (2 ∷ 0 ∷ []) ≡ 15)
   -- "its costs, its column width and its column count": each is the field of that name
   by-name : (v : View) → (value v .costs ≡ now (v .costs)) × (value v .width ≡ v .width) × (value v .count ≡ v .count)
 
@@ -38,5 +51,19 @@ examples = record {
   dearest = omega arith;
   too-dear = λ h. omega arith;
   free = omega arith;
+  mark = refl;
+  spared = inr refl;
+  others = (
+    elim [ inl h ↦ omega arith | inr e ↦ omega arith ],
+    elim [ inl h ↦ omega arith | inr e ↦ omega arith ],
+    elim [ inl h ↦ omega arith | inr e ↦ omega arith ],
+  );
+  used = (λ u. u .0 refl, λ u. u .1 .0 refl);
+  no-path = λ h. let u = h .labels .1 in omega arith;
+  unused = (
+    (λ e. omega arith, (λ e. omega arith, tt)),
+    record { one-each = refl; labels = (omega arith, omega arith, (omega arith, omega arith, tt)) },
+    refl,
+  );
   by-name = λ v. (refl, refl, refl);
 }

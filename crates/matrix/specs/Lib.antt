@@ -1,5 +1,6 @@
 pub mod Matrix
 pub mod Paths
+pub mod PathsLaws
 pub mod MatrixLaws
 pub mod View
 pub mod Examples

@@ -12,6 +12,10 @@ pub record Matrix : Type 0 where
 abbrev pub matrix : (costs : List ℕ) (width count : ℕ) → Matrix
 matrix costs width count = record { costs = costs; width = width; count = count }
 
+-- the cost of a barred label, which no path may use (document 02, T-06)
+abbrev pub BARRED : ℕ
+BARRED = 4294967295
+
 -- the cost of label x in column t
 abbrev pub cost : Matrix → ℕ → ℕ → ℕ
 cost M t x = getD (M .costs) (t * M .width + x) 0

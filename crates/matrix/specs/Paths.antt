@@ -2,9 +2,10 @@
 use Prim.Native.Nat.{ℕ, _+_, _≤_, _<_}
 use mathlib.Core.Path.{_≡_}
 use mathlib.Core.List.{List, [], _∷_}
+use mathlib.Core.Logic.{_⊎_}
 use lib.ListN.{length}
 use Rattle.lists.specs.Each.{Each}
-use Rattle.matrix.specs.Matrix.{Matrix, cost}
+use Rattle.matrix.specs.Matrix.{Matrix, BARRED, cost}
 
 -- a cost that a path may use
 abbrev pub Usable : ℕ → Type 0
@@ -20,6 +21,22 @@ pub record PathOf (M : Matrix) (p : List ℕ) : Type 0 where
   pub one-each : length p ≡ M .count
   pub labels : PathFrom M 0 p
 
+-- a cost that refusal 13 lets through: a usable one, or that of a barred label
+abbrev pub Passing : ℕ → Type 0
+Passing c = Usable c ⊎ (c ≡ BARRED)
+
 -- refusal 13 turns away no cost of the matrix
 abbrev pub CostsPass : Matrix → Type 0
-CostsPass M = Each Usable (M .costs)
+CostsPass M = Each Passing (M .costs)
+
+-- no label of the list is barred in its column, where the first label is in column t
+abbrev pub UnbarredFrom : Matrix → ℕ → List ℕ → Type 0
+UnbarredFrom M t [] = Unit {0}
+UnbarredFrom M t (x ∷ p) = (cost M t x ≡ BARRED → ⊥) × UnbarredFrom M (t + 1) p
+
+abbrev pub Unbarred : Matrix → List ℕ → Type 0
+Unbarred M p = UnbarredFrom M 0 p
+
+-- no label is barred in any column
+abbrev pub NoneBarred : Matrix → Type 0
+NoneBarred M = Each (λ c. c ≡ BARRED → ⊥) (M .costs)

@@ -4,6 +4,9 @@ ghost use Rattle.lists.specs.Memory.{old};
 ghost use Rattle.matrix.specs.Matrix.{matrix};
 ghost use Rattle.matrix.specs.View.{value};
 
+// The cost of a barred label, `BARRED` of specs/Matrix.
+pub const BARRED: u32 = 4294967295;
+
 // Its costs, one column after another; its column width; its column count.
 pub struct Matrix<'a> {
     pub costs: &'a [u32],

@@ -12,7 +12,7 @@ use borrow.Author.Tests.{leb-true, le-leb}
 use Rattle.lists.specs.OrderLaws.{eq-or-ne, and-left, and-right, and-both}
 use Rattle.lists.specs.Each.{Each}
 use Rattle.ctc.specs.Collapse.{merge, without-blanks, collapse}
-use Rattle.matrix.specs.Matrix.{Matrix, cost, price}
+use Rattle.matrix.specs.Matrix.{Matrix, matrix, cost, price}
 use Rattle.matrix.specs.Paths.{PathFrom}
 use Rattle.outcome.specs.Outcome.{OutcomeOf, Outcome}
 use Rattle.outcome.specs.OutcomeLaws.{outcome-of-same}
@@ -174,7 +174,7 @@ module _ (M : Matrix) where
 
 -- document 01's line to try: `aa` over three columns of 5, 1, 9
 three : Matrix
-three = record { costs = 5 ∷ 1 ∷ 9 ∷ 5 ∷ 1 ∷ 9 ∷ 5 ∷ 1 ∷ 9 ∷ []; width = 3; count = 3 }
+three = matrix (5 ∷ 1 ∷ 9 ∷ 5 ∷ 1 ∷ 9 ∷ 5 ∷ 1 ∷ 9 ∷ []) 3 3
 
 is-aa : List ℕ → Bool
 is-aa [] = false
@@ -185,3 +185,13 @@ is-aa (x ∷ (y ∷ (z ∷ w))) = false
 example : decided three is-aa ≡ some (1 ∷ 0 ∷ 1 ∷ [])
 unfolding three is-aa decided exhaustive over better preferred not-after usable collapse merge without-blanks
 example = refl
+
+-- the blank barred in the second column: no list is left, although three columns are enough
+example-barred : decided (matrix (5 ∷ 1 ∷ 9 ∷ 4294967295 ∷ 1 ∷ 9 ∷ 5 ∷ 1 ∷ 9 ∷ []) 3 3) is-aa ≡ none
+unfolding is-aa decided exhaustive over better preferred not-after usable collapse merge without-blanks
+example-barred = refl
+
+-- the same blank barred in the other columns: they are not on the path
+example-unused : decided (matrix (4294967295 ∷ 1 ∷ 9 ∷ 5 ∷ 1 ∷ 9 ∷ 4294967295 ∷ 1 ∷ 9 ∷ []) 3 3) is-aa ≡ some (1 ∷ 0 ∷ 1 ∷ [])
+unfolding is-aa decided exhaustive over better preferred not-after usable collapse merge without-blanks
+example-unused = refl

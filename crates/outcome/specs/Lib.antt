@@ -3,6 +3,7 @@ pub mod BestLaws
 pub mod Order
 pub mod OrderLaws
 pub mod Outcome
+pub mod Plain
 pub mod OutcomeLaws
 pub mod ChoiceLaws
 pub mod Exhaustive

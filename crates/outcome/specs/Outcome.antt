@@ -8,7 +8,7 @@ use Rattle.matrix.specs.Matrix.{Matrix, price}
 use Rattle.matrix.specs.Paths.{PathOf}
 use Rattle.outcome.specs.Order.{NotAfter}
 
--- a path whose collapse is a word
+-- a path whose collapse is a word; `Plain-rival` (outcome/Plain) says it in the words of demand 3
 pub record Rival (Word : List ℕ → Type 0) (M : Matrix) (p : List ℕ) : Type 0 where
   pub path : PathOf M p
   pub word : Word (collapse p)

@@ -1,17 +1,21 @@
--- There is one outcome, and it depends only on the words; past the checks every cost is usable.
-use Prim.Native.Nat.{ℕ, _+_, _<_}
+-- There is one outcome, and it depends only on the words; past refusal 13 a rival is exactly what demand 3 says.
+use Prim.Native.Nat.{ℕ, _+_, _≤_, _<_}
 use mathlib.Core.Path.{_≡_, refl, ap}
 use mathlib.Core.Option.{Option, some, none}
-use mathlib.Core.List.{List, [], _∷_}
+use mathlib.Core.List.{List}
+use mathlib.Core.Logic.{_↔_}
+use native.Mathlib.Omega.{arith}
 use lib.ListN.{length}
 use Rattle.ctc.specs.Collapse.{collapse}
 use Rattle.outcome.specs.BestLaws.{best-same, best-unique}
 use Rattle.lists.specs.Each.{Each}
+use Rattle.lists.specs.EachLaws.{each-map}
 use Rattle.matrix.specs.Matrix.{Matrix, price}
-use Rattle.matrix.specs.Paths.{PathFrom, CostsPass}
-use Rattle.matrix.specs.MatrixLaws.{cost-passes}
+use Rattle.matrix.specs.Paths.{CostsPass, NoneBarred}
+use Rattle.matrix.specs.PathsLaws.{none-barred, path-labels, path-unbarred, unbarred-path}
 use Rattle.outcome.specs.OrderLaws.{order-antisymmetric}
 use Rattle.outcome.specs.Outcome.{Rival, OutcomeOf, Outcome}
+use Rattle.outcome.specs.Plain.{Plain-rival}
 
 -- the outcome depends only on what qualifies
 pub outcome-of-same :
@@ -36,12 +40,28 @@ module _ (M : Matrix) where
       → (a : Option (List ℕ)) → Outcome Word₁ M a → Outcome Word₂ M a
   outcome-same Word₁ Word₂ to from a h = outcome-of-same (price M) (rival-same Word₁ Word₂ to) (rival-same Word₂ Word₁ from) a h
 
--- Past check 13 a rival is exactly what demand 3 says: one label of the matrix for each column, with a word as its collapse.
-module _ (M : Matrix) (pass : CostsPass M) where
-  pub passing-path : (t : ℕ) (p : List ℕ) → Each (λ x. x < M .width) p → PathFrom M t p
-  passing-path t [] h = tt
-  passing-path t (x ∷ p) h = (h .0, cost-passes M pass t x, passing-path (t + 1) p (h .1))
+-- A rival is what demand 3 says (`Plain-rival`), whatever the costs are; past refusals 12 and 13 nothing else is asked of it.
+module _ (Word : List ℕ → Type 0) (k : ℕ) (M : Matrix) (wide : M .width ≡ k + 1) (p : List ℕ) where
+  pub rival-plain : Rival Word M p → Plain-rival Word k M p
+  rival-plain r =
+      let path = r .path .labels in
+      record {
+        one-each = r .path .one-each;
+        labels = each-map (λ x. x < M .width) (λ x. x ≤ k) (λ x h. omega arith) p (path-labels M 0 p path);
+        unbarred = path-unbarred M 0 p path;
+        word = r .word;
+      }
 
-  pub passing-rival :
-      (Word : List ℕ → Type 0) (p : List ℕ) → length p ≡ M .count → Each (λ x. x < M .width) p → Word (collapse p) → Rival Word M p
-  passing-rival Word p l h w = record { path = record { one-each = l; labels = passing-path 0 p h }; word = w }
+  pub plain-exactly : CostsPass M → Plain-rival Word k M p ↔ Rival Word M p
+  plain-exactly pass = (
+    λ h.
+        let labels = each-map (λ x. x ≤ k) (λ x. x < M .width) (λ x l. omega arith) p (h .labels) in
+        record { path = record { one-each = h .one-each; labels = unbarred-path M pass 0 p labels (h .unbarred) }; word = h .word },
+    rival-plain,
+  )
+
+-- where no label is barred: one label of the matrix for each column, with a word as its collapse
+pub passing-rival :
+    (M : Matrix) → CostsPass M → NoneBarred M → (Word : List ℕ → Type 0) (p : List ℕ) → length p ≡ M .count → Each (λ x. x < M .width) p
+    → Word (collapse p) → Rival Word M p
+passing-rival M pass free Word p l h w = record { path = record { one-each = l; labels = unbarred-path M pass 0 p h (none-barred M free 0 p) }; word = w }

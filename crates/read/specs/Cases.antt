@@ -1,5 +1,5 @@
--- Document 01's lines to try that are marked P, as one checked list: each case is data, one test is computed over all of them from the
--- definitions, and one law turns the test into the statement.
+-- Document 01's lines to try that are marked P, and two lines with barred labels (document 02, T-06), as one checked list: each case is data,
+-- one test is computed over all of them from the definitions, and one law turns the test into the statement.
 use Prim.Native.Nat.{ℕ, _+_}
 use Prim.Native.String.{String}
 use mathlib.Core.Path.{_≡_, refl, ap, subst}
@@ -194,6 +194,8 @@ cases =
     ∷ reads "ab" "a{2}" (1 ∷ 0 ∷ 9 ∷ 1 ∷ 0 ∷ 9 ∷ 1 ∷ 0 ∷ 9 ∷ 1 ∷ 0 ∷ 9 ∷ []) 4 4 (1 ∷ 0 ∷ 1 ∷ 1 ∷ []) 1 "aa"
     ∷ reads "ab" "(a|b)*" (3 ∷ 1 ∷ 1 ∷ 3 ∷ 1 ∷ 1 ∷ []) 2 7 (1 ∷ 1 ∷ []) 2 "a"
     ∷ compiles "ab" "ab*" (0x10020002 ∷ 0x20000301 ∷ 0x20000202 ∷ 0x30000102 ∷ 0x30000202 ∷ [])
+    ∷ refuses "ab" "aa" (5 ∷ 1 ∷ 9 ∷ 4294967295 ∷ 1 ∷ 9 ∷ 5 ∷ 1 ∷ 9 ∷ []) 3 4 16
+    ∷ reads "ab" "a" (4294967295 ∷ 7 ∷ 0 ∷ 0 ∷ 2 ∷ 0 ∷ []) 2 2 (1 ∷ 0 ∷ []) 7 "a"
     ∷ []
 
 -- every case holds

@@ -22,10 +22,11 @@ use Rattle.regex.specs.Grammar.{WordsOf}
 use Rattle.compile.specs.Call.{compile-call}
 use Rattle.compile.specs.Meaning.{compiled-means}
 use Rattle.compile.specs.Means.{Means}
+use Rattle.outcome.specs.Plain.{Plain-rival}
 use Rattle.decode_checks.specs.Checks.{needed, matrix-checks}
 use Rattle.decode_valid.specs.Answers.{Answers}
 use Rattle.decode_valid.specs.Lent.{Lent, rooms}
-use Rattle.decode_valid.specs.Demand.{Plain-rival, No-rival, Best-or-none}
+use Rattle.decode_valid.specs.Demand.{No-rival, Best-or-none}
 use Rattle.decode_valid.specs.Kept.{Kept}
 use Rattle.decode_valid.specs.DemandLaws.{answers-as-demanded, none-exactly, rival-reads}
 use Rattle.read_spelling.specs.Spelling.{characters}

@@ -17,17 +17,13 @@ use Rattle.ctc.specs.CollapseLaws.{collapse-each, collapse-letters, collapse-sh
 use Rattle.automaton.specs.Automaton.{Accepts}
 use Rattle.automaton.specs.Form.{view}
 use Rattle.matrix.specs.Matrix.{Matrix, price}
-use Rattle.matrix.specs.Paths.{PathFrom}
+use Rattle.matrix.specs.PathsLaws.{path-labels}
 use Rattle.outcome.specs.Outcome.{Best, Outcome}
 use Rattle.decode_valid.specs.Answers.{outcome-report, path-of, word-of, labels, DecodeAnswers}
 use Rattle.decode_valid.specs.Lent.{Lent}
 use Rattle.read_spelling.specs.Spelling.{characters}
 use Rattle.read_spelling.specs.InPlace.{Labels, Spelt}
 use Rattle.read_valid.specs.Accepted.{ReadsAccepted}
-
-path-each : (M : Matrix) (t : ℕ) (p : List ℕ) → PathFrom M t p → Each (λ x. x < M .width) p
-path-each M t [] h = tt
-path-each M t (x ∷ p) h = (h .0, path-each M (t + 1) p (h .2))
 
 each-both : (P Q R : ℕ → Type 0) → ((x : ℕ) → P x → Q x → R x) → (w : List ℕ) → Each P w → Each Q w → Each R w
 each-both P Q R f [] h g = tt
@@ -86,7 +82,7 @@ module _ (f : List ℕ) (M : Matrix) (before after : Lent) where
             each =
                 rw (ap (take n) (r .word) ∙ take-written (collapse (r .best)) (before .word) n l)
                 (each-both (λ x. 0 < x) (λ x. x < M .width) (λ x. (1 ≤ x) × (x ≤ length A)) (λ x g h. (omega arith, omega arith)) (collapse (r .best))
-                (collapse-letters (r .best)) (collapse-each (λ x. x < M .width) (r .best) (path-each M 0 (r .best) (r .is .qualifies .path .labels))));
+                (collapse-letters (r .best)) (collapse-each (λ x. x < M .width) (r .best) (path-labels M 0 (r .best) (r .is .qualifies .path .labels))));
           }
 
       -- with the word written as characters, this is Read's answer

@@ -24,7 +24,7 @@ use Rattle.positions.specs.Numbered.{numbered, positionAutomaton}
 use Rattle.alphabet.specs.Alphabet.{distinct}
 use Rattle.compile.specs.Call.{compile-call}
 use Rattle.read.specs.Cases.{cases, cases-stated}
-use Rattle.sheet_format.specs.Sheet.{onto, pieces, both, every, closed, costOf, columnOf, laid, sheetFrom, sheetOf}
+use Rattle.sheet_format.specs.Sheet.{onto, pieces, both, every, closed, numeralOf, costOf, columnOf, laid, sheetFrom, sheetOf}
 use Rattle.sheet_decimal.specs.Numerals.{digits, decimal}
 use Rattle.sheet_path.specs.Labels.{following, spaced}
 use Rattle.sheet_read.specs.Promise.{Answers}
@@ -34,7 +34,7 @@ use Rattle.sheet_answer.specs.AnswerLaws.{prints-unique}
 
 -- "Input in full" and "Output in full"
 pub document-prints : Prints (bytes "ab\naa\n5 1 9\n5 1 9\n5 1 9\n") (bytes "7\naa\n1 0 1\n")
-unfolding cases onto pieces both every closed costOf columnOf flatten laid sheetFrom sheetOf provided digits decimal following spaced flatMap collapse merge without-blanks first-refusal compile-call distinct if-passed unless all any keep numbers encode labelsOf letterCount then first-of split enclosed closes reserved items members ranges-of class-ranges look-up classes known inside bracket escaped a-set labelled-set number from-on from-to comma counts sign repetition grouped step go parse whole expressionOf anyOf copies nested repeated opened labels numbered positionAutomaton
+unfolding cases onto pieces both every closed costOf numeralOf columnOf flatten laid sheetFrom sheetOf provided digits decimal following spaced flatMap collapse merge without-blanks first-refusal compile-call distinct if-passed unless all any keep numbers encode labelsOf letterCount then first-of split enclosed closes reserved items members ranges-of class-ranges look-up classes known inside bracket escaped a-set labelled-set number from-on from-to comma counts sign repetition grouped step go parse whole expressionOf anyOf copies nested repeated opened labels numbered positionAutomaton
 document-prints = record { outcome = some (1 ∷ 0 ∷ 1 ∷ []); is = cases-stated .1 .0 .0; lines = refl }
 
 -- the program's output: the first bytes of its memory
@@ -44,7 +44,8 @@ document-written out out′ n a =
     prints-unique (bytes "ab\naa\n5 1 9\n5 1 9\n5 1 9\n") (take n out′) (bytes "7\naa\n1 0 1\n")
     (answers-printed (Prints (bytes "ab\naa\n5 1 9\n5 1 9\n5 1 9\n")) out out′ n a .0) document-prints
 
--- two columns that differ; no column: three lines, two of them empty; two columns are too few for `aa`; 18 before 1; 8; 12 before 13; 19
+-- two columns that differ; no column: three lines, two of them empty; two columns are too few for `aa`; 18 before 1; 8; 12 before 13; 19;
+-- three columns are enough for `aa`, but the blank is barred between them; a barred blank that is not on the path
 pub others-print :
     Prints (bytes "ab\nab\n5 1 9\n5 9 2\n") (bytes "3\nab\n1 2\n")
     × Prints (bytes "ab\na*\n") (bytes "0\n\n\n")
@@ -53,7 +54,9 @@ pub others-print :
     × Prints (bytes "ab\nc\n") (bytes "refused 8\n")
     × Prints (bytes "ab\na\n1000001 2\n") (bytes "refused 12\n")
     × Prints (bytes "ab\n[[:x:]]\n") (bytes "refused 19\n")
-unfolding cases onto pieces both every closed costOf columnOf flatten laid sheetFrom sheetOf provided digits decimal following spaced flatMap collapse merge without-blanks first-refusal compile-call distinct if-passed unless all any keep numbers encode labelsOf letterCount then first-of split enclosed closes reserved items members ranges-of class-ranges look-up classes known inside bracket escaped a-set labelled-set number from-on from-to comma counts sign repetition grouped step go parse whole expressionOf anyOf copies nested repeated opened labels numbered positionAutomaton
+    × Prints (bytes "ab\naa\n5 1 9\n- 1 9\n5 1 9\n") (bytes "refused 16\n")
+    × Prints (bytes "ab\na\n- 7 0\n0 2 0\n") (bytes "7\na\n1 0\n")
+unfolding cases onto pieces both every closed costOf numeralOf columnOf flatten laid sheetFrom sheetOf provided digits decimal following spaced flatMap collapse merge without-blanks first-refusal compile-call distinct if-passed unless all any keep numbers encode labelsOf letterCount then first-of split enclosed closes reserved items members ranges-of class-ranges look-up classes known inside bracket escaped a-set labelled-set number from-on from-to comma counts sign repetition grouped step go parse whole expressionOf anyOf copies nested repeated opened labels numbered positionAutomaton
 others-print = (
   record { outcome = some (1 ∷ 2 ∷ []); is = cases-stated .0 .0; lines = refl },
   record { outcome = some []; is = cases-stated .1 .1 .1 .0 .0; lines = refl },
@@ -62,4 +65,6 @@ others-print = (
   refl,
   refl,
   refl,
+  record { outcome = none; is = cases-stated .1 .1 .1 .1 .1 .1 .1 .1 .1 .1 .0 .0; lines = refl },
+  record { outcome = some (1 ∷ 0 ∷ []); is = cases-stated .1 .1 .1 .1 .1 .1 .1 .1 .1 .1 .1 .0 .0; lines = refl },
 )

@@ -18,8 +18,8 @@ use Rattle.lists.specs.Stored.{Stored}
 use Rattle.sheet_format.specs.Sheet.{both}
 use Rattle.sheet_format.specs.ColumnLinesLaws.{columnsIn-end, columnsIn-some, beside, put}
 use Rattle.sheet_format.specs.ColumnLines.{columnsIn}
-use Rattle.sheet_number.specs.Digits.{ReadCost}
-use Rattle.sheet_number.specs.DigitsLaws.{cost-begins}
+use Rattle.sheet_number.specs.Items.{ReadCost}
+use Rattle.sheet_number.specs.CostsLaws.{cost-begins}
 use Rattle.sheet_number.specs.declared.Cost.the-variants as cost
 use Rattle.sheet_columns.specs.RestsLaws.{cost-columns, no-column}
 use Rattle.sheet_columns.specs.declared.Column.{Column}

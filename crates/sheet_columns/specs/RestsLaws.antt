@@ -14,12 +14,14 @@ use borrow.Author.Tests.{eqb-true, eq-eqb}
 use Rattle.lists.specs.EachLaws.{drop-here}
 use Rattle.lists.specs.OrderLaws.{and-left, and-right, or-either, or-left, or-right}
 use Rattle.text.specs.Digits.{digits, digit}
+use Rattle.sheet_format.specs.Sheet.{costOf}
 use Rattle.sheet_format.specs.ColumnLinesLaws.{FirstCost, columnsIn-back, put, columnsIn-put}
 use Rattle.sheet_format.specs.ColumnLines.{Free, columnsIn}
 use Rattle.sheet_number.specs.Places.{part}
 use Rattle.sheet_number.specs.PlacesLaws.{part-rest}
-use Rattle.sheet_number.specs.Digits.{separator, CostAt, ReadCost}
-use Rattle.sheet_number.specs.DigitsLaws.{digit-range, cost-back, cost-begins}
+use Rattle.sheet_number.specs.Items.{separator, CostAt, ReadCost}
+use Rattle.sheet_number.specs.DigitsLaws.{digit-range, numeral-back}
+use Rattle.sheet_number.specs.CostsLaws.{cost-text, cost-begins}
 use Rattle.sheet_number.specs.declared.Cost.the-variants as cost
 
 digits-free : (c : ℕ) (p : List ℕ) → c < 48 → digits p ≡ true → Free c p
@@ -28,6 +30,10 @@ digits-free c (b ∷ p) l h = (
   (λ e. let r = digit-range b (and-left (digit b) (digits p) h) in omega arith),
   digits-free c p l (and-right (digit b) (digits p) h),
 )
+
+-- no byte of a cost is a separator
+cost-free : (c : ℕ) (p : List ℕ) (v : ℕ) → c < 45 → costOf p ≡ some v → Free c p
+cost-free c p v l h = ⊎-elim (λ e. rw e (λ q. omega arith, tt)) (λ n. digits-free c p (omega arith) (numeral-back p v n .are)) (cost-text p v h)
 
 separator-is : (b : ℕ) → separator b ≡ true → (b ≡ 32) ⊎ (b ≡ 10)
 separator-is b s = ⊎-elim (λ k. inl (eqb-true b 32 k)) (λ k. inr (eqb-true b 10 k)) (or-either (eqb b 32) (eqb b 10) s)
@@ -43,11 +49,10 @@ cost-columns input at v e h =
     let f = cost-begins input at e v h in
     let p = part at e input in
     let b = getD input e 0 in
-    let d = cost-back p v (h .is) .are in
     let s : drop at input ≡ p ++ (b ∷ drop (e + 1) input) =
     part-rest input at e (omega arith) ∙ ap (λ r. p ++ r) (drop-here 0 input e (h .within)) in
     ap columnsIn s
-    ∙ columnsIn-put p b (drop (e + 1) input) (digits-free 10 p (omega arith) d) (digits-free 32 p (omega arith) d) (separator-is b (h .ends))
+    ∙ columnsIn-put p b (drop (e + 1) input) (cost-free 10 p v (omega arith) (h .is)) (cost-free 32 p v (omega arith) (h .is)) (separator-is b (h .ends))
     ∙ ap (λ x. put x b (columnsIn (drop (e + 1) input))) (h .is)
 
 first-cost : (input : List ℕ) (at : ℕ) (f : FirstCost (drop at input)) → CostAt input at (at + length (f .text)) (f .cost)

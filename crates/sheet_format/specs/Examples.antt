@@ -8,7 +8,7 @@ use Rattle.lists.specs.Each.{all}
 use Rattle.text.specs.Bytes.{bytes}
 use Rattle.lists.specs.Cases.{provided}
 use Rattle.matrix.specs.Matrix.{matrix}
-use Rattle.sheet_format.specs.Sheet.{onto, pieces, both, every, closed, costOf, columnOf, Sheet, laid, sheetFrom, sheetOf, matrixOf}
+use Rattle.sheet_format.specs.Sheet.{onto, pieces, both, every, closed, numeralOf, costOf, columnOf, Sheet, laid, sheetFrom, sheetOf, matrixOf}
 
 three-pieces : pieces 10 (bytes "a\nb\n") ≡ bytes "a" ∷ (bytes "b" ∷ ([] ∷ []))
 unfolding pieces onto
@@ -22,7 +22,7 @@ document : Sheet
 document = record { alphabet = bytes "ab"; text = bytes "aa"; columns = column ∷ (column ∷ (column ∷ [])) }
 
 document-sheet : sheetOf (bytes "ab\naa\n5 1 9\n5 1 9\n5 1 9\n") ≡ some document
-unfolding document column sheetOf sheetFrom laid flatten columnOf costOf closed every both pieces onto provided all
+unfolding document column sheetOf sheetFrom laid flatten columnOf costOf numeralOf closed every both pieces onto provided all
 document-sheet = refl
 
 document-matrix : matrixOf document ≡ matrix (5 ∷ (1 ∷ (9 ∷ (5 ∷ (1 ∷ (9 ∷ (5 ∷ (1 ∷ (9 ∷ []))))))))) 3 3
@@ -34,19 +34,32 @@ two-columns : Sheet
 two-columns = record { alphabet = bytes "ab"; text = bytes "ab"; columns = (5 ∷ (1 ∷ (9 ∷ []))) ∷ ((5 ∷ (9 ∷ (2 ∷ []))) ∷ []) }
 
 two-columns-sheet : sheetOf (bytes "ab\nab\n5 1 9\n5 9 2\n") ≡ some two-columns
-unfolding two-columns sheetOf sheetFrom laid flatten columnOf costOf closed every both pieces onto provided all
+unfolding two-columns sheetOf sheetFrom laid flatten columnOf costOf numeralOf closed every both pieces onto provided all
 two-columns-sheet = refl
 
 two-columns-matrix : matrixOf two-columns ≡ matrix (5 ∷ (1 ∷ (9 ∷ (5 ∷ (9 ∷ (2 ∷ [])))))) 3 2
 unfolding two-columns flatten
 two-columns-matrix = refl
 
+-- "a sheet writes it as a lone `-`": first, last and between other costs
+barred-columns : Sheet
+barred-columns =
+    record {
+      alphabet = bytes "ab";
+      text = bytes "a";
+      columns = (4294967295 ∷ (1 ∷ (4294967295 ∷ []))) ∷ ((5 ∷ (4294967295 ∷ (0 ∷ []))) ∷ []);
+    }
+
+barred-sheet : sheetOf (bytes "ab\na\n- 1 -\n5 - 0\n") ≡ some barred-columns
+unfolding barred-columns sheetOf sheetFrom laid flatten columnOf costOf numeralOf closed every both pieces onto provided all
+barred-sheet = refl
+
 -- no column line: the width is K + 1; both lines may be empty
 no-column : Sheet
 no-column = record { alphabet = bytes "ab"; text = bytes "aa"; columns = [] }
 
 no-column-sheet : sheetOf (bytes "ab\naa\n") ≡ some no-column
-unfolding no-column sheetOf sheetFrom laid flatten columnOf costOf closed every both pieces onto provided all
+unfolding no-column sheetOf sheetFrom laid flatten columnOf costOf numeralOf closed every both pieces onto provided all
 no-column-sheet = refl
 
 no-column-matrix : matrixOf no-column ≡ matrix [] 3 0
@@ -54,14 +67,14 @@ unfolding no-column flatten
 no-column-matrix = refl
 
 empty-lines : sheetOf (bytes "\n\n") ≡ some (record { alphabet = []; text = []; columns = [] })
-unfolding sheetOf sheetFrom laid flatten columnOf costOf closed every both pieces onto provided all
+unfolding sheetOf sheetFrom laid flatten columnOf costOf numeralOf closed every both pieces onto provided all
 empty-lines = refl
 
 -- texts that are costs
 costs :
-    map (λ s. costOf (bytes s)) ("0" ∷ ("7" ∷ ("10" ∷ ("1000000" ∷ ("9999999" ∷ [])))))
-    ≡ some 0 ∷ (some 7 ∷ (some 10 ∷ (some 1000000 ∷ (some 9999999 ∷ []))))
-unfolding costOf provided
+    map (λ s. costOf (bytes s)) ("0" ∷ ("7" ∷ ("10" ∷ ("1000000" ∷ ("9999999" ∷ ("-" ∷ []))))))
+    ≡ some 0 ∷ (some 7 ∷ (some 10 ∷ (some 1000000 ∷ (some 9999999 ∷ (some 4294967295 ∷ [])))))
+unfolding costOf numeralOf provided
 costs = refl
 
 -- texts that are no cost, and texts that are no sheet
@@ -69,8 +82,23 @@ is-none : {A : Type 0} → Option A → Bool
 is-none none = true
 is-none (some a) = false
 
-no-costs : all (λ s. is-none (costOf (bytes s))) ("" ∷ ("00" ∷ ("01" ∷ ("0000001" ∷ ("10000000" ∷ ("-" ∷ ("1a" ∷ ("+1" ∷ [])))))))) ≡ true
-unfolding all costOf provided is-none
+no-costs : all (λ s. is-none (costOf (bytes s)))
+    (""
+    ∷ "00"
+    ∷ "01"
+    ∷ "0000001"
+    ∷ "10000000"
+    ∷ "4294967295"
+    ∷ "-0"
+    ∷ "--"
+    ∷ "-5"
+    ∷ "5-"
+    ∷ "+"
+    ∷ "1a"
+    ∷ "+1"
+    ∷ [])
+    ≡ true
+unfolding all costOf numeralOf provided is-none
 no-costs = refl
 
 no-sheets : all (λ s. is-none (sheetOf (bytes s)))
@@ -88,8 +116,13 @@ no-sheets : all (λ s. is-none (sheetOf (bytes s)))
     ∷ "ab\naa\n5 1 \n"
     ∷ "ab\naa\n5 01\n"
     ∷ "ab\naa\n5\t1\n"
+    ∷ "ab\naa\n5 -  1\n"
+    ∷ "ab\naa\n5 1 -"
+    ∷ "ab\naa\n5 -- 1\n"
+    ∷ "ab\naa\n5 -0 1\n"
+    ∷ "ab\naa\n5 1 4294967295\n"
     ∷ "ab\r\naa\r\n5 1 9\r\n"
     ∷ [])
     ≡ true
-unfolding is-none sheetOf sheetFrom laid flatten columnOf costOf closed every both pieces onto provided all
+unfolding is-none sheetOf sheetFrom laid flatten columnOf costOf numeralOf closed every both pieces onto provided all
 no-sheets = refl

@@ -13,7 +13,7 @@ use borrow.Author.Tests.{lt-leb, le-leb, lt-ltb, le-ltb}
 use Rattle.lists.specs.Each.{all}
 use Rattle.lists.specs.OrderLaws.{lt-or-le}
 use Rattle.lists.specs.Cases.{provided}
-use Rattle.sheet_format.specs.Sheet.{onto, pieces, both, every, linesOf, costOf, columnOf, Sheet, equal-columns, fitting, laid, sheetFrom, sheetOf}
+use Rattle.sheet_format.specs.Sheet.{onto, pieces, both, every, linesOf, numeralOf, costOf, columnOf, Sheet, equal-columns, fitting, laid, sheetFrom, sheetOf}
 use Rattle.sheet_format.specs.ColumnLinesLaws.{lines-end, lines-none, columnsIn-end, columnsIn-line}
 use Rattle.sheet_format.specs.ColumnLines.{Free, columnsOf, columnsIn}
 
@@ -68,7 +68,7 @@ many-size zero = refl
 many-size (suc n) = let h = many-size n in omega arith
 
 nought : columnOf (48 ∷ []) ≡ some (0 ∷ [])
-unfolding columnOf every both pieces onto costOf provided
+unfolding columnOf every both pieces onto costOf numeralOf provided
 nought = refl
 
 many-columns : (n : ℕ) → columnsIn (many n) ≡ some (zeros n)

@@ -1,5 +1,6 @@
 -- The layout of a sheet (document 01, "Confidences and the sheet program"): "alphabet line, expression line, then one line for each
--- column, numbers of 1 to 7 digits with no extra leading zero, one space between." What is no sheet is refusal 18.
+-- column, numbers of 1 to 7 digits with no extra leading zero, one space between"; a lone `-` in the place of a number is the cost of a
+-- barred label (document 02, T-06). What is no sheet is refusal 18.
 use mathlib.Core.Option.{Option, some, none}
 use mathlib.Core.List.{List, [], _∷_, flatten}
 use mathlib.Core.Bool.{Bool, true, false, cond, not, _&&_}
@@ -7,10 +8,11 @@ use Prim.Native.Nat.{ℕ, _+_}
 use Prim.Native.Char.{code}
 use lib.ListN.{length}
 use lib.Dec.{eqb, leb}
+use Rattle.lists.specs.Lists.{same-list}
 use Rattle.lists.specs.Each.{all}
 use Rattle.lists.specs.Cases.{provided}
 use Rattle.text.specs.Digits.{digits, value}
-use Rattle.matrix.specs.Matrix.{Matrix, matrix}
+use Rattle.matrix.specs.Matrix.{Matrix, BARRED, matrix}
 
 -- a byte put before the first piece
 unfoldable pub onto : ℕ → List (List ℕ) → List (List ℕ)
@@ -50,9 +52,13 @@ extra-zero [] = false
 extra-zero (a ∷ []) = false
 extra-zero (a ∷ (b ∷ s)) = eqb a (code "0")
 
--- the cost that a text is, if it is one
+-- the number that a text is, if it is one
+unfoldable pub numeralOf : List ℕ → Option ℕ
+numeralOf s = provided (digits s && leb 1 (length s) && leb (length s) 7 && not (extra-zero s)) (some (value 0 s))
+
+-- the cost that a text is, if it is one: a lone `-`, or a number
 unfoldable pub costOf : List ℕ → Option ℕ
-costOf s = provided (digits s && leb 1 (length s) && leb (length s) 7 && not (extra-zero s)) (some (value 0 s))
+costOf s = cond (same-list s (code "-" ∷ [])) (some BARRED) (numeralOf s)
 
 -- the costs of a column line
 unfoldable pub columnOf : List ℕ → Option (List ℕ)

@@ -1,4 +1,4 @@
--- Laws of the digits at a place, and of the cost that they give.
+-- Laws of the digits at a place, and of the number that they give.
 use mathlib.Core.Path.{_≡_, refl, sym, ap, ap₂, _∙_, subst}
 use mathlib.Core.Option.{some}
 use mathlib.Core.List.{List, [], _∷_}
@@ -13,12 +13,13 @@ use borrow.Author.Tests.{leb-true, le-leb, eqb-true, not-true}
 use Rattle.lists.specs.OrderLaws.{and-left, and-right, and-three, or-either, not-both, lt-or-le}
 use Rattle.lists.specs.Cases.{provided}
 use Rattle.text.specs.Digits.{digits, value, digit}
-use Rattle.sheet_format.specs.Sheet.{extra-zero, costOf}
+use Rattle.sheet_format.specs.Sheet.{extra-zero, numeralOf}
 use Rattle.sheet_format.specs.PartsLaws.{provided-back}
 use Rattle.sheet_number.specs.Places.{part}
 use Rattle.sheet_number.specs.PlacesLaws.{part-none, part-more, part-at, part-length}
 use Rattle.sheet_number.specs.declared.Cost.the-variants.{Is, Not}
-use Rattle.sheet_number.specs.Digits.{separator, padded, Begun, Digits, CostAt, ReadCost}
+use Rattle.sheet_number.specs.Digits.{padded, Begun, Digits}
+use Rattle.sheet_number.specs.Items.{separator, NumberAt, ReadNumber}
 use Rattle.text.specs.DigitsLaws.{digits-append, value-append}
 
 pub digit-range : (b : ℕ) → digit b ≡ true → (48 ≤ b) × (b ≤ 57)
@@ -29,27 +30,27 @@ digits-at [] i h l = absurd (omega arith)
 digits-at (b ∷ p) zero h l = and-left (digit b) (digits p) h
 digits-at (b ∷ p) (suc i) h l = digits-at p i (and-right (digit b) (digits p) h) (omega arith)
 
--- Texts that are a cost.
+-- Texts that are a number.
 
 padded-zero : (p : List ℕ) → extra-zero p ≡ padded (length p) (getD p 0 0)
 padded-zero [] = refl
 padded-zero (a ∷ []) = refl
 padded-zero (a ∷ (b ∷ p)) = rw (le-leb 2 (suc (suc (length p))) (omega arith))
 
-cost-is : (p : List ℕ) → digits p ≡ true → 1 ≤ length p → length p ≤ 7 → extra-zero p ≡ false → costOf p ≡ some (value 0 p)
-unfolding costOf provided
-cost-is p d l h e = rw (d, le-leb 1 (length p) l, le-leb (length p) 7 h, e)
+numeral-is : (p : List ℕ) → digits p ≡ true → 1 ≤ length p → length p ≤ 7 → extra-zero p ≡ false → numeralOf p ≡ some (value 0 p)
+unfolding numeralOf provided
+numeral-is p d l h e = rw (d, le-leb 1 (length p) l, le-leb (length p) 7 h, e)
 
--- what is known of the text of a cost
+-- what is known of the text of a number
 pub record Numeral (p : List ℕ) : Type 0 where
   pub are : digits p ≡ true
   pub some-digit : 1 ≤ length p
   pub few : length p ≤ 7
   pub unpadded : extra-zero p ≡ false
 
-pub cost-back : (p : List ℕ) (v : ℕ) → costOf p ≡ some v → Numeral p
-unfolding costOf
-cost-back p v e =
+pub numeral-back : (p : List ℕ) (v : ℕ) → numeralOf p ≡ some v → Numeral p
+unfolding numeralOf
+numeral-back p v e =
     let d = digits p in
     let l = leb 1 (length p) in
     let h = leb (length p) 7 in
@@ -117,15 +118,15 @@ separator-ends b s d =
     ⊎-elim (λ k. let q = eqb-true b 32 k in omega arith) (λ k. let q = eqb-true b 10 k in omega arith)
     (or-either (eqb b 32) (eqb b 10) s)
 
--- a cost has a digit
-pub cost-begins : (input : List ℕ) (at e v : ℕ) → CostAt input at e v → at < e
-cost-begins input at e v c = ⊎-elim (λ l. l) (λ l. absurd (empty l)) (lt-or-le at e)
+-- a number has a digit
+pub number-begins : (input : List ℕ) (at e v : ℕ) → NumberAt input at e v → at < e
+number-begins input at e v c = ⊎-elim (λ l. l) (λ l. absurd (empty l)) (lt-or-le at e)
   where
     empty : e ≤ at → ⊥
     empty l =
         let k : e - at ≡ 0 = omega arith in
         let z : length (part at e input) ≡ 0 = ap (λ j. length (take j (drop at input))) k in
-        let n = cost-back (part at e input) v (c .is) .some-digit in
+        let n = numeral-back (part at e input) v (c .is) .some-digit in
         omega arith
 
 -- each byte of a part that is all digits is a digit
@@ -134,7 +135,7 @@ digit-at input at e i d f l w =
     let n = part-length input at e (omega arith) w in
     rw (part-at input at e i f l) at (digits-at (part at e input) (i - at) d (omega arith))
 
--- A cost at the place is all the digits there and nothing else: a lemma for each return of `read_cost`.
+-- A number at the place is all the digits there and nothing else: a lemma for each return of `read_number`.
 module _ (input : List ℕ) (at e v : ℕ) (h : Digits input at e v) where
   abbrev p : List ℕ
   p = part at e input
@@ -142,13 +143,13 @@ module _ (input : List ℕ) (at e v : ℕ) (h : Digits input at e v) where
   size : length p ≡ e - at
   size = part-length input at e (h .begun .from) (h .begun .within)
 
-  -- a cost that is written at the place ends where its digits end
-  same-end : (f w : ℕ) → CostAt input at f w → f ≡ e
+  -- a number that is written at the place ends where its digits end
+  same-end : (f w : ℕ) → NumberAt input at f w → f ≡ e
   same-end f w c = ⊎-elim longer (λ l. ⊎-elim shorter (λ k. omega arith) (lt-or-le f e)) (lt-or-le e f)
     where
       longer : e < f → f ≡ e
       longer l =
-          let n = cost-back (part at f input) w (c .is) in
+          let n = numeral-back (part at f input) w (c .is) in
           let i = c .within in
           let j = h .begun .from in
           let k = part-length input at f (omega arith) (omega arith) in
@@ -157,23 +158,23 @@ module _ (input : List ℕ) (at e v : ℕ) (h : Digits input at e v) where
 
       shorter : f < e → f ≡ e
       shorter l =
-          let k = cost-begins input at f w c in
+          let k = number-begins input at f w c in
           absurd (separator-ends (getD input f 0) (c .ends) (digit-at input at e f (h .begun .are) (omega arith) l (h .begun .within)))
 
-  same-cost : (f w : ℕ) → CostAt input at f w → CostAt input at e w
-  same-cost f w c = subst (λ i. CostAt input at i w) (same-end f w c) c
+  same-number : (f w : ℕ) → NumberAt input at f w → NumberAt input at e w
+  same-number f w c = subst (λ i. NumberAt input at i w) (same-end f w c) c
 
   -- the input ends after the digits
-  pub cost-open : e ≡ length input → ReadCost input at Not
-  cost-open l f w c = let k = same-cost f w c .within in omega arith
+  pub number-open : e ≡ length input → ReadNumber input at Not
+  number-open l f w c = let k = same-number f w c .within in omega arith
 
   -- no separator follows the digits
-  pub cost-unread : separator (getD input e 0) ≡ false → ReadCost input at Not
-  cost-unread q f w c = not-both (separator (getD input e 0)) (same-cost f w c .ends) q
+  pub number-unread : separator (getD input e 0) ≡ false → ReadNumber input at Not
+  number-unread q f w c = not-both (separator (getD input e 0)) (same-number f w c .ends) q
 
   -- there is no digit
-  pub cost-missing : e ≡ at → ReadCost input at Not
-  cost-missing q f w c = let k = cost-begins input at e w (same-cost f w c) in omega arith
+  pub number-missing : e ≡ at → ReadNumber input at Not
+  number-missing q f w c = let k = number-begins input at e w (same-number f w c) in omega arith
 
   module _ (s : e ≡ at → ⊥) where
     zero-is : extra-zero p ≡ padded (e - at) (getD input at 0)
@@ -182,17 +183,17 @@ module _ (input : List ℕ) (at e v : ℕ) (h : Digits input at e v) where
         let k : at - at ≡ 0 = omega arith in
         padded-zero p ∙ ap₂ padded size (ap (λ j. getD p j 0) (sym k) ∙ part-at input at e at (omega arith) (omega arith))
 
-    pub cost-padded : padded (e - at) (getD input at 0) ≡ true → ReadCost input at Not
-    cost-padded q f w c = not-both (extra-zero p) (zero-is ∙ q) (cost-back p w (same-cost f w c .is) .unpadded)
+    pub number-padded : padded (e - at) (getD input at 0) ≡ true → ReadNumber input at Not
+    number-padded q f w c = not-both (extra-zero p) (zero-is ∙ q) (numeral-back p w (same-number f w c .is) .unpadded)
 
-    pub cost-read :
-        e < length input → separator (getD input e 0) ≡ true → padded (e - at) (getD input at 0) ≡ false → ReadCost input at (Is v e)
-    cost-read l t q =
+    pub number-read :
+        e < length input → separator (getD input e 0) ≡ true → padded (e - at) (getD input at 0) ≡ false → ReadNumber input at (Is v e)
+    number-read l t q =
         let f = h .begun .from in
         let w = h .begun .few in
         let n = size in
         record {
-          is = cost-is p (h .begun .are) (omega arith) (omega arith) (zero-is ∙ q) ∙ ap some (h .begun .makes);
+          is = numeral-is p (h .begun .are) (omega arith) (omega arith) (zero-is ∙ q) ∙ ap some (h .begun .makes);
           within = l;
           ends = t;
         }

@@ -1,4 +1,6 @@
 pub mod Places
 pub mod PlacesLaws
+pub mod Items
 pub mod Digits
 pub mod DigitsLaws
+pub mod CostsLaws

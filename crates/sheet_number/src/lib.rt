@@ -1,11 +1,14 @@
 // One line and one number of a sheet (document 01, "Confidences and the sheet program"): where a line ends, and the cost that is written at
 // a place.
+use matrix::BARRED;
+use text::peek;
 ghost use mathlib.Core.Path.{_≡_};
 ghost use Prim.Native.Nat.{_≤_};
 ghost use lib.ListN.{length};
 ghost use Rattle.lists.specs.Memory.{old};
 ghost use Rattle.sheet_number.specs.Places.{LineEnd};
-ghost use Rattle.sheet_number.specs.Digits.{separator, padded, Digits as DigitsOf, ReadCost};
+ghost use Rattle.sheet_number.specs.Items.{separator, ReadNumber, ReadCost, bar-at};
+ghost use Rattle.sheet_number.specs.Digits.{padded, Digits as DigitsOf};
 ghost use Rattle.text.specs.Digits.{digit};
 
 // The value of digits, and the place after them.
@@ -78,10 +81,10 @@ fn read_digits(input: &[u8], at: usize) -> Digits
     Digits { value: v, end: i }
 }
 
-// The cost that is written at `at`.
-pub fn read_cost(input: &[u8], at: usize) -> Cost
+// The number that is written at `at`, as a cost.
+fn read_number(input: &[u8], at: usize) -> Cost
     requires { ⌜ at ≤ length (now input) ⌝ }
-    ensures { λ r. ⌜ ReadCost (old input) at r ⌝ }
+    ensures { λ r. ⌜ ReadNumber (old input) at r ⌝ }
 {
     let d = read_digits(input, at);
     let end = d.end;
@@ -98,4 +101,26 @@ pub fn read_cost(input: &[u8], at: usize) -> Cost
         return Cost::Not;
     }
     Cost::Is(d.value, end)
+}
+
+// Is a lone `-` at `at`?
+fn is_bar(input: &[u8], at: usize) -> bool
+    requires { ⌜ at ≤ length (now input) ⌝ }
+    ensures { λ r. ⌜ r ≡ bar-at (old input) at ⌝ }
+{
+    if peek(input, at) != b'-' {
+        return false;
+    }
+    is_separator(peek(input, at + 1))
+}
+
+// The cost that is written at `at`: a number, or `-` for a barred label.
+pub fn read_cost(input: &[u8], at: usize) -> Cost
+    requires { ⌜ at ≤ length (now input) ⌝ }
+    ensures { λ r. ⌜ ReadCost (old input) at r ⌝ }
+{
+    if is_bar(input, at) {
+        return Cost::Is(BARRED, at + 1);
+    }
+    read_number(input, at)
 }

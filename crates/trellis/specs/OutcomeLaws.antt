@@ -15,7 +15,7 @@ use Rattle.matrix.specs.Paths.{CostsPass}
 use Rattle.outcome.specs.Outcome.{Rival, Best, Outcome}
 use Rattle.trellis.specs.Graph.{Way}
 use Rattle.trellis.specs.Impossible.{TOP}
-use Rattle.trellis.specs.ImpossibleLaws.{path-below, below-path}
+use Rattle.trellis.specs.ImpossibleLaws.{rival-below, below-path}
 use Rattle.trellis.specs.CostToGo.{CostToGo}
 use Rattle.trellis.specs.BestWay.{WayFrom, BestFrom}
 use Rattle.trellis.specs.Extended.{extended}
@@ -28,8 +28,8 @@ module _ {k : ℕ} {A : Automaton} (proper : Proper k A) (M : Matrix) (wide : M 
   pub rival-way : (p : List ℕ) → Rival (Accepts A) M p → Way (extended A) 0 p
   rival-way p r = collapse-way proper p .0 (r .word)
 
-  pub rival-below : (p : List ℕ) → Rival (Accepts A) M p → price M p < TOP
-  rival-below p r = path-below M pass 0 p (let e = r .path .one-each in omega arith) (r .path .labels)
+  below : (p : List ℕ) → Rival (Accepts A) M p → price M p < TOP
+  below = rival-below M few (Accepts A)
 
   pub way-rival : (p : List ℕ) → length p ≡ M .count → Way (extended A) 0 p → price M p < TOP → Rival (Accepts A) M p
   way-rival p l w b =
@@ -51,7 +51,7 @@ module _ {k : ℕ} {A : Automaton} (proper : Proper k A) (M : Matrix) (wide : M 
     -- there is nothing to read exactly if the cost to go is TOP
     pub outcome-none : (v ≡ TOP) ↔ Outcome (Accepts A) M none
     outcome-none = (
-      λ e p r. let l = cheaper p r in let b = rival-below p r in omega arith,
+      λ e p r. let l = cheaper p r in let b = below p r in omega arith,
       λ f. ⊎-elim (λ b. let m = met b in absurd (f (m .0) (m .1))) (λ h. let w = togo .within in omega arith) (lt-or-le v TOP),
     )
 
@@ -59,7 +59,7 @@ module _ {k : ℕ} {A : Automaton} (proper : Proper k A) (M : Matrix) (wide : M 
     pub outcome-price : (p : List ℕ) → Best (Accepts A) M p → price M p ≡ v
     outcome-price p b =
         let low = cheaper p (b .qualifies) in
-        let below = rival-below p (b .qualifies) in
+        let cheap = below p (b .qualifies) in
         let m = met (omega arith) in
         let e = m .2 in
         let high = b .least (m .0) (m .1) in
@@ -67,7 +67,7 @@ module _ {k : ℕ} {A : Automaton} (proper : Proper k A) (M : Matrix) (wide : M 
 
     -- the best way is the best rival
     pub outcome-best : v < TOP → (p : List ℕ) → BestFrom (extended A) M 0 (M .count) (λ s. s ≡ 0) p → Outcome (Accepts A) M (some p)
-    outcome-best below p b =
+    outcome-best low p b =
         record {
           qualifies = way-rival p (b .qualifies .long) (subst (λ s. Way (extended A) s p) (b .qualifies .member) (b .qualifies .way)) cheap;
           least = λ a r. b .least a (from a r);
@@ -78,4 +78,4 @@ module _ {k : ℕ} {A : Automaton} (proper : Proper k A) (M : Matrix) (wide : M 
         from a r = record { long = r .path .one-each; from = 0; member = refl; way = rival-way a r }
 
         cheap : price M p < TOP
-        cheap = let m = met below in let e = m .2 in let l = b .least (m .0) (from (m .0) (m .1)) in omega arith
+        cheap = let m = met low in let e = m .2 in let l = b .least (m .0) (from (m .0) (m .1)) in omega arith

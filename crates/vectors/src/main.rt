@@ -1,6 +1,6 @@
 // Runs the exported calls on the lines of standard input: document 01's examples, edges, damaged forms, each refusal. A line has a
-// letter that says what to do, and fields, each after a tab; lists are numbers with a space between. Path, word, work and cost memory,
-// and the ten words of E, are filled with 9 before a call and printed after it.
+// letter that says what to do, and fields, each after a tab; lists are numbers with a space between, and `-` is the cost of a barred label.
+// Path, word, work and cost memory, and the ten words of E, are filled with 9 before a call and printed after it.
 //
 //   C K PATH ROOM           Collapse                       S K WORD ROOM   Spread
 //   P CONFIDENCES ROOM      the costs of confidences

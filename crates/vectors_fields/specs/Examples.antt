@@ -22,6 +22,10 @@ decimal : numbersOf false (bytes "95 0 1000001") ≡ 95 ∷ (0 ∷ (1000001 ∷ 
 unfolding numbersOf value pieces onto
 decimal = refl
 
+barred : numbersOf false (bytes "7 - 0") ≡ 7 ∷ (4294967295 ∷ (0 ∷ []))
+unfolding numbersOf value pieces onto
+barred = refl
+
 hexadecimal : numbersOf true (bytes "10010001 20000FfA") ≡ 268500993 ∷ (536875002 ∷ [])
 unfolding numbersOf value pieces onto
 hexadecimal = refl

@@ -6,6 +6,7 @@ use Prim.Native.Nat.{ℕ, _+_, _*_, _%_, _≤_}
 use Prim.Native.Char.{code}
 use lib.ListN.{length, getD, take}
 use lib.Dec.{eqb, ltb}
+use Rattle.matrix.specs.Matrix.{BARRED}
 use Rattle.sheet_format.specs.Sheet.{pieces}
 
 -- field k of a line; empty where the line has fewer fields
@@ -16,9 +17,9 @@ fieldOf line k = getD (pieces (code "\t") line) k []
 abbrev pub digit : Bool → ℕ → ℕ
 digit hexadecimal b = cond (hexadecimal && ltb 64 b) ((b % 16 + 9) % 16) (b % 16)
 
--- the number with one more digit; only the low 28 bits of the number before it count
+-- the number with one more digit; only the low 28 bits of the number before it count, so the cost of a barred label is written `-`
 abbrev pub more : Bool → ℕ → ℕ → ℕ
-more hexadecimal v b = cond hexadecimal 16 10 * (v % 268435456) + digit hexadecimal b
+more hexadecimal v b = cond (eqb b (code "-")) BARRED (cond hexadecimal 16 10 * (v % 268435456) + digit hexadecimal b)
 
 -- the number that digits give, after digits with the value v
 unfoldable pub value : Bool → ℕ → List ℕ → ℕ

@@ -1,4 +1,5 @@
 // The fields of a line of text, with tabs between them, and the numbers in a field, for the program `vectors`.
+use matrix::BARRED;
 use numbers::wide_word;
 ghost use mathlib.Core.Path.{_≡_};
 ghost use mathlib.Core.Bool.{false};
@@ -35,7 +36,7 @@ pub fn field(line: &[u8], k: usize) -> &[u8]
     &line[a..e]
 }
 
-// The number with one more digit; 0 after a space.
+// The number with one more digit; 0 after a space, and the cost of a barred label after `-`.
 fn longer(v: u32, hexadecimal: bool, b: u8) -> u32
     ensures { λ r. ⌜ r ≡ onward hexadecimal v b ⌝ }
 {
@@ -43,6 +44,9 @@ fn longer(v: u32, hexadecimal: bool, b: u8) -> u32
     let d = (b % 16) as u32;
     if b == b' ' {
         return 0;
+    }
+    if b == b'-' {
+        return BARRED;
     }
     if !hexadecimal {
         return 10 * w + d;

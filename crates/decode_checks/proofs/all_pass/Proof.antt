@@ -20,11 +20,11 @@ abbrev μ-loop : tie.MeasureT-loop
 loop-holds : tie.Need-loop-holds Inv-loop μ-loop
 loop-holds c = (omega arith, refl)
 
-mul-pass : tie.Need-mul-pass Inv-loop μ-loop
-mul-pass c = omega arith
+mul-c : tie.Need-mul-c Inv-loop μ-loop
+mul-c c = omega arith
 
-shared-slice-read-pass : tie.Need-shared-slice-read-pass Inv-loop μ-loop
-shared-slice-read-pass c = omega arith
+shared-slice-read-c : tie.Need-shared-slice-read-c Inv-loop μ-loop
+shared-slice-read-c c = omega arith
 
 add-i : tie.Need-add-i Inv-loop μ-loop
 add-i c = omega arith
@@ -49,8 +49,8 @@ all-pass-spec =
     Inv-loop
     μ-loop
     loop-holds
-    mul-pass
-    shared-slice-read-pass
+    mul-c
+    shared-slice-read-c
     add-i
     loop-less
     loop-again

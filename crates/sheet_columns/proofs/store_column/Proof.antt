@@ -6,8 +6,8 @@ use native.Mathlib.Omega.{arith}
 use borrow.Author.Needs.{needs}
 use lib.ListN.{length, set, length-set}
 use denote.Ref.{now}
-use Rattle.sheet_number.specs.Digits.{ReadCost}
-use Rattle.sheet_number.specs.DigitsLaws.{cost-begins}
+use Rattle.sheet_number.specs.Items.{ReadCost}
+use Rattle.sheet_number.specs.CostsLaws.{cost-begins}
 use Rattle.sheet_number.specs.declared.Cost.the-variants.{Is}
 use Rattle.sheet_columns.specs.declared.Column.{Column}
 use Rattle.sheet_columns.specs.declared.Column.the-variants.{Ends, Bad}

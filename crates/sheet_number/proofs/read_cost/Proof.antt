@@ -1,77 +1,30 @@
--- `sheet_number::read_cost` meets its contract, a lemma for each return.
+-- `sheet_number::read_cost` meets its contract: a lone `-`, or a number.
 use mathlib.Core.Path.{sym, _∙_}
 use borrow.Author.Needs.{needs}
-use borrow.Author.Tests.{not-true, not-false}
-use native.Mathlib.Omega.{arith}
 use denote.Ref.{now}
-use Rattle.sheet_number.specs.DigitsLaws.{cost-open, cost-unread, cost-missing, cost-padded, cost-read}
+use Rattle.sheet_number.specs.CostsLaws.{cost-bar, cost-number}
 use Rattle.sheet_number.proofs.read_cost.Statement.{statement}
 use Rattle.sheet_number.proofs.read_cost.Tie as tie
 
-read-digits-requires : tie.Need-read-digits-requires
-read-digits-requires c κs = search needs
+is-bar-requires : tie.Need-is-bar-requires
+is-bar-requires c κs = search needs
+
+add-t4 : tie.Need-add-t4
+add-t4 c = search needs
 
 returns : tie.Need-returns
 returns c =
     let a = c .before .before .before .args in
-    let d = c .before .read-digits in
-    cost-open (now (a .input)) (a .at) (d .result .end) (d .result .value) (d .ensures) (c .if1 .taken)
+    cost-bar (now (a .input)) (a .at) (sym (c .before .is-bar .ensures) ∙ c .if1 .taken)
 
-shared-slice-read-is-separator : tie.Need-shared-slice-read-is-separator
-shared-slice-read-is-separator c = search needs
-
-is-separator-requires : tie.Need-is-separator-requires
-is-separator-requires c κs = search needs
+read-number-requires : tie.Need-read-number-requires
+read-number-requires c κs = search needs
 
 returns-2 : tie.Need-returns-2
 returns-2 c =
-    let a = c .before .before .before .before .before .before .args in
-    let d = c .before .before .before .before .read-digits in
-    cost-unread (now (a .input)) (a .at) (d .result .end) (d .result .value) (d .ensures)
-    (sym (c .before .is-separator .ensures) ∙ not-true _ (c .if2 .taken))
-
-returns-3 : tie.Need-returns-3
-returns-3 c =
-    let a = c .before .before .before .before .before .before .before .args in
-    let d = c .before .before .before .before .before .read-digits in
-    cost-missing (now (a .input)) (a .at) (d .result .end) (d .result .value) (d .ensures) (c .if3 .taken)
-
-sub-is-padded : tie.Need-sub-is-padded
-sub-is-padded c = search needs
-
-shared-slice-read-is-padded : tie.Need-shared-slice-read-is-padded
-shared-slice-read-is-padded c = search needs
-
-is-padded-requires : tie.Need-is-padded-requires
-is-padded-requires c κs = search needs
-
-returns-4 : tie.Need-returns-4
-returns-4 c =
-    let a = c .before .before .before .before .before .before .before .before .before .before .args in
-    let d = c .before .before .before .before .before .before .before .before .read-digits in
-    cost-padded (now (a .input)) (a .at) (d .result .end) (d .result .value) (d .ensures) (c .before .before .before .if3 .left)
-    (sym (c .before .is-padded .ensures) ∙ c .if4 .taken)
-
-returns-5 : tie.Need-returns-5
-returns-5 c =
-    let a = c .before .before .before .before .before .before .before .before .before .before .args in
-    let d = c .before .before .before .before .before .before .before .before .read-digits in
-    cost-read (now (a .input)) (a .at) (d .result .end) (d .result .value) (d .ensures) (c .before .before .before .if3 .left) (omega arith)
-    (sym (c .before .before .before .before .before .is-separator .ensures) ∙ not-false _ (c .before .before .before .before .if2 .left))
-    (sym (c .before .is-padded .ensures) ∙ c .if4 .left)
+    let a = c .before .before .before .before .args in
+    let n = c .read-number in
+    cost-number (now (a .input)) (a .at) (sym (c .before .before .is-bar .ensures) ∙ c .before .if1 .left) (n .result) (n .ensures)
 
 pub read-cost-spec : {M : Type 1} → statement M
-read-cost-spec =
-    tie.close
-    (tie.spec
-    read-digits-requires
-    returns
-    shared-slice-read-is-separator
-    is-separator-requires
-    returns-2
-    returns-3
-    sub-is-padded
-    shared-slice-read-is-padded
-    is-padded-requires
-    returns-4
-    returns-5)
+read-cost-spec = tie.close (tie.spec is-bar-requires add-t4 returns read-number-requires returns-2)
