@@ -3,6 +3,7 @@
 
 #include <string.h>
 
+#include "kavurehy.h"
 #include "rooms.h"
 #include "search.h"
 
@@ -35,19 +36,19 @@ static void short_lists(size_t k)
         }
 }
 
-/* The largest n with 2^n * c^8 <= 2^64, that is c^8 <= 2^(64 - n). */
+/* The largest n with 2^n * c^8 <= 2^64, that is c^8 <= 2^(64 - n); for 0 the label is barred. */
 static uint32_t cost_of(uint64_t c)
 {
     uint64_t power = c * c * c * c * c * c * c * c;
     uint32_t n = 0;
     while (n < 64 && power <= UINT64_C(1) << (63 - n))
         n++;
-    return c == 0 ? 72 : n;
+    return c == 0 ? KAVUREHY_BARRED : n;
 }
 
 static void confidences(void)
 {
-    static const uint32_t DOCUMENT[][2] = {{255, 0}, {182, 3}, {181, 4}, {128, 8}, {1, 64}, {0, 72}};
+    static const uint32_t DOCUMENT[][2] = {{255, 0}, {182, 3}, {181, 4}, {128, 8}, {1, 64}, {0, KAVUREHY_BARRED}};
     static uint8_t all[1000];
     static uint32_t costs[1000];
     for (size_t n = 0; n < 1000; n++) {

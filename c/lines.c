@@ -1,8 +1,9 @@
-/* Document 01's lines and some with classes, with the forms written by hand, and the largest input. */
+/* Document 01's lines, some with classes and some with barred labels, with the forms written by hand, and the largest input. */
 #include "tests.h"
 
 #include <string.h>
 
+#include "kavurehy.h"
 #include "rooms.h"
 
 /* A line over the alphabet ab: the text, its form, the costs; price, path and word. */
@@ -51,6 +52,15 @@ static void class_lines(void)
     document_line("[[:alpha:]]", either, WORDS(0, 4, 4), 4, BYTES(1), "a");
     document_line("[b[:digit:]]", b, WORDS(5, 1, 9, 5, 9, 2), 7, BYTES(0, 2), "b");
     document_line("[^a[:upper:]-]", b, WORDS(5, 1, 9), 9, BYTES(2), "b");
+}
+
+/* Barred labels: a path that avoids them; no reading because of them, although there are columns enough. */
+static void barred_lines(void)
+{
+    struct words aa = WORDS(0x10020002, 0x20000101, 0x20000201, 0x30000102);
+    document_line("a|b", WORDS(0x10020002, 0x20000301, 0x20000302), WORDS(0, KAVUREHY_BARRED, 4), 4, BYTES(2), "b");
+    document_line("aa", aa, WORDS(KAVUREHY_BARRED, 1, 9, 5, 1, KAVUREHY_BARRED, 5, 1, 9), 7, BYTES(1, 0, 1), "aa");
+    document_line_unread("aa", aa, WORDS(5, 1, 9, KAVUREHY_BARRED, 1, 9, 5, 1, 9));
 }
 
 static void document_texts(void)
@@ -127,6 +137,7 @@ void lines(void)
 {
     document_lines();
     class_lines();
+    barred_lines();
     document_texts();
     document_limits();
     largest();

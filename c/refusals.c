@@ -3,6 +3,7 @@
 
 #include <string.h>
 
+#include "kavurehy.h"
 #include "rooms.h"
 
 /* Compile and read refuse this text, whatever the form memory is; read, whatever the matrix and its memory are. */
@@ -159,16 +160,28 @@ static void matrices(void)
     }
 }
 
-/* Refusals 13 to 16, each with all later ones: T = 1 and L = 2 need 10 work words; T = 0 has no reading. */
+/* Refusal 13 by itself, and with all later ones: T = 1 and L = 2 need 10 work words. The cost of a barred label passes, so a later one is
+   given. */
+static void bad_costs(void)
+{
+    static const uint32_t BAD[] = {1000001, KAVUREHY_BARRED - 1};
+    for (size_t n = 0; n < 3; n++) {
+        uint32_t costs[3] = {0, 0, 0};
+        for (size_t m = 0; m < sizeof BAD / sizeof *BAD; m++) {
+            costs[n] = BAD[m];
+            refuse_line((struct line){{costs, 3}, 3, 1, 1, 1, 10}, 13);
+            refuse_line((struct line){{costs, 3}, 3, 1, 0, 0, 0}, 13);
+        }
+        costs[n] = KAVUREHY_BARRED;
+        refuse_line((struct line){{costs, 3}, 3, 1, 0, 0, 0}, 14);
+        refuse_line((struct line){{costs, 3}, 3, 1, 1, 1, 9}, 15);
+    }
+}
+
+/* Refusals 14 to 16, each with all later ones; T = 0 has no reading. */
 static void memories(void)
 {
     uint32_t costs[3] = {0, 0, 0};
-    for (size_t n = 0; n < 3; n++) {
-        costs[n] = n == 1 ? UINT32_MAX : 1000001;
-        refuse_line((struct line){{costs, 3}, 3, 1, 1, 1, 10}, 13);
-        refuse_line((struct line){{costs, 3}, 3, 1, 0, 0, 0}, 13);
-        costs[n] = 0;
-    }
     refuse_line((struct line){{costs, 3}, 3, 1, 0, 1, 10}, 14);
     refuse_line((struct line){{costs, 3}, 3, 1, 1, 0, 10}, 14);
     refuse_line((struct line){{costs, 3}, 3, 1, 0, 0, 0}, 14);
@@ -219,6 +232,7 @@ void refusals(void)
     texts();
     forms();
     matrices();
+    bad_costs();
     memories();
     label_lists();
 }

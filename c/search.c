@@ -3,6 +3,8 @@
 
 #include <string.h>
 
+#include "kavurehy.h"
+
 size_t lists(size_t k, size_t length)
 {
     size_t number = 1;
@@ -58,15 +60,28 @@ int has_word(const struct language *language, const uint8_t *word, size_t length
     return language->accepted[number_of(language->k, word, length)];
 }
 
+/* Adds up a list's costs; returns 0 if it uses a barred label. */
+static int add_up(const uint32_t *costs, size_t width, const uint8_t *path, size_t columns, uint32_t *price)
+{
+    *price = 0;
+    for (size_t t = 0; t < columns; t++) {
+        uint32_t cost = costs[t * width + path[t]];
+        if (cost == KAVUREHY_BARRED)
+            return 0;
+        *price += cost;
+    }
+    return 1;
+}
+
 struct best search(const struct language *language, const uint32_t *costs, size_t columns)
 {
     struct best best = {0, 0, 0, {0}, {0}, 0};
     uint8_t path[COLUMNS], word[COLUMNS];
     for (size_t number = 0; number < lists(language->k, columns); number++) {
-        uint32_t price = 0;
+        uint32_t price;
         nth_list(language->k, columns, number, path);
-        for (size_t t = 0; t < columns; t++)
-            price += costs[t * (language->k + 1) + path[t]];
+        if (!add_up(costs, language->k + 1, path, columns, &price))
+            continue;
         size_t length = collapse_list(path, columns, word);
         if ((best.found && price > best.price) || !has_word(language, word, length))
             continue;

@@ -29,7 +29,8 @@ struct language {
 struct language language_of(size_t k, acceptance *accepts, const void *what);
 int has_word(const struct language *language, const uint8_t *word, size_t length);
 
-/* The cheapest list whose collapse is accepted, the first of these by labels, if there is one; `tied` if another is as cheap. */
+/* The cheapest list whose collapse is accepted and that uses no barred label, the first of these by labels, if there is one; `tied` if
+   another is as cheap. */
 struct best {
     int found, tied;
     uint32_t price;

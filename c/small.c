@@ -19,10 +19,40 @@ static uint32_t below(uint32_t n)
     return (uint32_t)(state >> 33) % n;
 }
 
-/* How many lines have several best lists, a best word that needs a blank between equal labels, no reading. */
-static unsigned long tied, parted, unread;
+/* How many lines have several best lists, a best word that needs a blank between equal labels, no reading; and how many have another best
+   list, or none, only because of barred labels. */
+static unsigned long tied, parted, unread, changed, barred;
 
-/* Decode must find what the search finds for each of a few matrices, and so must read if there is a text. */
+/* Decode must find what the search finds, and so must read if there is a text. */
+static struct best hold_matrix(struct words form, const struct language *language, const char *alphabet, const char *text,
+                               const uint32_t *costs, size_t columns)
+{
+    struct best best = search(language, costs, columns);
+    struct bytes path = {best.path, columns}, word = {best.word, best.length};
+    struct line line = line_of(form, costs, columns);
+    struct answer answer = best.found ? reading(line, best.price, path, word) : no_reading(line);
+    decodes(form, line, answer);
+    if (text != NULL)
+        reads(TEXT(alphabet), TEXT(text), form, line, answer);
+    int pair = 0;
+    for (size_t n = 1; n < best.length; n++)
+        pair |= best.word[n] == best.word[n - 1];
+    tied += best.tied != 0;
+    parted += pair != 0;
+    unread += !best.found;
+    return best;
+}
+
+/* Bars all labels of a column, a label in all columns, or labels here and there. */
+static void bar(uint32_t *costs, size_t width, size_t columns)
+{
+    uint32_t style = below(4), column = below((uint32_t)columns), label = below((uint32_t)width), one_in = 2 + below(4);
+    for (size_t n = 0; n < columns * width; n++)
+        if (style == 0 ? n / width == column : style == 1 ? n % width == label : below(one_in) == 0)
+            costs[n] = KAVUREHY_BARRED;
+}
+
+/* A few matrices of each number of columns, half of them again with barred labels. */
 static void hold_matrices(struct words form, const struct language *language, const char *alphabet, const char *text, int rounds)
 {
     size_t width = language->k + 1;
@@ -31,19 +61,13 @@ static void hold_matrices(struct words form, const struct language *language, co
             uint32_t costs[COLUMNS * (CHARACTERS + 1)], most = 2 + below(3);
             for (size_t n = 0; n < columns * width; n++)
                 costs[n] = below(most);
-            struct best best = search(language, costs, columns);
-            struct bytes path = {best.path, columns}, word = {best.word, best.length};
-            struct line line = line_of(form, costs, columns);
-            struct answer answer = best.found ? reading(line, best.price, path, word) : no_reading(line);
-            decodes(form, line, answer);
-            if (text != NULL)
-                reads(TEXT(alphabet), TEXT(text), form, line, answer);
-            int pair = 0;
-            for (size_t n = 1; n < best.length; n++)
-                pair |= best.word[n] == best.word[n - 1];
-            tied += best.tied != 0;
-            parted += pair != 0;
-            unread += !best.found;
+            struct best best = hold_matrix(form, language, alphabet, text, costs, columns);
+            if (columns == 0 || round % 2 == 0)
+                continue;
+            bar(costs, width, columns);
+            struct best other = hold_matrix(form, language, alphabet, text, costs, columns);
+            changed += other.found && memcmp(other.path, best.path, columns) != 0;
+            barred += best.found && !other.found;
         }
 }
 
@@ -161,10 +185,11 @@ static void texts(void)
 
 void small_matrices(void)
 {
-    tied = parted = unread = 0;
+    tied = parted = unread = changed = barred = 0;
     made_forms();
     texts();
     calling("small matrices");
-    if (tied < 5000 || parted < 1000 || unread < 1000)
-        fail("%lu lines are tied, %lu parted, %lu without a reading", tied, parted, unread);
+    if (tied < 5000 || parted < 1000 || unread < 1000 || changed < 1000 || barred < 1000)
+        fail("%lu lines are tied, %lu parted, %lu without a reading; by barred labels %lu changed, %lu without a reading", tied, parted,
+             unread, changed, barred);
 }

@@ -26,7 +26,11 @@ mod refusal;
 
 pub use refusal::Refusal;
 
-/// A matrix of costs: `columns` columns, one after another, each with `width` costs in label order, the blank first.
+/// The cost of a barred label: no path uses it.
+pub const BARRED: u32 = u32::MAX;
+
+/// A matrix of costs: `columns` columns, one after another, each with `width` costs in label order, the blank first. A cost is at
+/// most 1,000,000, or [`BARRED`].
 #[derive(Clone, Copy, Debug)]
 pub struct Matrix<'a> {
     pub costs: &'a [u32],
@@ -164,11 +168,12 @@ pub fn spread(k: usize, word: &[u8], path: &mut [u8]) -> Result<usize, Refusal> 
     Ok(counts[0] as usize)
 }
 
-/// Writes the cheapest path of one label for each column whose collapse the form accepts, among equally cheap ones the first
-/// by labels, and its collapse, the word. The work words that are needed ([`work_words`]) may hold anything afterwards.
+/// Writes the cheapest path of one label for each column, none of them barred, whose collapse the form accepts, among equally
+/// cheap ones the first by labels, and its collapse, the word. The work words that are needed ([`work_words`]) may hold anything
+/// afterwards.
 ///
 /// ```
-/// use kavurehy::{decode, work_words, Matrix};
+/// use kavurehy::{decode, work_words, Matrix, Refusal, BARRED};
 ///
 /// // The letter a, then any number of b, over the alphabet ab.
 /// let form = [0x10020002, 0x20000301, 0x20000202, 0x30000102, 0x30000202];
@@ -181,6 +186,17 @@ pub fn spread(k: usize, word: &[u8], path: &mut [u8]) -> Result<usize, Refusal> 
 /// assert_eq!(reading.price, 3);
 /// assert_eq!(path, [1, 2]);
 /// assert_eq!(word[..reading.length], [1, 2]);
+///
+/// // With b barred in the second column the cheapest path is another one.
+/// let matrix = Matrix { costs: &[5, 1, 9, 5, 9, BARRED], ..matrix };
+/// let reading = decode(&form, matrix, &mut path, &mut word, &mut work).unwrap();
+/// assert_eq!(reading.price, 6);
+/// assert_eq!(path, [1, 0]);
+///
+/// // With a barred in both there is no reading, although there are columns enough.
+/// let matrix = Matrix { costs: &[5, BARRED, 9, 5, BARRED, 2], ..matrix };
+/// let reading = decode(&form, matrix, &mut path, &mut word, &mut work);
+/// assert_eq!(reading, Err(Refusal::NoReading));
 /// ```
 ///
 /// Refusals: [`Refusal::BadForm`], [`Refusal::Matrix`], [`Refusal::Cost`], [`Refusal::OutputMemory`], [`Refusal::Work`],
@@ -219,8 +235,9 @@ pub fn decode(
     })
 }
 
-/// Writes the form of an expression over an alphabet, the cheapest path of one label for each column whose collapse is a word
-/// of the expression, among equally cheap ones the first by labels, and that word as characters. The crate's example calls it.
+/// Writes the form of an expression over an alphabet, the cheapest path of one label for each column, none of them barred, whose
+/// collapse is a word of the expression, among equally cheap ones the first by labels, and that word as characters. The crate's
+/// example calls it.
 ///
 /// A form of L letters needs [`work_words`] for L; those may hold anything afterwards. L is in bits 0 to 7 of the form's first
 /// word, which is in the form memory after [`Refusal::Work`] too.
@@ -262,7 +279,15 @@ pub fn read(
     Refusal::check(number).map(|()| TextReading::of(counts))
 }
 
-/// Writes one cost for each confidence.
+/// Writes one cost for each confidence c: [`BARRED`] for 0, else the largest whole n with 2ⁿ × c⁸ ≤ 2⁶⁴.
+///
+/// ```
+/// use kavurehy::BARRED;
+///
+/// let mut costs = [9; 4];
+/// assert_eq!(kavurehy::costs(&[255, 128, 1, 0], &mut costs), Ok(()));
+/// assert_eq!(costs, [0, 8, 64, BARRED]);
+/// ```
 ///
 /// Refusal: [`Refusal::OutputMemory`] if `costs` is shorter than `confidences`.
 pub fn costs(confidences: &[u8], costs: &mut [u32]) -> Result<(), Refusal> {

@@ -18,9 +18,11 @@ pub enum Refusal {
     FormMemory,
     BadForm,
     Matrix,
+    /// A cost over 1,000,000, except [`BARRED`](crate::BARRED).
     Cost,
     OutputMemory,
     Work,
+    /// No path without a barred label collapses to an accepted word; this may be so although there are columns enough.
     NoReading,
     Label,
     /// Given by the sheet program alone.

@@ -2,6 +2,7 @@
 //! beginning this is one state, so a path leads to one node only, and the first of the cheapest paths by labels is found by
 //! taking the lowest label at each column.
 use super::expression::Tree;
+use super::matrix::usable;
 use super::search::Best;
 use std::collections::{BTreeMap, BTreeSet};
 use std::rc::Rc;
@@ -84,9 +85,9 @@ impl Machine {
     }
 }
 
-/// What a step costs, with the least price from there.
+/// What a step costs, with the least price from there; none if its label is barred.
 fn total(column: &[u32], next: &[Option<u32>], &(x, to): &(u8, usize)) -> Option<u32> {
-    next[to].map(|rest| column[usize::from(x)] + rest)
+    Some(usable(column[usize::from(x)])? + next[to]?)
 }
 
 /// The nodes of paths: a state and the path's last label, at first 0; and the steps from each node, by ascending label.

@@ -1,6 +1,6 @@
-//! Document 01 in plain Rust, as close to its sentences as possible, with the classes of document 02. Nothing here is taken from
-//! the Rattle code; parser, matcher and search use other methods, and `ranked` breaks ties in another way. `input` makes random
-//! input, `tally` counts answers.
+//! Document 01 in plain Rust, as close to its sentences as possible, with two requests of document 02: classes of characters (T-01)
+//! and barred labels (T-06). Nothing here is taken from the Rattle code; parser, matcher and search use other methods, and `ranked`
+//! breaks ties in another way. `input` makes random input, `tally` counts answers.
 
 pub mod bracket;
 pub mod call;
@@ -16,6 +16,8 @@ pub mod search;
 pub mod sheet;
 pub mod tally;
 pub mod words;
+
+use matrix::BARRED;
 
 /// First merge each run of equal neighbours into one, then delete blanks.
 pub fn collapse(path: &[u8]) -> Vec<u8> {
@@ -37,10 +39,10 @@ pub fn spread(word: &[u8]) -> Vec<u8> {
     path
 }
 
-/// The largest whole n with 2ⁿ × c⁸ ≤ 2⁶⁴; 72 for 0.
+/// The largest whole n with 2ⁿ × c⁸ ≤ 2⁶⁴; for 0 the label is barred.
 pub fn cost(confidence: u8) -> u32 {
     if confidence == 0 {
-        return 72;
+        return BARRED;
     }
     let power = u128::from(confidence).pow(8);
     let most = (0..64).take_while(|n| (power << (n + 1)) <= 1 << 64);

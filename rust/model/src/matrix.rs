@@ -1,5 +1,13 @@
 //! What Decode and Read are given besides a form or a text, and refusals 12 to 15.
 
+/// The cost of a barred label.
+pub const BARRED: u32 = 4_294_967_295;
+
+/// The cost if a path may use the label; none if the label is barred.
+pub fn usable(cost: u32) -> Option<u32> {
+    (cost != BARRED).then_some(cost)
+}
+
 /// A matrix, and how much memory is lent.
 #[derive(Clone, Debug)]
 pub struct Line {
@@ -23,7 +31,7 @@ impl Line {
         if self.columns > 255 || self.width != width || self.costs.len() != self.columns * width {
             return Err(12);
         }
-        if self.costs.iter().any(|&c| c > 1_000_000) {
+        if self.costs.iter().any(|&c| c > 1_000_000 && c != BARRED) {
             return Err(13);
         }
         if self.path < self.columns || self.word < self.columns {

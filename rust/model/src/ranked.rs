@@ -2,6 +2,7 @@
 //! label wins, then the place whose own best rest comes first in the order of labels: for that, the rests of each column are
 //! ranked.
 use super::form::Form;
+use super::matrix::usable;
 use super::search::Best;
 
 /// Where a path is: on a letter, or in the blanks after one; letter 0 means none yet.
@@ -66,11 +67,12 @@ fn ends(form: &Form, places: &[Place]) -> Row {
     places.iter().map(|p| may_end(p).then_some(end)).collect()
 }
 
-/// The rests at a column, by those at the next.
+/// The rests at a column, by those at the next; no step takes a barred label.
 fn row(steps: &[Vec<(u8, usize)>], column: &[u32], next: &Row) -> Row {
     let offer = |&(x, to): &(u8, usize)| {
+        let cost = usable(column[usize::from(x)])?;
         let rest = next[to]?;
-        Some((column[usize::from(x)] + rest.price, x, rest.rank, to))
+        Some((cost + rest.price, x, rest.rank, to))
     };
     let found: Vec<_> = steps
         .iter()

@@ -4,7 +4,7 @@ use crate::collapse;
 use crate::derivatives::Machine;
 use crate::expression::Tree;
 use crate::form::Form;
-use crate::matrix::Line;
+use crate::matrix::{Line, BARRED};
 use crate::ranked::ranked;
 use crate::search::Best;
 use std::rc::Rc;
@@ -18,10 +18,11 @@ pub struct Sheet {
 }
 
 impl Sheet {
-    /// Alphabet line, expression line, then one line for each column: numbers with one space between.
+    /// Alphabet line, expression line, then one line for each column: costs with one space between.
     pub fn write(&self) -> Vec<u8> {
         let mut lines = vec![self.alphabet.clone(), self.text.clone()];
-        lines.extend(self.columns.iter().map(|column| numbers(column)));
+        let line = |column: &Vec<u32>| spaced(column.iter().map(write_cost));
+        lines.extend(self.columns.iter().map(line));
         let closed = |line: Vec<u8>| [line, b"\n".to_vec()].concat();
         lines.into_iter().flat_map(closed).collect()
     }
@@ -34,7 +35,7 @@ impl Sheet {
         let [alphabet, text, columns @ ..] = &lines[..] else {
             return None;
         };
-        let column = |line: &&[u8]| line.split(|&b| b == b' ').map(number).collect();
+        let column = |line: &&[u8]| line.split(|&b| b == b' ').map(read_cost).collect();
         let sheet = Sheet {
             alphabet: alphabet.to_vec(),
             text: text.to_vec(),
@@ -43,11 +44,12 @@ impl Sheet {
         (sheet.within_limits() && input.len() <= 65_535 && sheet.write() == input).then_some(sheet)
     }
 
-    /// Equal columns, 16,384 costs at most, numbers of 7 digits at most.
+    /// Equal columns, 16,384 costs at most, each barred or of 7 digits at most.
     fn within_limits(&self) -> bool {
         let equal = self.columns.windows(2).all(|c| c[0].len() == c[1].len());
         let costs = self.columns.concat();
-        equal && costs.len() <= 16_384 && costs.iter().all(|&c| c <= 9_999_999)
+        let short = |&c: &u32| c <= 9_999_999 || c == BARRED;
+        equal && costs.len() <= 16_384 && costs.iter().all(short)
     }
 
     /// The call of Read that the program makes.
@@ -69,14 +71,24 @@ impl Sheet {
     }
 }
 
-fn number(digits: &[u8]) -> Option<u32> {
-    std::str::from_utf8(digits).ok()?.parse().ok()
+/// A cost in decimal, or `-` for a barred label.
+fn write_cost(cost: &u32) -> String {
+    match *cost {
+        BARRED => "-".to_string(),
+        number => number.to_string(),
+    }
 }
 
-/// Numbers in decimal with one space between.
-fn numbers<T: ToString>(list: &[T]) -> Vec<u8> {
-    let decimals: Vec<String> = list.iter().map(T::to_string).collect();
-    decimals.join(" ").into_bytes()
+fn read_cost(item: &[u8]) -> Option<u32> {
+    match item {
+        b"-" => Some(BARRED),
+        digits => std::str::from_utf8(digits).ok()?.parse().ok(),
+    }
+}
+
+/// Items with one space between.
+fn spaced(items: impl Iterator<Item = String>) -> Vec<u8> {
+    items.collect::<Vec<_>>().join(" ").into_bytes()
 }
 
 /// The best path: by a search over all lists of labels if they are few, else by two other methods, or by one of them if there
@@ -102,8 +114,9 @@ pub fn answer(input: &[u8]) -> (u32, Vec<u8>) {
         Err(number) => refused(number),
         Ok(Best { price, path }) => {
             let word = call.characters(&collapse(&path));
-            let lines = [numbers(&[price]), word, numbers(&path), Vec::new()];
-            (0, lines.join(&b'\n'))
+            let price = price.to_string().into_bytes();
+            let path = spaced(path.iter().map(u8::to_string));
+            (0, [price, word, path, Vec::new()].join(&b'\n'))
         }
     }
 }

@@ -3,6 +3,7 @@
 //! high, its neighbours in handwriting lower, turned into costs by the proved call.
 //!
 //!     cargo run --release --offline --bin mast -- ../examples/mast
+use kavurehy::BARRED;
 use std::{env, fmt::Write as _, fs, path::Path};
 
 const ALPHABET: &str = "FLR 0123456789.";
@@ -80,13 +81,21 @@ fn line(random: &mut Random, written: &str) -> Vec<Vec<u8>> {
     columns
 }
 
+/// A cost as it is in a sheet.
+fn item(cost: &u32) -> String {
+    match *cost {
+        BARRED => "-".to_string(),
+        number => number.to_string(),
+    }
+}
+
 fn sheet(columns: &[Vec<u8>]) -> String {
     let mut sheet = format!("{ALPHABET}\n{TEXT}\n");
     for confidences in columns {
         let mut costs = vec![0; confidences.len()];
         kavurehy::costs(confidences, &mut costs).expect("as much memory as confidences");
-        let numbers: Vec<String> = costs.iter().map(u32::to_string).collect();
-        writeln!(sheet, "{}", numbers.join(" ")).expect("writing to memory");
+        let items: Vec<String> = costs.iter().map(item).collect();
+        writeln!(sheet, "{}", items.join(" ")).expect("writing to memory");
     }
     sheet
 }

@@ -15,9 +15,9 @@ use model::tally::Tally;
 
 /// A call of Decode.
 #[derive(Clone, Debug)]
-struct Call {
-    form: Vec<u32>,
-    line: Line,
+pub struct Call {
+    pub form: Vec<u32>,
+    pub line: Line,
 }
 
 /// What it answers and writes: the number, the price with the word's length, and all lent memory.
@@ -37,7 +37,7 @@ impl Call {
     }
 
     /// A valid form, and a matrix small enough to try all lists of labels.
-    fn small(r: &mut Random) -> Call {
+    pub fn small(r: &mut Random) -> Call {
         let form = random_form(r, 4, 5);
         let columns = r.from(0, few_columns(form.k.into()));
         Call::proper(r, &form, columns)
@@ -133,7 +133,7 @@ impl Call {
     }
 
     /// The same with both methods of search.
-    fn hold_small(&self, tally: &mut Tally) -> Result<Best, u32> {
+    pub fn hold_small(&self, tally: &mut Tally) -> Result<Best, u32> {
         let line = &self.line;
         self.hold(tally, |form| {
             let best = exhaustive(form.k, &line.costs, line.columns, |w| form.accepts(w));
@@ -218,7 +218,10 @@ fn too_many_columns() {
     for columns in [255, 256, 257, 1000] {
         let mut form = random_form(&mut r, 3, 3);
         form.empty = true;
-        let call = Call::proper(&mut r, &form, columns);
+        let call = Call {
+            form: form.words(),
+            line: Line::unbarred(&mut r, form.k.into(), form.letters.len(), columns),
+        };
         let answer = call.hold_long(&mut tally);
         assert_eq!(answer.err(), (columns > 255).then_some(12));
     }

@@ -1,7 +1,7 @@
 //! Collapse, Spread and the costs of confidences.
 use crate::support::{number, Lent};
 use crate::LEAST;
-use kavurehy::{raw, Refusal};
+use kavurehy::{raw, Refusal, BARRED};
 use model::input::{random, Random};
 use model::tally::Tally;
 use std::{fs, path::Path};
@@ -119,9 +119,10 @@ fn costs() {
     let mut all = Lent::new(256);
     assert_eq!(kavurehy::costs(&every, all.memory()), Ok(()));
     all.wrote(&every.iter().map(|&c| model::cost(c)).collect::<Vec<u32>>());
-    for (confidence, cost) in [(255, 0), (182, 3), (181, 4), (128, 8), (1, 64), (0, 72)] {
+    for (confidence, cost) in [(255, 0), (182, 3), (181, 4), (128, 8), (1, 64), (0, BARRED)] {
         assert_eq!(all.memory()[confidence], cost);
     }
+    assert_eq!(BARRED, 4_294_967_295);
 
     let mut r = random("costs");
     let mut tally = Tally::default();

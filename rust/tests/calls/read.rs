@@ -96,7 +96,7 @@ fn too_many_columns() {
             alphabet: b"ab".to_vec(),
             text: b"(a|b)*".to_vec(),
             form: 7,
-            line: Line::random(&mut r, 2, 2, columns),
+            line: Line::unbarred(&mut r, 2, 2, columns),
         };
         let answer = hold(&call, &mut tally, |_, form| ranked(form, &call.line.costs));
         assert_eq!(answer.err(), (columns > 255).then_some(12));

@@ -2,7 +2,7 @@
 use crate::{prints, refuses};
 
 /// Over the alphabet `ab`: this text and these columns print these lines. Lines are written with `/` between.
-fn line(text: &str, columns: &str, lines: &str) {
+pub fn line(text: &str, columns: &str, lines: &str) {
     let sheet = format!("ab/{text}/{columns}").replace('/', "\n");
     prints(sheet.as_bytes(), &lines.replace('/', "\n"));
 }

@@ -2,12 +2,12 @@
 use crate::refusals::{columns, refused};
 use crate::{prints, refuses};
 
-fn is_refused(input: &[u8]) {
+pub fn is_refused(input: &[u8]) {
     refuses(input, 18);
 }
 
 /// Column lines that make no sheet, with `|` between; a newline is written `/`.
-fn are_refused(columns: &str) {
+pub fn are_refused(columns: &str) {
     for lines in columns.split('|') {
         is_refused(format!("ab/a*/{lines}").replace('/', "\n").as_bytes());
     }
@@ -55,18 +55,25 @@ fn unequal_columns() {
     are_refused("0 0 0/0 0/|0 0/0 0 0/|0 0 0/0 0 0/0 0 0 0/|0/0 0 0/|0 0 0/0/0 0 0/");
 }
 
-/// Every byte except digits in the place of a digit, of a space and of the final newline.
+/// Every byte except digits in the place of a digit, of a space and of the final newline. In the place of a digit `-` bars the label.
 #[test]
 fn every_other_byte() {
     let sheet = b"ab\na*\n7 7 7\n7 7 7\n";
+    let with = |place: usize, byte: u8| {
+        let mut changed = *sheet;
+        changed[place] = byte;
+        changed
+    };
     for place in [6, 7, 8, 12, 13, 17] {
-        let other = |byte: &u8| *byte != sheet[place] && !byte.is_ascii_digit();
+        let barred = |byte: u8| byte == b'-' && sheet[place] == b'7';
+        let other = |byte: &u8| *byte != sheet[place] && !byte.is_ascii_digit() && !barred(*byte);
         for byte in (0..=255).filter(other) {
-            let mut damaged = *sheet;
-            damaged[place] = byte;
-            is_refused(&damaged);
+            is_refused(&with(place, byte));
         }
     }
+    prints(&with(6, b'-'), "14\na\n1 0\n");
+    prints(&with(8, b'-'), "14\n\n0 0\n");
+    prints(&with(12, b'-'), "14\na\n0 1\n");
 }
 
 /// A sheet of this number of equal columns for the first K characters.

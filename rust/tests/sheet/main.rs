@@ -1,6 +1,7 @@
 //! The sheet program as a process, against document 01: `target/bin/sheet`, which `rt check sheet` builds. What is written here by
 //! hand must hold for the program and for the model.
 
+mod barred;
 mod document;
 mod examples;
 mod layout;

@@ -30,7 +30,11 @@ pub fn refused() -> Vec<(u32, Vec<Vec<u8>>)> {
         ),
         (
             16,
-            vec![b"ab\na\n".to_vec(), b"ab\naa\n0 0 0\n0 0 0\n".to_vec()],
+            vec![
+                b"ab\na\n".to_vec(),
+                b"ab\naa\n0 0 0\n0 0 0\n".to_vec(),
+                b"ab\na\n0 - 0\n".to_vec(),
+            ],
         ),
         (19, texts("[[:a:]] [[::]] a[^[:Alpha:]] [[:x:]c] [[:a]b:]]")),
     ]

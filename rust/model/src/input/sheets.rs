@@ -3,6 +3,7 @@ use super::texts::{bad_alphabet, damage, many_letters};
 use super::writer::expression;
 use super::Random;
 use crate::call::Call;
+use crate::matrix::BARRED;
 use crate::sheet::Sheet;
 
 impl Sheet {
@@ -45,8 +46,9 @@ impl Sheet {
                 self.columns = more.cloned().collect();
             }
             _ if columns > 0 => {
-                let cost = *r.pick(&[1_000_001, 9_999_999, 10_000_000]);
-                self.columns[any][0] = cost;
+                let seven = *r.pick(&[1_000_001, 9_999_999]);
+                let more = *r.pick(&[10_000_000, BARRED - 1]);
+                self.columns[any][0] = if r.chance(67) { seven } else { more };
             }
             _ => {}
         }
@@ -64,13 +66,22 @@ pub fn edit(r: &mut Random, bytes: &mut Vec<u8>) {
     } else {
         r.bits() as u8
     };
-    match r.below(8) {
+    match r.below(9) {
         0 if n < bytes.len() => drop(bytes.remove(n)),
         1 if n < bytes.len() => bytes[n] = byte,
         2 | 3 => bytes.insert(n, byte),
         4 if n.max(m) < bytes.len() => bytes.swap(n, m),
         5 => bytes.truncate(n),
         6 => drop(bytes.drain(n.min(m)..n.max(m))),
+        7 => spell(bytes, n),
         _ => drop(bytes.pop()),
+    }
+}
+
+/// Writes the first `-` from this place on as the number of a barred label.
+fn spell(bytes: &mut Vec<u8>, from: usize) {
+    let found = bytes[from..].iter().position(|&b| b == b'-');
+    if let Some(n) = found {
+        bytes.splice(from + n..=from + n, BARRED.to_string().into_bytes());
     }
 }

@@ -2,6 +2,7 @@
 use crate::forms::CHARACTERS;
 use crate::generator::Random;
 use crate::tables::COLUMNS;
+use kavurehy::BARRED;
 use std::hint::black_box;
 use std::time::{Duration, Instant};
 
@@ -23,10 +24,10 @@ static TABLE: [u32; 256] = {
     table
 };
 
-/// The largest n with 2ⁿ × c⁸ ≤ 2⁶⁴, found by a loop from 64 down; 72 for 0.
+/// The largest n with 2ⁿ × c⁸ ≤ 2⁶⁴, found by a loop from 64 down; for 0 the label is barred.
 const fn rule(c: u8) -> u32 {
     if c == 0 {
-        return 72;
+        return BARRED;
     }
     let power = (c as u64).pow(8);
     let (mut n, mut limit) = (64, 1_u64);

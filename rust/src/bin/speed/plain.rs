@@ -1,6 +1,6 @@
 //! The plain loop, the baseline: a table of costs to go, each state of each column by all its steps, and the cheapest path
 //! traced forward, the lowest label first, through all equally cheap states. It takes the form and the matrix as they are,
-//! unchecked, and writes no word. `STATES` is 2L + 1, `WIDTH` is K + 1.
+//! unchecked, and writes no word. No label may be barred. `STATES` is 2L + 1, `WIDTH` is K + 1.
 
 /// No way to the end; costs of 255 columns added to it do not overflow.
 const NONE: u32 = 1_000_000_000;

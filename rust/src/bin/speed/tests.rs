@@ -1,4 +1,5 @@
-//! The decoders agree: all three on small forms with many ties, peer and Decode also on what is turned away. And Decode and Costs are fast.
+//! The decoders agree: all three on small forms with many ties, peer and Decode also on barred labels and on what is turned away. And
+//! Decode and Costs are fast.
 use crate::costs;
 use crate::forms::{random_arcs, Form};
 use crate::generator::Random;
@@ -117,6 +118,22 @@ fn refusals_agree() {
         seen[answer.reading.map_or_else(Refusal::number, |_| 0) as usize] += 1;
     }
     assert!(seen[11..=15].iter().all(|&count| count > 50), "{seen:?}");
+}
+
+/// Peer and Decode on matrices with barred labels, which the plain loop does not take.
+#[test]
+fn barred_labels_agree() {
+    let mut r = model::input::random("barred_labels_agree");
+    let mut seen = [0; 2];
+    for _ in 0..4000 {
+        let (letters, k, columns) = (1 + r.below(9), 1 + r.below(6), 1 + r.below(9));
+        let form = small_form(&mut Random(r.bits()), letters, k);
+        let mut line = Line::unbarred(&mut r, k, letters, columns);
+        line.bar(&mut r);
+        let answer = Answer::by_both(&form, &line);
+        seen[usize::from(answer.reading.is_err())] += 1;
+    }
+    assert!(seen.iter().all(|&count| count > 500), "{seen:?}");
 }
 
 /// No contract says how fast Decode is, so a slow search would be noticed here: the request's factor against the peer, and ratios

@@ -1,5 +1,5 @@
 //! What is turned away: refusals 11 to 15.
-use kavurehy::{work_words, Matrix, Refusal};
+use kavurehy::{work_words, Matrix, Refusal, BARRED};
 
 /// Is the list a valid form?
 pub fn is_form(list: &[u32]) -> bool {
@@ -50,7 +50,7 @@ pub fn check_matrix(head: u32, matrix: Matrix<'_>, lent: [usize; 3]) -> Result<(
     if columns > 255 || width != characters as usize + 1 || costs.len() != columns * width {
         return Err(Refusal::Matrix);
     }
-    if !all(costs, |c| c <= 1_000_000) {
+    if !all(costs, |c| c <= 1_000_000 || c == BARRED) {
         return Err(Refusal::Cost);
     }
     let [path, word, work] = lent;

@@ -70,10 +70,11 @@ struct Column<'a> {
 }
 
 impl Column<'_> {
-    /// Does a step to this state by this label lie on a cheapest path?
+    /// Does a step to this state by this label lie on a cheapest path? The sum has 64 bits, since the label may be barred.
     #[inline(always)]
     fn is_cheapest(&self, label: u8, state: u8) -> bool {
-        self.costs[usize::from(label)] + self.row[usize::from(state)] == self.left
+        let (cost, rest) = (self.costs[usize::from(label)], self.row[usize::from(state)]);
+        u64::from(cost) + u64::from(rest) == u64::from(self.left)
     }
 }
 
