@@ -18,7 +18,8 @@
    A call keeps no pointer and no state. Calls from several threads at once are safe if they share no lent memory: the lent memory of one
    call must not overlap any list of another. Const lists may be shared.
 
-   Labels 1 to K are the characters of the alphabet in their order, and 0 is the blank. A form is a list of 32-bit words; its first word has
+   Labels 1 to K are the characters of the alphabet in their order, and 0 is the blank. A column of a matrix has the costs of labels 0 to K:
+   each is at most 1,000,000, or KAVUREHY_BARRED if the label is barred in that column. A form is a list of 32-bit words; its first word has
    L, the number of letters, in bits 0 to 7, and K in bits 16 to 23. Decode and read need (columns + 1) * (2 * L + 1) work words. No call
    needs more than 65,280, that is 256 * 255, for 255 columns and 127 letters.
 
@@ -37,11 +38,12 @@
      10 form memory    shorter than the form
      11 bad form       the list is no valid form
      12 matrix         more than 255 columns, a width other than K + 1, or a list whose length is not columns * width
-     13 cost           a cost over 1,000,000
+     13 cost           a cost over 1,000,000, except KAVUREHY_BARRED
      14 output memory  decode, read: path or word memory shorter than the number of columns; collapse: shorter than the path;
                        spread: shorter than the path needed; costs: shorter than the number of confidences
      15 work           fewer than (columns + 1) * (2 * L + 1) words
-     16 no reading     no path with one label for each column collapses to a word that the form accepts (read: to a word of the expression)
+     16 no reading     no path with one label for each column, none of them barred there, collapses to a word that the form accepts (read:
+                       to a word of the expression)
      17 label          K not 1 to 95, a label over K, 0 in a word, or a list longer than 255
      19 class name     a class [:name:] in a bracket whose name is not one of alnum alpha blank cntrl digit graph lower print punct space
                        upper xdigit
@@ -54,6 +56,9 @@
 
 #include <stddef.h>
 #include <stdint.h>
+
+/* The cost of a barred label. */
+#define KAVUREHY_BARRED UINT32_C(4294967295)
 
 #ifdef __cplusplus
 extern "C" {
@@ -78,11 +83,11 @@ uint32_t kavurehy_collapse(size_t k, const uint8_t *path, size_t path_length, ui
    Writes the path's length to counts[0]. Returns 0, or a refusal: 14 (path memory shorter than that), 17. */
 uint32_t kavurehy_spread(size_t k, const uint8_t *word, size_t word_length, uint8_t *path, size_t path_memory, uint32_t counts[1]);
 
-/* Reads a matrix, its columns one after another, each with the costs of labels 0 to K. Writes to path a path with one label for each
-   column, and to word the word that it collapses to, which the form accepts. Writes the price, the sum of the path's costs, to counts[0],
-   and the word's length to counts[1]. No other path of that length whose collapse the form accepts is cheaper, and each that is as cheap
-   comes later in the order of the labels. The needed work words, (columns + 1) * (2 * L + 1) for a form of L letters, may hold anything
-   afterwards; the others are as they were. Returns 0, or a refusal: 11 to 16. */
+/* Reads a matrix, its columns one after another. Writes to path a path with one label for each column, none of them barred there, and to
+   word the word that it collapses to, which the form accepts. Writes the price, the sum of the path's costs, to counts[0], and the word's
+   length to counts[1]. No other such path is cheaper, and each that is as cheap comes later in the order of the labels. The needed work
+   words, (columns + 1) * (2 * L + 1) for a form of L letters, may hold anything afterwards; the others are as they were. Returns 0, or a
+   refusal: 11 to 16. */
 uint32_t kavurehy_decode(const uint32_t *form, size_t form_length, const uint32_t *costs, size_t costs_length, size_t width, size_t columns,
                          uint8_t *path, size_t path_memory, uint8_t *word, size_t word_memory, uint32_t *work, size_t work_memory,
                          uint32_t counts[2]);
@@ -97,7 +102,8 @@ uint32_t kavurehy_read(const uint8_t *alphabet, size_t alphabet_length, const ui
                        size_t costs_length, size_t width, size_t columns, uint32_t *form, size_t form_memory, uint8_t *path,
                        size_t path_memory, uint8_t *word, size_t word_memory, uint32_t *work, size_t work_memory, uint32_t counts[3]);
 
-/* Writes to costs one cost for each confidence c: 72 for 0, else the largest whole n with 2^n * c^8 <= 2^64. Returns 0, or refusal 14. */
+/* Writes to costs one cost for each confidence c: KAVUREHY_BARRED for 0, else the largest whole n with 2^n * c^8 <= 2^64. Returns 0, or
+   refusal 14. */
 uint32_t kavurehy_costs(const uint8_t *confidences, size_t confidences_length, uint32_t *costs, size_t costs_memory);
 
 #ifdef __cplusplus

@@ -1,4 +1,4 @@
-// The cost of each confidence c, 0 to 255; from 1 on it is the largest whole n with 2^n * c^8 <= 2^64.
+// The cost of each confidence c: for 0 that of a barred label, for 1 to 255 the largest whole n with 2^n * c^8 <= 2^64.
 // Printed by the program confidence_table.
 pub const COSTS: [u32; 256] = [
     4294967295, // 0

@@ -10,7 +10,7 @@ use libc::STDOUT_FILENO;
 fn head() {
     io::write_all(
         STDOUT_FILENO,
-        b"// The cost of each confidence c, 0 to 255; from 1 on it is the largest whole n with 2^n * c^8 <= 2^64.\n",
+        b"// The cost of each confidence c: for 0 that of a barred label, for 1 to 255 the largest whole n with 2^n * c^8 <= 2^64.\n",
     );
     io::write_all(
         STDOUT_FILENO,

@@ -5,7 +5,8 @@ use mathlib.Core.Logic.{inl, inr}
 use native.Mathlib.Omega.{arith}
 use denote.Ref.{now}
 use Rattle.matrix.specs.Matrix.{Matrix, matrix, BARRED, cost, price}
-use Rattle.matrix.specs.Paths.{Usable, PathOf, Passing, Unbarred}
+use Rattle.matrix.specs.Barred.{Unbarred}
+use Rattle.matrix.specs.Paths.{Usable, PathOf, Passing}
 use Rattle.matrix.specs.View.{value}
 use Rattle.matrix.specs.declared.Matrix.{Matrix as View}
 

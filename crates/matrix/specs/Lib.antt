@@ -1,4 +1,5 @@
 pub mod Matrix
+pub mod Barred
 pub mod Paths
 pub mod PathsLaws
 pub mod MatrixLaws

@@ -28,15 +28,3 @@ Passing c = Usable c ⊎ (c ≡ BARRED)
 -- refusal 13 turns away no cost of the matrix
 abbrev pub CostsPass : Matrix → Type 0
 CostsPass M = Each Passing (M .costs)
-
--- no label of the list is barred in its column, where the first label is in column t
-abbrev pub UnbarredFrom : Matrix → ℕ → List ℕ → Type 0
-UnbarredFrom M t [] = Unit {0}
-UnbarredFrom M t (x ∷ p) = (cost M t x ≡ BARRED → ⊥) × UnbarredFrom M (t + 1) p
-
-abbrev pub Unbarred : Matrix → List ℕ → Type 0
-Unbarred M p = UnbarredFrom M 0 p
-
--- no label is barred in any column
-abbrev pub NoneBarred : Matrix → Type 0
-NoneBarred M = Each (λ c. c ≡ BARRED → ⊥) (M .costs)

@@ -9,7 +9,8 @@ use lib.ListN.{length}
 use Rattle.lists.specs.Each.{Each}
 use Rattle.lists.specs.EachLaws.{each-anywhere}
 use Rattle.matrix.specs.Matrix.{Matrix, BARRED, cost, priceFrom}
-use Rattle.matrix.specs.Paths.{Usable, PathFrom, Passing, CostsPass, UnbarredFrom, NoneBarred}
+use Rattle.matrix.specs.Barred.{UnbarredFrom, NoneBarred}
+use Rattle.matrix.specs.Paths.{Usable, PathFrom, Passing, CostsPass}
 
 -- a cost that passes is usable exactly if it is not that of a barred label
 pub passing-usable : (c : ℕ) → Passing c → Usable c ↔ (c ≡ BARRED → ⊥)

@@ -11,7 +11,8 @@ use Rattle.outcome.specs.BestLaws.{best-same, best-unique}
 use Rattle.lists.specs.Each.{Each}
 use Rattle.lists.specs.EachLaws.{each-map}
 use Rattle.matrix.specs.Matrix.{Matrix, price}
-use Rattle.matrix.specs.Paths.{CostsPass, NoneBarred}
+use Rattle.matrix.specs.Barred.{NoneBarred}
+use Rattle.matrix.specs.Paths.{CostsPass}
 use Rattle.matrix.specs.PathsLaws.{none-barred, path-labels, path-unbarred, unbarred-path}
 use Rattle.outcome.specs.OrderLaws.{order-antisymmetric}
 use Rattle.outcome.specs.Outcome.{Rival, OutcomeOf, Outcome}

@@ -6,7 +6,7 @@ use lib.ListN.{length}
 use Rattle.lists.specs.Each.{Each}
 use Rattle.ctc.specs.Collapse.{collapse}
 use Rattle.matrix.specs.Matrix.{Matrix}
-use Rattle.matrix.specs.Paths.{Unbarred}
+use Rattle.matrix.specs.Barred.{Unbarred}
 
 -- a list of labels, one for each column, each 0 to k, that uses no barred label and whose collapse is a word
 pub record Plain-rival (Word : List ℕ → Type 0) (k : ℕ) (M : Matrix) (p : List ℕ) : Type 0 where

@@ -17,7 +17,8 @@ use Rattle.ctc.specs.Collapse.{collapse}
 use Rattle.automaton.specs.Form.{lettersOf}
 use Rattle.automaton.specs.ValidLaws.{valid-parts}
 use Rattle.matrix.specs.Matrix.{Matrix, price}
-use Rattle.matrix.specs.Paths.{PathOf, Unbarred}
+use Rattle.matrix.specs.Barred.{Unbarred}
+use Rattle.matrix.specs.Paths.{PathOf}
 use Rattle.matrix.specs.PathsLaws.{path-unbarred, path-price}
 use Rattle.outcome.specs.Outcome.{Outcome}
 use Rattle.regex.specs.Grammar.{WordsOf}
