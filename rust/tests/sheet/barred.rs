@@ -38,7 +38,7 @@ fn no_reading() {
     }
 }
 
-/// Where a cost stands, and nowhere else: in the first two lines it is a character, and a sign of brackets.
+/// Only in the place of a cost: in the first two lines it is a character, and a sign of brackets.
 #[test]
 fn as_a_character() {
     prints(b"-\n-\n- 5\n", "5\n-\n1\n");
