@@ -50,14 +50,14 @@ fn decode_parts(
     }
 }
 
-// Document 01's Decode, for a form of L letters over K characters and a matrix of T columns. Of all paths, lists of T labels 0 to K, whose
-// CTC collapse the form accepts, it finds the cheapest, and among equals the first by labels.
+// Document 01's Decode, for a form of L letters over K characters and a matrix of T columns. Of all paths, lists of T labels 0 to K that use
+// no barred label, whose CTC collapse the form accepts, it finds the cheapest, and among equals the first by labels.
 // - On success it writes the path to the front of `path` and its collapse, as labels, to the front of `word`, and returns the price, which
 //   is the sum of the path's costs, and the length of the collapse.
 // - Refusal 16, no reading, means that there is no such path. It leaves `path` and `word` as they were.
 // - Refusals 11 to 15 leave all memory as it was: 11 the form is not valid; 12 T is over 255, the width is not K + 1, or the number of
-//   costs is not T × (K + 1); 13 a cost is over 1,000,000; 14 `path` or `word` is shorter than T; 15 `work` is shorter than
-//   (T + 1) × (2L + 1).
+//   costs is not T × (K + 1); 13 a cost is over 1,000,000 and not that of a barred label; 14 `path` or `word` is shorter than T; 15 `work`
+//   is shorter than (T + 1) × (2L + 1).
 // Success and refusal 16 may change these (T + 1) × (2L + 1) words. Memory after them, and after what is written, is as it was.
 //
 // `Decodes` is this promise; specs/Demands.antt has what it means for a caller, as theorems.
