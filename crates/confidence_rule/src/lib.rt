@@ -1,5 +1,5 @@
-// The cost of a confidence byte, computed by the eighth-power rule (document 01, "Confidences and the sheet program"). The program
-// `confidence_table` computes the table of costs by this crate.
+// The cost of a confidence byte, computed by the eighth-power rule (document 01, "Confidences and the sheet program"); that of 0 is the cost
+// of a barred label (document 02, T-06). The program `confidence_table` computes the table of costs by this crate.
 use matrix::BARRED;
 ghost use mathlib.Core.Path.{_≡_};
 ghost use Prim.Native.Nat.{_*_, _^_, _≤_};

@@ -3,13 +3,13 @@ use Prim.Native.Nat.{ℕ, _+_, _*_, _<_, _≤_}
 use mathlib.Core.Path.{_≡_, ap, _∙_}
 use mathlib.Core.Bool.{true, false, not, _||_}
 use mathlib.Core.List.{List, [], _∷_}
-use mathlib.Core.Logic.{inl, inr, ⊎-elim}
+use mathlib.Core.Logic.{_⊎_, inl, inr, ⊎-elim, _↔_}
 use native.Mathlib.Nat.{mul-le-mul}
 use native.Mathlib.Omega.{arith}
 use lib.ListN.{length}
 use lib.Dec.{leb, ltb, eqb}
-use borrow.Author.Tests.{lt-ltb, le-ltb, ltb-false, ne-eqb, eq-eqb, eqb-true, leb-true, not-false}
-use Rattle.lists.specs.OrderLaws.{or-either, or-neither}
+use borrow.Author.Tests.{lt-ltb, le-ltb, ltb-false, ne-eqb, eq-eqb, eqb-true, leb-true, le-leb, not-false}
+use Rattle.lists.specs.OrderLaws.{or-either, or-left, or-right, or-neither}
 use Rattle.lists.specs.EachLaws.{all-each}
 use Rattle.lists.specs.Each.{all}
 use Rattle.refusal.specs.declared.Refusal.the-variants.{Matrix as MatrixRefusal, Cost, OutputMemory, Work}
@@ -21,8 +21,13 @@ use Rattle.matrix.specs.Paths.{Passing}
 use Rattle.decode_checks.specs.Checks.{Rooms, needed, matrix-fault, passes, matrix-checks}
 use Rattle.decode_checks.specs.Passing.{Fits}
 
-cost-passing : (c : ℕ) → passes c ≡ true → Passing c
-cost-passing c h = ⊎-elim (λ l. inl (leb-true c 1000000 l)) (λ e. inr (eqb-true c BARRED e)) (or-either (leb c 1000000) (eqb c BARRED) h)
+-- refusal 13 lets through the costs up to 1,000,000 and 4,294,967,295, and no others
+pub passes-exactly : (c : ℕ) → (passes c ≡ true) ↔ ((c ≤ 1000000) ⊎ (c ≡ 4294967295))
+passes-exactly c = (
+  λ h. ⊎-elim (λ l. inl (leb-true c 1000000 l)) (λ e. inr (eqb-true c BARRED e)) (or-either (leb c 1000000) (eqb c BARRED) h),
+  ⊎-elim (λ l. or-left (leb c 1000000) (eqb c BARRED) (le-leb c 1000000 l))
+      (λ e. or-right (leb c 1000000) (eqb c BARRED) (eq-eqb c BARRED e)),
+)
 
 module _ (k : ℕ) (M : Matrix) where
   pub fault-count : 255 < M .count → matrix-fault k M ≡ true
@@ -112,7 +117,7 @@ module _ (k l : ℕ) (M : Matrix) (rooms : Rooms) where
         few = size .0;
         wide = size .1;
         full = size .2;
-        pass = all-each passes Passing cost-passing (M .costs) (not-false (all passes (M .costs)) (b .0));
+        pass = all-each passes Passing (λ c. passes-exactly c .0) (M .costs) (not-false (all passes (M .costs)) (b .0));
         path = ltb-false (rooms .path) (M .count) (room .0);
         word = ltb-false (rooms .word) (M .count) (room .1);
         work = ltb-false (rooms .work) (needed (M .count) l) (d .0);

@@ -62,7 +62,7 @@ pub extern "C" fn kavurehy_spread(
     hand_length(ctc_spread::spread(k, word, path), counts)
 }
 
-// Writes the cheapest path whose collapse the form accepts, and its word; price and word length to `counts`.
+// Writes the cheapest path, without barred labels, whose collapse the form accepts, and its word; price and word length to `counts`.
 #[no_mangle]
 pub extern "C" fn kavurehy_decode(
     form: &[u32],
@@ -83,8 +83,8 @@ pub extern "C" fn kavurehy_decode(
     )
 }
 
-// Writes the form of an expression, the cheapest path whose collapse is a word of it, and that word as characters; price, word length and
-// form length to `counts`.
+// Writes the form of an expression, the cheapest path, without barred labels, whose collapse is a word of it, and that word as characters;
+// price, word length and form length to `counts`.
 #[no_mangle]
 pub extern "C" fn kavurehy_read(
     alphabet: &[u8],

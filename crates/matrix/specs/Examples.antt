@@ -5,7 +5,7 @@ use mathlib.Core.Logic.{inl, inr}
 use native.Mathlib.Omega.{arith}
 use denote.Ref.{now}
 use Rattle.matrix.specs.Matrix.{Matrix, matrix, BARRED, cost, price}
-use Rattle.matrix.specs.Barred.{Unbarred}
+use Rattle.matrix.specs.Barred.{Unbarred, NoneBarred}
 use Rattle.matrix.specs.Paths.{Usable, PathOf, Passing}
 use Rattle.matrix.specs.View.{value}
 use Rattle.matrix.specs.declared.Matrix.{Matrix as View}
@@ -38,6 +38,9 @@ record Examples : Type 0 where
   used : (Unbarred barred (0 ∷ 0 ∷ []) → ⊥) × (Unbarred barred (1 ∷ 2 ∷ []) → ⊥)
   no-path : PathOf barred (0 ∷ 0 ∷ []) → ⊥
   unused : Unbarred barred (2 ∷ 0 ∷ []) × PathOf barred (2 ∷ 0 ∷ []) × (price barred (2 ∷ 0 ∷ []) ≡ 15)
+  -- a number that refusal 13 turns away bars no label
+  turned-away : Unbarred (matrix (1000001 ∷ []) 1 1) (0 ∷ [])
+  some-barred : NoneBarred two × (NoneBarred barred → ⊥)
   -- "its costs, its column width and its column count": each is the field of that name
   by-name : (v : View) → (value v .costs ≡ now (v .costs)) × (value v .width ≡ v .width) × (value v .count ≡ v .count)
 
@@ -65,6 +68,11 @@ examples = record {
     (λ e. omega arith, (λ e. omega arith, tt)),
     record { one-each = refl; labels = (omega arith, omega arith, (omega arith, omega arith, tt)) },
     refl,
+  );
+  turned-away = (λ e. omega arith, tt);
+  some-barred = (
+    (λ e. omega arith, (λ e. omega arith, (λ e. omega arith, (λ e. omega arith, (λ e. omega arith, (λ e. omega arith, tt)))))),
+    λ h. h .0 refl,
   );
   by-name = λ v. (refl, refl, refl);
 }

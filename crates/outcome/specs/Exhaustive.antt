@@ -14,6 +14,7 @@ use Rattle.lists.specs.Each.{Each}
 use Rattle.ctc.specs.Collapse.{merge, without-blanks, collapse}
 use Rattle.matrix.specs.Matrix.{Matrix, matrix, cost, price}
 use Rattle.matrix.specs.Paths.{PathFrom}
+use Rattle.matrix.specs.PathsLaws.{path-labels}
 use Rattle.outcome.specs.Outcome.{OutcomeOf, Outcome}
 use Rattle.outcome.specs.OutcomeLaws.{outcome-of-same}
 use Rattle.outcome.specs.ChoiceLaws.{not-after, preferred, better, outcome-either}
@@ -140,12 +141,11 @@ module _ (M : Matrix) where
     usable-path (t + 1) p (h .1) (and-right (leb (cost M t x) 1000000) (usable M (t + 1) p) e),
   )
 
-  path-usable : (t : ℕ) (p : List ℕ) → PathFrom M t p → Each (λ x. x < M .width) p × (usable M t p ≡ true)
+  path-usable : (t : ℕ) (p : List ℕ) → PathFrom M t p → usable M t p ≡ true
   unfolding usable
-  path-usable t [] h = (tt, refl)
+  path-usable t [] h = refl
   path-usable t (x ∷ p) h =
-      let r = path-usable (t + 1) p (h .2) in
-      ((h .0, r .0), and-both (leb (cost M t x) 1000000) (usable M (t + 1) p) (le-leb (cost M t x) 1000000 (h .1)) (r .1))
+      and-both (leb (cost M t x) 1000000) (usable M (t + 1) p) (le-leb (cost M t x) 1000000 (h .1)) (path-usable (t + 1) p (h .2))
 
   -- the outcome, where `test` decides the words
   unfoldable pub decided : (List ℕ → Bool) → Option (List ℕ)
@@ -163,11 +163,10 @@ module _ (M : Matrix) where
         word = to (collapse p) (and-right (usable M 0 p) (test (collapse p)) (h .passes));
       })
       (λ p r.
-      let u = path-usable 0 p (r .path .labels) in
       record {
         size = r .path .one-each;
-        labels = u .0;
-        passes = and-both (usable M 0 p) (test (collapse p)) (u .1) (from (collapse p) (r .word));
+        labels = path-labels M 0 p (r .path .labels);
+        passes = and-both (usable M 0 p) (test (collapse p)) (path-usable 0 p (r .path .labels)) (from (collapse p) (r .word));
       })
       (exhaustive (price M) (λ p. usable M 0 p && test (collapse p)) (M .width) (M .count))
       (exhaustive-outcome (price M) (λ p. usable M 0 p && test (collapse p)) (M .width) (M .count))

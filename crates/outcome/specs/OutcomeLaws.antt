@@ -1,4 +1,5 @@
--- There is one outcome, and it depends only on the words; past refusal 13 a rival is exactly what demand 3 says.
+-- There is one outcome, and it depends only on the words; past refusals 12 and 13 a rival is exactly what
+-- demand 3 says.
 use Prim.Native.Nat.{ℕ, _+_, _≤_, _<_}
 use mathlib.Core.Path.{_≡_, refl, ap}
 use mathlib.Core.Option.{Option, some, none}

@@ -1,4 +1,4 @@
--- Document 01's lines to try that are marked P, and two lines with barred labels (document 02, T-06), as one checked list: each case is data,
+-- Document 01's lines to try that are marked P, and four lines with barred labels (document 02, T-06), as one checked list: each case is data,
 -- one test is computed over all of them from the definitions, and one law turns the test into the statement.
 use Prim.Native.Nat.{ℕ, _+_}
 use Prim.Native.String.{String}
@@ -196,6 +196,8 @@ cases =
     ∷ compiles "ab" "ab*" (0x10020002 ∷ 0x20000301 ∷ 0x20000202 ∷ 0x30000102 ∷ 0x30000202 ∷ [])
     ∷ refuses "ab" "aa" (5 ∷ 1 ∷ 9 ∷ 4294967295 ∷ 1 ∷ 9 ∷ 5 ∷ 1 ∷ 9 ∷ []) 3 4 16
     ∷ reads "ab" "a" (4294967295 ∷ 7 ∷ 0 ∷ 0 ∷ 2 ∷ 0 ∷ []) 2 2 (1 ∷ 0 ∷ []) 7 "a"
+    ∷ reads "ab" "a|b" (0 ∷ 4294967295 ∷ 4 ∷ []) 1 3 (2 ∷ []) 4 "b"
+    ∷ refuses "ab" "a*" (0 ∷ 0 ∷ 0 ∷ 4294967295 ∷ 4294967295 ∷ 4294967295 ∷ []) 2 3 16
     ∷ []
 
 -- every case holds

@@ -15,13 +15,14 @@ use Rattle.lists.specs.EachLaws.{drop-here}
 use Rattle.lists.specs.OrderLaws.{and-left, and-right, or-either, or-left, or-right}
 use Rattle.text.specs.Digits.{digits, digit}
 use Rattle.sheet_format.specs.Sheet.{costOf}
+use Rattle.sheet_format.specs.CostLaws.{cost-exactly}
 use Rattle.sheet_format.specs.ColumnLinesLaws.{FirstCost, columnsIn-back, put, columnsIn-put}
 use Rattle.sheet_format.specs.ColumnLines.{Free, columnsIn}
 use Rattle.sheet_number.specs.Places.{part}
 use Rattle.sheet_number.specs.PlacesLaws.{part-rest}
 use Rattle.sheet_number.specs.Items.{separator, CostAt, ReadCost}
 use Rattle.sheet_number.specs.DigitsLaws.{digit-range, numeral-back}
-use Rattle.sheet_number.specs.CostsLaws.{cost-text, cost-begins}
+use Rattle.sheet_number.specs.CostsLaws.{cost-begins}
 use Rattle.sheet_number.specs.declared.Cost.the-variants as cost
 
 digits-free : (c : ℕ) (p : List ℕ) → c < 48 → digits p ≡ true → Free c p
@@ -33,7 +34,7 @@ digits-free c (b ∷ p) l h = (
 
 -- no byte of a cost is a separator
 cost-free : (c : ℕ) (p : List ℕ) (v : ℕ) → c < 45 → costOf p ≡ some v → Free c p
-cost-free c p v l h = ⊎-elim (λ e. rw e (λ q. omega arith, tt)) (λ n. digits-free c p (omega arith) (numeral-back p v n .are)) (cost-text p v h)
+cost-free c p v l h = ⊎-elim (λ b. rw (b .0) (λ q. omega arith, tt)) (λ n. digits-free c p (omega arith) (numeral-back p v n .are)) (cost-exactly p v .0 h)
 
 separator-is : (b : ℕ) → separator b ≡ true → (b ≡ 32) ⊎ (b ≡ 10)
 separator-is b s = ⊎-elim (λ k. inl (eqb-true b 32 k)) (λ k. inr (eqb-true b 10 k)) (or-either (eqb b 32) (eqb b 10) s)

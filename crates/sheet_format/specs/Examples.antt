@@ -2,8 +2,9 @@
 use mathlib.Core.Path.{_≡_, refl}
 use mathlib.Core.Option.{Option, some, none}
 use mathlib.Core.List.{List, [], _∷_, map, flatten}
-use mathlib.Core.Bool.{Bool, true, false}
+use mathlib.Core.Bool.{Bool, true, false, not}
 use Prim.Native.Nat.{ℕ}
+use Rattle.lists.specs.Lists.{keep, numbers}
 use Rattle.lists.specs.Each.{all}
 use Rattle.text.specs.Bytes.{bytes}
 use Rattle.lists.specs.Cases.{provided}
@@ -41,16 +42,18 @@ two-columns-matrix : matrixOf two-columns ≡ matrix (5 ∷ (1 ∷ (9 ∷ (5 ∷
 unfolding two-columns flatten
 two-columns-matrix = refl
 
--- "a sheet writes it as a lone `-`": first, last and between other costs
+-- "a sheet writes it as a lone `-`": first, last and between other costs, and in a whole column
 barred-columns : Sheet
 barred-columns =
     record {
       alphabet = bytes "ab";
       text = bytes "a";
-      columns = (4294967295 ∷ (1 ∷ (4294967295 ∷ []))) ∷ ((5 ∷ (4294967295 ∷ (0 ∷ []))) ∷ []);
+      columns =
+          (4294967295 ∷ (1 ∷ (4294967295 ∷ [])))
+          ∷ ((5 ∷ (4294967295 ∷ (0 ∷ []))) ∷ ((4294967295 ∷ (4294967295 ∷ (4294967295 ∷ []))) ∷ []));
     }
 
-barred-sheet : sheetOf (bytes "ab\na\n- 1 -\n5 - 0\n") ≡ some barred-columns
+barred-sheet : sheetOf (bytes "ab\na\n- 1 -\n5 - 0\n- - -\n") ≡ some barred-columns
 unfolding barred-columns sheetOf sheetFrom laid flatten columnOf costOf numeralOf closed every both pieces onto provided all
 barred-sheet = refl
 
@@ -100,6 +103,11 @@ no-costs : all (λ s. is-none (costOf (bytes s)))
     ≡ true
 unfolding all costOf numeralOf provided is-none
 no-costs = refl
+
+-- of the texts of one byte the digits and `-` are costs, and no others
+one-byte : keep (λ b. not (is-none (costOf (b ∷ [])))) (numbers 0 256) ≡ bytes "-0123456789"
+unfolding keep numbers costOf numeralOf provided is-none
+one-byte = refl
 
 no-sheets : all (λ s. is-none (sheetOf (bytes s)))
     (""

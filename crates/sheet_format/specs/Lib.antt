@@ -1,5 +1,6 @@
 pub mod Sheet
 pub mod Examples
+pub mod CostLaws
 pub mod ColumnLines
 pub mod ColumnLinesLaws
 pub mod LimitsLaws

@@ -7,7 +7,7 @@ use mathlib.Core.Logic.{⊎-elim}
 use Prim.Native.Nat.{ℕ, zero, suc, _+_, _*_, _-_, _^_, _<_, _≤_}
 use native.Mathlib.Omega.{arith}
 use native.Mathlib.Nat.{pow-suc, pow-le-pow-right}
-use lib.ListN.{length, getD, take, drop}
+use lib.ListN.{length, getD}
 use lib.Dec.{eqb, leb, lit<}
 use borrow.Author.Tests.{leb-true, le-leb, eqb-true, not-true}
 use Rattle.lists.specs.OrderLaws.{and-left, and-right, and-three, or-either, not-both, lt-or-le}
@@ -20,6 +20,7 @@ use Rattle.sheet_number.specs.PlacesLaws.{part-none, part-more, part-at,
 use Rattle.sheet_number.specs.declared.Cost.the-variants.{Is, Not}
 use Rattle.sheet_number.specs.Digits.{padded, Begun, Digits}
 use Rattle.sheet_number.specs.Items.{separator, NumberAt, ReadNumber}
+use Rattle.sheet_number.specs.ItemsLaws.{item-begins}
 use Rattle.text.specs.DigitsLaws.{digits-append, value-append}
 
 pub digit-range : (b : ℕ) → digit b ≡ true → (48 ≤ b) × (b ≤ 57)
@@ -72,8 +73,8 @@ module _ (input : List ℕ) (at : ℕ) where
         from = omega arith;
         within = l;
         few = omega arith;
-        are = rw (part-none input at);
-        makes = rw (part-none input at);
+        are = rw (part-none input at at (omega arith));
+        makes = rw (part-none input at at (omega arith));
         small = rw z (omega arith);
       }
 
@@ -118,16 +119,9 @@ separator-ends b s d =
     ⊎-elim (λ k. let q = eqb-true b 32 k in omega arith) (λ k. let q = eqb-true b 10 k in omega arith)
     (or-either (eqb b 32) (eqb b 10) s)
 
--- a number has a digit
-pub number-begins : (input : List ℕ) (at e v : ℕ) → NumberAt input at e v → at < e
-number-begins input at e v c = ⊎-elim (λ l. l) (λ l. absurd (empty l)) (lt-or-le at e)
-  where
-    empty : e ≤ at → ⊥
-    empty l =
-        let k : e - at ≡ 0 = omega arith in
-        let z : length (part at e input) ≡ 0 = ap (λ j. length (take j (drop at input))) k in
-        let n = numeral-back (part at e input) v (c .is) .some-digit in
-        omega arith
+number-begins : (input : List ℕ) (at e v : ℕ) → NumberAt input at e v → at < e
+unfolding numeralOf provided
+number-begins = item-begins numeralOf refl
 
 -- each byte of a part that is all digits is a digit
 digit-at : (input : List ℕ) (at e i : ℕ) → digits (part at e input) ≡ true → at ≤ i → i < e → e ≤ length input → digit (getD input i 0) ≡ true

@@ -40,8 +40,8 @@ part-at input at e i f l =
     let k : at + (i - at) ≡ i = omega arith in
     getD-take (e - at) (drop at input) (i - at) 0 (omega arith) ∙ getD-drop at input (i - at) 0 ∙ ap (λ j. getD input j 0) k
 
-pub part-none : (input : List ℕ) (at : ℕ) → part at at input ≡ []
-part-none input at = let k : at - at ≡ 0 = omega arith in ap (λ j. take j (drop at input)) k
+pub part-none : (input : List ℕ) (at e : ℕ) → e ≤ at → part at e input ≡ []
+part-none input at e l = let k : e - at ≡ 0 = omega arith in ap (λ j. take j (drop at input)) k
 
 -- the bytes before the first c
 record Found (c : ℕ) (s : List ℕ) (n : ℕ) : Type 0 where

@@ -6,7 +6,6 @@ use mathlib.Core.List.{List}
 use native.Mathlib.Omega.{arith}
 use lib.ListN.{length, getD, length-map}
 use Rattle.lists.specs.EachLaws.{each-map}
-use Rattle.refusal.specs.Number.{numberOf}
 use Rattle.ctc.specs.Collapse.{collapse}
 use Rattle.ctc.specs.CollapseLaws.{collapse-shorter}
 use Rattle.matrix.specs.Matrix.{Matrix, price}
@@ -14,7 +13,7 @@ use Rattle.matrix.specs.PathsLaws.{path-labels}
 use Rattle.read_spelling.specs.Spelling.{characters}
 use Rattle.sheet_lines.specs.LengthsLaws.{reading-short, refusal-short}
 use Rattle.sheet_read.specs.Answer.{longest, PrintsReading}
-use Rattle.sheet_read.specs.PrintedLaws.{PrintsRefusal, PrintsPath, reading-printed, printed-unbarred}
+use Rattle.sheet_read.specs.PrintedLaws.{PrintsRefusal, PrintsPath, reading-printed, printed-price}
 
 refusal-bound : (output : List ℕ) → PrintsRefusal output → length output ≤ longest
 refusal-bound output h = let e = ap length (h .line) in let l = refusal-short (h .refusal) in omega arith
@@ -27,7 +26,7 @@ path-bound A M output h =
     let n = h .is .one-each in
     let s = collapse-shorter p in
     let m = length-map (collapse p) (λ x. getD A (x - 1) 0) in
-    let most = printed-unbarred A M output h .0 in
+    let most = printed-price h in
     let e = ap length (h .lines) in
     let l =
     reading-short (price M p) (characters A (collapse p)) p (omega arith) (omega arith) (omega arith)

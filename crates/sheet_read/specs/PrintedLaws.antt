@@ -35,7 +35,7 @@ pub record PrintsRefusal (output : List ℕ) : Type 0 where
   pub refusal : Refusal
   pub line : output ≡ refusal-line (numberOf refusal)
 
--- the lines of a path through a matrix that passed the checks
+-- the lines of a path of at most 255 labels, each 0 to 95
 pub record PrintsPath (A : List ℕ) (M : Matrix) (output : List ℕ) : Type 0 where
   pub few : M .count ≤ 255
   pub narrow : M .width ≤ 96
@@ -70,10 +70,10 @@ module _ (A s : List ℕ) (M : Matrix) (output : List ℕ) where
   pub reading-printed : PrintsReading A s M output → PrintsRefusal output ⊎ PrintsPath A M output
   reading-printed h = compiled-printed (compile-call A s form-room) refl h
 
--- the price that is printed, at most 255 costs of 1,000,000, and the path
-pub printed-unbarred :
-    (A : List ℕ) (M : Matrix) (output : List ℕ) → (h : PrintsPath A M output) → (price M (h .path) ≤ 255000000) × Unbarred M (h .path)
-printed-unbarred A M output h = (
-  let few = h .few in let one = h .is .one-each in let most = path-price M 0 (h .path) (h .is .labels) in omega arith,
-  path-unbarred M 0 (h .path) (h .is .labels),
-)
+-- what is printed of a path: its price, at most 255 costs of 1,000,000, and labels that are not barred
+module _ {A : List ℕ} {M : Matrix} {output : List ℕ} (h : PrintsPath A M output) where
+  pub printed-price : price M (h .path) ≤ 255000000
+  printed-price = let few = h .few in let one = h .is .one-each in let most = path-price M 0 (h .path) (h .is .labels) in omega arith
+
+  pub printed-unbarred : Unbarred M (h .path)
+  printed-unbarred = path-unbarred M 0 (h .path) (h .is .labels)

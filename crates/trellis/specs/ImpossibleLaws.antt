@@ -1,5 +1,5 @@
--- Laws: at most 255 labels have usable costs exactly if their price is below TOP, so every rival's price is below TOP; with the cost of a
--- barred label a sum is TOP.
+-- Laws: the price of at most 255 labels of usable costs is below TOP, and so is every rival's; past refusal 13, labels whose price is below TOP
+-- have usable costs; with the cost of a barred label a sum is TOP.
 use Prim.Native.Nat.{ℕ, _+_, _≤_, _<_}
 use mathlib.Core.Path.{_≡_}
 use mathlib.Core.List.{List, [], _∷_}
@@ -19,7 +19,7 @@ module _ (M : Matrix) where
   pub path-below : (t : ℕ) (p : List ℕ) → length p ≤ 255 → PathFrom M t p → priceFrom M t p < TOP
   path-below t p l h = let r = path-price M t p h in omega arith
 
-  -- no reading's price has the cost of a barred label in it
+  -- so no reading's price has the cost of a barred label in it
   pub rival-below : M .count ≤ 255 → (Word : List ℕ → Type 0) (p : List ℕ) → Rival Word M p → price M p < TOP
   rival-below few Word p r = path-below 0 p (let e = r .path .one-each in omega arith) (r .path .labels)
 

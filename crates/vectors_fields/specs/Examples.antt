@@ -22,7 +22,7 @@ decimal : numbersOf false (bytes "95 0 1000001") ≡ 95 ∷ (0 ∷ (1000001 ∷ 
 unfolding numbersOf value pieces onto
 decimal = refl
 
-barred : numbersOf false (bytes "7 - 0") ≡ 7 ∷ (4294967295 ∷ (0 ∷ []))
+barred : numbersOf false (bytes "7 - 0 7-") ≡ 7 ∷ (4294967295 ∷ (0 ∷ (4294967295 ∷ [])))
 unfolding numbersOf value pieces onto
 barred = refl
 
