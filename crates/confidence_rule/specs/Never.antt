@@ -35,12 +35,12 @@ cost-zero = refl
 cost-barred : (c : ℕ) → (cost-of c ≡ BARRED) ↔ (c ≡ 0)
 cost-barred c = (λ e. ⊎-elim (λ z. z) (λ n. let s = cost-small c n in absurd (omega arith)) (eq-or-ne c 0), λ e. ap cost-of e ∙ cost-zero)
 
-cost-passes : (c : ℕ) → Passing (cost-of c)
-cost-passes c = ⊎-elim (λ e. inr (cost-barred c .1 e)) (λ n. inl (let s = cost-small c n in omega arith)) (eq-or-ne c 0)
+passing : (c : ℕ) → Passing (cost-of c)
+passing c = ⊎-elim (λ e. inr (cost-barred c .1 e)) (λ n. inl (let s = cost-small c n in omega arith)) (eq-or-ne c 0)
 
-costs-pass : (confidences : List ℕ) → Each Passing (map cost-of confidences)
-costs-pass [] = tt
-costs-pass (c ∷ cs) = (cost-passes c, costs-pass cs)
+all-passing : (confidences : List ℕ) → Each Passing (map cost-of confidences)
+all-passing [] = tt
+all-passing (c ∷ cs) = (passing c, all-passing cs)
 
 cost-at : (confidences : List ℕ) (i : ℕ) → i < length confidences → getD (map cost-of confidences) i 0 ≡ cost-of (getD confidences i 0)
 cost-at [] i l = absurd (omega arith)
@@ -53,7 +53,10 @@ module _ (confidences : List ℕ) (width count : ℕ) where
   costs-of = matrix (map cost-of confidences) width count
 
   pub always-pass : CostsPass costs-of
-  always-pass = costs-pass confidences
+  always-pass = all-passing confidences
 
   pub never : (t x : ℕ) → t * width + x < length confidences → (cost costs-of t x ≡ BARRED) ↔ (getD confidences (t * width + x) 0 ≡ 0)
-  never t x l = let e = cost-at confidences (t * width + x) l in let b = cost-barred (getD confidences (t * width + x) 0) in (λ h. b .0 (sym e ∙ h), λ h. e ∙ b .1 h)
+  never t x l =
+      let e = cost-at confidences (t * width + x) l in
+      let b = cost-barred (getD confidences (t * width + x) 0) in
+      (λ h. b .0 (sym e ∙ h), λ h. e ∙ b .1 h)

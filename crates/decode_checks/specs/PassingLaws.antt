@@ -1,4 +1,4 @@
--- Laws of the checks: which refusal each of them gives, and that an input which passes them all fits.
+-- Laws of the checks: which refusal each of them gives, and that an input passes them all exactly if it fits.
 use Prim.Native.Nat.{ℕ, _+_, _*_, _<_, _≤_}
 use mathlib.Core.Path.{_≡_, ap, _∙_}
 use mathlib.Core.Bool.{true, false, not, _||_}
@@ -10,7 +10,7 @@ use lib.ListN.{length}
 use lib.Dec.{leb, ltb, eqb}
 use borrow.Author.Tests.{lt-ltb, le-ltb, ltb-false, ne-eqb, eq-eqb, eqb-true, leb-true, le-leb, not-false}
 use Rattle.lists.specs.OrderLaws.{or-either, or-left, or-right, or-neither}
-use Rattle.lists.specs.EachLaws.{all-each}
+use Rattle.lists.specs.EachLaws.{all-each, each-all}
 use Rattle.lists.specs.Each.{all}
 use Rattle.refusal.specs.declared.Refusal.the-variants.{Matrix as MatrixRefusal, Cost, OutputMemory, Work}
 use Rattle.refusal.specs.declared.Checked.the-variants.{Passed, Refused}
@@ -122,3 +122,12 @@ module _ (k l : ℕ) (M : Matrix) (rooms : Rooms) where
         word = ltb-false (rooms .word) (M .count) (room .1);
         work = ltb-false (rooms .work) (needed (M .count) l) (d .0);
       }
+
+  -- what fits passes them: refusals 12 to 15 turn nothing else away
+  pub fits-exactly : (first-refusal (matrix-checks k l M rooms) ≡ Passed) ↔ Fits k l M rooms
+  fits-exactly = (
+    fits,
+    λ f.
+        let long = fault-length k M (f .few) (f .wide) ∙ ap not (eq-eqb (length (M .costs)) (M .count * M .width) (f .full)) in
+        all-passed long (each-all passes Passing (λ c. passes-exactly c .1) (M .costs) (f .pass)) (f .path) (f .word) (f .work),
+  )
