@@ -1,34 +1,48 @@
 -- Refusals 1, 2 and 3, test by test.
 use Prim.Native.Nat.{ℕ, _<_, _≤_}
 use mathlib.Core.Path.{_≡_, sym, ap, _∙_}
-use mathlib.Core.Bool.{true, false, not, _&&_, and-false}
+use mathlib.Core.Bool.{true, false, not}
+use mathlib.Core.Logic.{_↔_}
 use mathlib.Core.List.{List, [], _∷_}
+use native.Mathlib.Omega.{arith}
 use lib.ListN.{length}
-use lib.Dec.{leb}
-use borrow.Author.Tests.{leb-true, not-false}
-use Rattle.lists.specs.RangeLaws.{range-below, range-above, range-inside}
+use borrow.Author.Tests.{not-false}
+use Rattle.lists.specs.RangeLaws.{range-below, range-above, range-inside, range-true}
 use Rattle.lists.specs.Lists.{in-range}
-use Rattle.lists.specs.Each.{all}
-use Rattle.lists.specs.OrderLaws.{and-left, and-right}
+use Rattle.lists.specs.Each.{all, Each}
+use Rattle.lists.specs.EachLaws.{all-each, each-all}
+use Rattle.lists.specs.OrderLaws.{and-left, and-right, and-both, never-true, same-truth}
 use Rattle.refusal.specs.declared.Refusal.the-variants.{Alphabet, TextLength, TextByte}
 use Rattle.refusal.specs.declared.Checked.the-variants.{Passed, Refused}
 use Rattle.refusal.specs.Verdict.{Check, check, first-refusal}
 use Rattle.refusal.specs.VerdictLaws.{first-holds, first-fails, first-passed}
-use Rattle.alphabet.specs.Alphabet.{distinct, is-alphabet, text-checks}
+use Rattle.alphabet.specs.Alphabet.{is-alphabet, text-checks}
 
 module _ (A : List ℕ) where
+  printable : (all (in-range 32 126) A ≡ true) ↔ Each (λ b. (32 ≤ b) × (b ≤ 126)) A
+  printable = (
+    all-each (in-range 32 126) (λ b. (32 ≤ b) × (b ≤ 126)) (range-true 32 126) A,
+    each-all (in-range 32 126) (λ b. (32 ≤ b) × (b ≤ 126)) (λ b h. range-inside 32 126 b (h .0) (h .1)) A,
+  )
+
+  -- Refusal 1 goes by the number of bytes and by each byte, and by nothing else: a character may be listed more than once.
+  pub alphabet-exactly : (is-alphabet A ≡ true) ↔ ((1 ≤ length A) × (length A ≤ 95) × Each (λ b. (32 ≤ b) × (b ≤ 126)) A)
+  alphabet-exactly = (
+    λ e.
+        let size = range-true 1 95 (length A) (and-left (in-range 1 95 (length A)) (all (in-range 32 126) A) e) in
+        (size .0, size .1, printable .0 (and-right (in-range 1 95 (length A)) (all (in-range 32 126) A) e)),
+    λ h. and-both (in-range 1 95 (length A)) (all (in-range 32 126) A) (range-inside 1 95 (length A) (h .0) (h .1)) (printable .1 (h .2)),
+  )
+
   pub alphabet-short : length A < 1 → is-alphabet A ≡ false
-  alphabet-short h = ap (λ t. t && (all (in-range 32 126) A && distinct A)) (range-below 1 95 (length A) h)
+  alphabet-short h = never-true (is-alphabet A) (λ e. let l = alphabet-exactly .0 e .0 in omega arith)
 
   pub alphabet-long : 95 < length A → is-alphabet A ≡ false
-  alphabet-long h = ap (λ t. t && (all (in-range 32 126) A && distinct A)) (range-above 1 95 (length A) h)
+  alphabet-long h = never-true (is-alphabet A) (λ e. let l = alphabet-exactly .0 e .1 in omega arith)
 
-  pub alphabet-bytes : all (in-range 32 126) A ≡ false → is-alphabet A ≡ false
-  alphabet-bytes e = ap (λ t. in-range 1 95 (length A) && (t && distinct A)) e ∙ and-false (in-range 1 95 (length A))
-
-  pub alphabet-distinct : 1 ≤ length A → length A ≤ 95 → all (in-range 32 126) A ≡ true → is-alphabet A ≡ distinct A
-  alphabet-distinct l h e =
-      ap (λ t. t && (all (in-range 32 126) A && distinct A)) (range-inside 1 95 (length A) l h) ∙ ap (λ t. t && distinct A) e
+  pub alphabet-sized : 1 ≤ length A → length A ≤ 95 → is-alphabet A ≡ all (in-range 32 126) A
+  alphabet-sized l h =
+      same-truth (is-alphabet A) (all (in-range 32 126) A) (λ e. printable .1 (alphabet-exactly .0 e .2)) (λ e. alphabet-exactly .1 (l, h, printable .0 e))
 
 module _ (A s : List ℕ) where
   abbrev bytes : List Check
@@ -62,5 +76,4 @@ module _ (A s : List ℕ) where
   pub text-alphabet : Passed ≡ first-refusal (text-checks A s) → length A ≤ 95
   text-alphabet e =
       let a = first-passed (not (is-alphabet A)) Alphabet (check (not (in-range 1 255 (length s))) TextLength ∷ bytes) (sym e) in
-      let b = and-left (in-range 1 95 (length A)) (all (in-range 32 126) A && distinct A) (not-false (is-alphabet A) (a .0)) in
-      leb-true (length A) 95 (and-right (leb 1 (length A)) (leb (length A) 95) b)
+      alphabet-exactly A .0 (not-false (is-alphabet A) (a .0)) .1

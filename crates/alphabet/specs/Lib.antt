@@ -1,4 +1,4 @@
+pub mod Labels
 pub mod Alphabet
 pub mod AlphabetLaws
-pub mod Loops
 pub mod Examples

@@ -3,42 +3,11 @@ use ctc_labels::all_in_range;
 use refusal::Checked;
 use refusal::Refusal;
 ghost use mathlib.Core.Path.{_≡_};
-ghost use lib.ListN.{drop};
-ghost use lib.Dec.{eqb};
 ghost use Rattle.lists.specs.Memory.{old};
-ghost use Rattle.lists.specs.Lists.{any};
 ghost use Rattle.refusal.specs.Verdict.{first-refusal};
-ghost use Rattle.alphabet.specs.Alphabet.{distinct, is-alphabet, text-checks};
+ghost use Rattle.alphabet.specs.Alphabet.{is-alphabet, text-checks};
 
-// Is the byte in the list, from an index on?
-fn comes_again(list: &[u8], from: usize, b: u8) -> bool
-    ensures { λ r. ⌜ r ≡ any (eqb b) (drop from (old list)) ⌝ }
-{
-    let mut i = from;
-    while i < list.len() {
-        if b == list[i] {
-            return true;
-        }
-        i += 1;
-    }
-    false
-}
-
-// Is no byte in the list twice?
-fn are_distinct(list: &[u8]) -> bool
-    ensures { λ r. ⌜ r ≡ distinct (old list) ⌝ }
-{
-    let mut i: usize = 0;
-    while i < list.len() {
-        if comes_again(list, i + 1, list[i]) {
-            return false;
-        }
-        i += 1;
-    }
-    true
-}
-
-// 1 to 95 distinct bytes, each 32 to 126?
+// 1 to 95 bytes, each 32 to 126?
 fn is_alphabet(list: &[u8]) -> bool
     ensures { λ r. ⌜ r ≡ is-alphabet (old list) ⌝ }
 {
@@ -49,10 +18,7 @@ fn is_alphabet(list: &[u8]) -> bool
     if 95 < n {
         return false;
     }
-    if !all_in_range(32, 126, list) {
-        return false;
-    }
-    are_distinct(list)
+    all_in_range(32, 126, list)
 }
 
 // The checks of an alphabet and a text: refusals 1, 2 and 3.

@@ -2,16 +2,15 @@
 -- its text, has it.
 use Prim.Native.Nat.{ℕ, _≤_}
 use mathlib.Core.Path.{_≡_, refl, sym, ap, _∙_, subst}
-use mathlib.Core.Bool.{Bool, true, false, not, _&&_}
+use mathlib.Core.Bool.{Bool, true, false, not}
 use mathlib.Core.Logic.{Iff·trans, Iff·symm}
 use mathlib.Core.List.{List, [], _∷_}
 use native.Mathlib.Omega.{arith}
 use lib.ListN.{length}
-use lib.Dec.{leb, ltb}
-use borrow.Author.Tests.{leb-true, ltb-false, le-ltb, not-false}
+use lib.Dec.{ltb}
+use borrow.Author.Tests.{ltb-false, le-ltb, not-false}
 use Rattle.lists.specs.Lists.{in-range}
 use Rattle.lists.specs.Each.{all}
-use Rattle.lists.specs.OrderLaws.{and-left, and-right}
 use Rattle.refusal.specs.declared.Refusal.{Refusal}
 use Rattle.refusal.specs.declared.Refusal.the-variants.{Alphabet, TextLength, TextByte, Letters, FormMemory}
 use Rattle.refusal.specs.Verdict.{Verdict, passed, refused, Check, check, unless, if-passed, first-refusal}
@@ -23,12 +22,14 @@ use Rattle.regex.specs.Letters.{letterCount}
 use Rattle.regex.specs.Parse.{expressionOf}
 use Rattle.regex.specs.Grammar.{TextOf}
 use Rattle.regex.specs.Exact.{exact, words-of-text, expression-whole}
+use Rattle.regex.specs.CharactersLaws.{words-of-spelt, all-spelt}
 use Rattle.regex.specs.SenseLaws.{sensible}
 use Rattle.positions.specs.Compiled.{formOf}
 use Rattle.positions.specs.CompiledLaws.{form-valid, form-alphabet, form-letters, form-words}
-use Rattle.alphabet.specs.Alphabet.{distinct, is-alphabet, text-checks}
+use Rattle.alphabet.specs.Alphabet.{is-alphabet, text-checks}
+use Rattle.alphabet.specs.AlphabetLaws.{alphabet-exactly}
 use Rattle.compile.specs.Call.{parsed-form, compile-call}
-use Rattle.compile.specs.Means.{Means}
+use Rattle.compile.specs.Means.{Means, Spells-words}
 
 -- what passed a list of checks passed each
 unless-passed : {X : Type 0} (t : Bool) (n : Refusal) (cs : List Check) (a b : X) → unless (check t n ∷ cs) a ≡ passed b → (t ≡ false) × (unless cs a ≡ passed b)
@@ -71,9 +72,17 @@ module _ (A s : List ℕ) (room : ℕ) (f : List ℕ) where
           let a = unless-passed (not (is-alphabet A)) Alphabet (check (not (in-range 1 255 (length s))) TextLength ∷ (check (not (all (in-range 32 126) s)) TextByte ∷ [])) s s′ h in
           let b = unless-passed (not (in-range 1 255 (length s))) TextLength (check (not (all (in-range 32 126) s)) TextByte ∷ []) s s′ (a .1) in
           let c = unless-passed (not (all (in-range 32 126) s)) TextByte [] s s′ (b .1) in
-          let size = and-left (in-range 1 95 (length A)) (all (in-range 32 126) A && distinct A) (not-false (is-alphabet A) (a .0)) in
-          tree (leb-true 1 (length A) (and-left (leb 1 (length A)) (leb (length A) 95) size)) (leb-true (length A) 95 (and-right (leb 1 (length A)) (leb (length A) 95) size))
-          (expressionOf A s) refl (rw (sym (unless-same s s′ (c .1))) at g)
+          let size = alphabet-exactly A .0 (not-false (is-alphabet A) (a .0)) in
+          tree (size .0) (size .1) (expressionOf A s) refl (rw (sym (unless-same s s′ (c .1))) at g)
+
+  -- the same with the words over characters
+  pub compiled-spells : compile-call A s room ≡ passed f → Spells-words A s f
+  compiled-spells e =
+      let m = compiled-means e in
+      record {
+        accepted = λ w. Iff·trans (m .words w) (words-of-spelt A s w);
+        spelt = λ v h. let k = all-spelt A s v .0 h in (k .0, m .words (k .0) .1 (k .1), k .2);
+      }
 
   -- The other way: what no refusal turns away compiles.
   pub compiles :

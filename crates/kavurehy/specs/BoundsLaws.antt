@@ -44,7 +44,7 @@ use Rattle.decode_checks.specs.PassingLaws.{fits}
 use Rattle.decode_valid.specs.Answers.{labels, Checks, Answers, outcome-report}
 use Rattle.decode_valid.specs.Lent.{Lent, rooms}
 use Rattle.decode.specs.Promise.{Decodes}
-use Rattle.read_spelling.specs.Spelling.{characters}
+use Rattle.alphabet.specs.Labels.{characters}
 use Rattle.read_text.specs.Promise.{ReadsBy, Reads}
 
 -- Collapse and Spread: what passes the checks is short.

@@ -27,7 +27,7 @@ use Rattle.compile.specs.Call.{compile-call}
 use Rattle.compile.specs.Meaning.{compiled-means}
 use Rattle.decode_valid.specs.Answers.{outcome-report, path-of, word-of, labels}
 use Rattle.decode_valid.specs.Lent.{Lent}
-use Rattle.read_spelling.specs.Spelling.{characters}
+use Rattle.alphabet.specs.Labels.{characters}
 use Rattle.judge.specs.Judge.{judged}
 use Rattle.read.specs.Cases.{cases, cases-stated}
 use Rattle.kavurehy.specs.Handed.{FillsCounted, FillsPlain, Judges, DecodesCounted, ReadsCounted}

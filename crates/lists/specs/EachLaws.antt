@@ -15,6 +15,11 @@ module _ {A : Type 0} where
   each-map P Q f [] h = tt
   each-map P Q f (x ∷ xs) h = (f x (h .0), each-map P Q f xs (h .1))
 
+  -- two facts of each element give a third
+  pub each-both : (P Q R : A → Type 0) → ((x : A) → P x → Q x → R x) → (xs : List A) → Each P xs → Each Q xs → Each R xs
+  each-both P Q R f [] h g = tt
+  each-both P Q R f (x ∷ xs) h g = (f x (h .0) (g .0), each-both P Q R f xs (h .1) (g .1))
+
   pub each-append : (P : A → Type 0) (xs ys : List A) → Each P xs → Each P ys → Each P (xs ++ ys)
   each-append P [] ys h g = g
   each-append P (x ∷ xs) ys h g = (h .0, each-append P xs ys (h .1) g)

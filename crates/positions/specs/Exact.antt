@@ -12,11 +12,12 @@ use Rattle.lists.specs.Each.{Each}
 use Rattle.lists.specs.AmongLaws.{among-each}
 use Rattle.automaton.specs.Automaton.{Accepts}
 use Rattle.automaton.specs.Proper.{Proper}
+use Rattle.alphabet.specs.Labels.{Label}
 use Rattle.regex.specs.Tree.{Tree, set, group, times, join, either, Joined, Words}
 use Rattle.regex.specs.SenseLaws.{Sensible}
 use Rattle.positions.specs.Opened.{Opened, letter, joining, alternation, optional, star, plus, empty, never, labelsIn, opened, labels, letters}
 use Rattle.positions.specs.OpenedWords.{OpenedWords}
-use Rattle.positions.specs.Opening.{label-among, opening-keeps-words}
+use Rattle.positions.specs.Opening.{labels-in, opening-keeps-words}
 use Rattle.positions.specs.LettersLaws.{any-of-labels}
 use Rattle.positions.specs.Numbered.{numbered, bare, labelAt, positionAutomaton, automatonOf}
 use Rattle.positions.specs.EquationsLaws.{Kept, repeated-kept}
@@ -104,10 +105,6 @@ accepts-opened r = opened-exact (letters r) (labelAt r) 1 r (omega arith) (λ i 
 pub accepts-words : (A : List ℕ) (t : Tree) → Sensible A t → (w : List ℕ) → Accepts (automatonOf A t) w ↔ Words A t w
 accepts-words A t o w = Iff·trans (accepts-opened (opened A t) w) (Iff·symm (opening-keeps-words A t o w))
 
--- the label is one of the alphabet's
-abbrev Named : List ℕ → ℕ → Type 0
-Named A x = (1 ≤ x) × (x ≤ length A)
-
 each-kept : (P : ℕ → Type 0) → Kept (λ r. Each P (labels r))
 unfolding labels
 each-kept P = record {
@@ -118,14 +115,14 @@ each-kept P = record {
   none = tt;
 }
 
-opened-each : (A : List ℕ) (t : Tree) → Each (Named A) (labels (opened A t))
+opened-each : (A : List ℕ) (t : Tree) → Each (Label A) (labels (opened A t))
 unfolding opened labels
 opened-each A (set c) =
-    rw (any-of-labels (labelsIn A c)) (among-each (Named A) (labelsIn A c) (λ x m. let y = label-among A c x m in (y .low, y .high)))
+    rw (any-of-labels (labelsIn A c)) (among-each (Label A) (labelsIn A c) (λ x m. labels-in A c x .0 m .0))
 opened-each A (group r) = opened-each A r
-opened-each A (times r c) = repeated-kept (λ r. Each (Named A) (labels r)) (each-kept (Named A)) (opened A r) (opened-each A r) c
-opened-each A (join r s) = each-append (Named A) (labels (opened A r)) (labels (opened A s)) (opened-each A r) (opened-each A s)
-opened-each A (either r s) = each-append (Named A) (labels (opened A r)) (labels (opened A s)) (opened-each A r) (opened-each A s)
+opened-each A (times r c) = repeated-kept (λ r. Each (Label A) (labels r)) (each-kept (Label A)) (opened A r) (opened-each A r) c
+opened-each A (join r s) = each-append (Label A) (labels (opened A r)) (labels (opened A s)) (opened-each A r) (opened-each A s)
+opened-each A (either r s) = each-append (Label A) (labels (opened A r)) (labels (opened A s)) (opened-each A r) (opened-each A s)
 
 pub automaton-proper : (A : List ℕ) (t : Tree) → Proper (length A) (automatonOf A t)
 unfolding positionAutomaton
@@ -133,5 +130,5 @@ automaton-proper A t =
     let r = opened A t in
     record {
       target = λ i j h. let z = goes-to (numbered-inside 1 r (omega arith)) i j h in omega arith;
-      labelled = λ j l h. each-at (Named A) 0 (labels r) (j - 1) (omega arith) (opened-each A t);
+      labelled = λ j l h. each-at (Label A) 0 (labels r) (j - 1) (omega arith) (opened-each A t);
     }

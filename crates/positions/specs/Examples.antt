@@ -50,6 +50,10 @@ ab = code "a" ∷ code "b" ∷ []
 abbrev abc : List ℕ
 abc = code "a" ∷ code "b" ∷ code "c" ∷ []
 
+-- an alphabet that lists a twice
+abbrev aba : List ℕ
+aba = code "a" ∷ code "b" ∷ code "a" ∷ []
+
 record Examples : Type 0 where
   -- document 01's `ab*`, compiled and part by part
   compiled : formOf ab (join a (any b)) ≡ 0x10020002 ∷ 0x20000301 ∷ 0x20000202 ∷ 0x30000102 ∷ 0x30000202 ∷ []
@@ -79,7 +83,10 @@ record Examples : Type 0 where
   counted : letterCount ab (times (group (either a b)) (between 1 3)) ≡ 6
   -- `[^b]`, and `a` where two labels have that character
   set-labels : over abc (set (except (range (code "b") (code "b") ∷ []))) ≡ letters (1 ∷ 3 ∷ []) false (1 ∷ 2 ∷ []) (1 ∷ 2 ∷ []) ([] ∷ [] ∷ [])
-  same-character : over (code "a" ∷ code "b" ∷ code "a" ∷ []) a ≡ letters (1 ∷ 3 ∷ []) false (1 ∷ 2 ∷ []) (1 ∷ 2 ∷ []) ([] ∷ [] ∷ [])
+  same-character : over aba a ≡ letters (1 ∷ 3 ∷ []) false (1 ∷ 2 ∷ []) (1 ∷ 2 ∷ []) ([] ∷ [] ∷ [])
+  -- `[^a]` and `[^b]` there: a complement leaves out all labels of a character, or none
+  all-left-out : over aba (set (except (range (code "a") (code "a") ∷ []))) ≡ letters (2 ∷ []) false (1 ∷ []) (1 ∷ []) ([] ∷ [])
+  none-left-out : over aba (set (except (range (code "b") (code "b") ∷ []))) ≡ letters (1 ∷ 3 ∷ []) false (1 ∷ 2 ∷ []) (1 ∷ 2 ∷ []) ([] ∷ [] ∷ [])
 
 examples : Examples
 unfolding opened keep numbers anyOf repeated copies nested labels numbered positionAutomaton letterCount labelsOf encode flatMap
@@ -100,4 +107,6 @@ examples = record {
   counted = refl;
   set-labels = refl;
   same-character = refl;
+  all-left-out = refl;
+  none-left-out = refl;
 }

@@ -1,8 +1,9 @@
 -- Opened expressions, their letters, and how the tree of an expression opens (document 01, "Opening and the compiled form").
 use Prim.Native.Nat.{ℕ, zero, suc, _-_}
 use mathlib.Core.List.{List, [], _∷_, _++_}
-use lib.ListN.{length, getD}
+use lib.ListN.{length}
 use Rattle.lists.specs.Lists.{keep, numbers}
+use Rattle.alphabet.specs.Labels.{character}
 use Rattle.regex.specs.Tree.{Set, Count, between, onward, Tree, set, group, times, join, either, member}
 
 -- `empty` has the empty word alone and ends a chain of copies; `never` has no word and ends an alternation of labels. Neither has letters.
@@ -18,7 +19,7 @@ pub data Opened : Type 0 where
 
 -- the labels of a set, ascending: those whose character is in it
 abbrev pub labelsIn : List ℕ → Set → List ℕ
-labelsIn A c = keep (λ x. member c (getD A (x - 1) 0)) (numbers 1 (length A))
+labelsIn A c = keep (λ x. member c (character A x)) (numbers 1 (length A))
 
 -- the alternation of some labels
 unfoldable pub anyOf : List ℕ → Opened

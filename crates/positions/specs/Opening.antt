@@ -2,14 +2,14 @@
 use Prim.Native.Nat.{ℕ, zero, suc, _+_, _-_, _≤_}
 use mathlib.Core.Path.{_≡_, refl, ap}
 use mathlib.Core.Logic.{inl, inr, _↔_}
-use mathlib.Core.Bool.{true}
 use mathlib.Core.List.{List, [], _∷_}
 use native.Mathlib.Omega.{arith}
-use lib.ListN.{length, getD}
+use lib.ListN.{length}
 use Rattle.lists.specs.AmongLaws.{among-keep, keep-among}
 use Rattle.lists.specs.Lists.{Among, numbers}
 use Rattle.lists.specs.AscendingLaws.{among-numbers, numbers-among}
-use Rattle.regex.specs.Tree.{Set, Count, between, onward, Tree, set, group, times, join, either, member, Allows, Joined, Words}
+use Rattle.alphabet.specs.Labels.{character}
+use Rattle.regex.specs.Tree.{Set, Count, between, onward, Tree, set, group, times, join, either, member, Allows, Joined, HasLabel, Words}
 use Rattle.regex.specs.OwnCountsLaws.{InRange}
 use Rattle.regex.specs.SenseLaws.{Sensible}
 use Rattle.positions.specs.Opened.{Opened, plus, labelsIn, anyOf, copies, nested, repeated, opened}
@@ -28,19 +28,17 @@ any-of-in [] x h = absurd h
 any-of-in (y ∷ l) x (inl h) = inl (ap (λ k. k ∷ []) h)
 any-of-in (y ∷ l) x (inr h) = inr (any-of-in l x h)
 
-pub record Label (A : List ℕ) (c : Set) (x : ℕ) : Type 0 where
-  pub low : 1 ≤ x
-  pub high : x ≤ length A
-  pub belongs : member c (getD A (x - 1) 0) ≡ true
-
-pub label-among : (A : List ℕ) (c : Set) (x : ℕ) → Among x (labelsIn A c) → Label A c x
-label-among A c x h =
-    let k = keep-among (λ y. member c (getD A (y - 1) 0)) x (numbers 1 (length A)) h in
-    let n = numbers-among 1 (length A) x (k .0) in
-    record { low = n .0; high = omega arith; belongs = k .1 }
-
-among-label : (A : List ℕ) (c : Set) (x : ℕ) → 1 ≤ x → x ≤ length A → member c (getD A (x - 1) 0) ≡ true → Among x (labelsIn A c)
-among-label A c x l h e = among-keep (λ y. member c (getD A (y - 1) 0)) x (numbers 1 (length A)) (among-numbers 1 (length A) x l (omega arith)) e
+-- the labels of a set are those that it opens into
+pub labels-in : (A : List ℕ) (c : Set) (x : ℕ) → Among x (labelsIn A c) ↔ HasLabel A c x
+labels-in A c x = (
+  λ h.
+      let k = keep-among (λ y. member c (character A y)) x (numbers 1 (length A)) h in
+      let n = numbers-among 1 (length A) x (k .0) in
+      ((n .0, omega arith), k .1),
+  λ h.
+      let high = h .0 .1 in
+      among-keep (λ y. member c (character A y)) x (numbers 1 (length A)) (among-numbers 1 (length A) x (h .0 .0) (omega arith)) (h .1),
+)
 
 -- Repetitions. Joined words of a set are joined words of each larger set.
 joined-map : (P Q : List ℕ → Type 0) → ((w : List ℕ) → P w → Q w) → (k : ℕ) (w : List ℕ) → Joined P k w → Joined Q k w
@@ -109,7 +107,7 @@ module _ (r : Opened) (P : List ℕ → Type 0) (into : (w : List ℕ) → P w �
 
 words-opened : (A : List ℕ) (t : Tree) (w : List ℕ) → Words A t w → OpenedWords (opened A t) w
 unfolding opened
-words-opened A (set c) w h = rw (h .4) (any-of-in (labelsIn A c) (h .0) (among-label A c (h .0) (h .1) (h .2) (h .3)))
+words-opened A (set c) w h = rw (h .2) (any-of-in (labelsIn A c) (h .0) (labels-in A c (h .0) .1 (h .1)))
 words-opened A (group r) w h = words-opened A r w h
 words-opened A (times r c) w h = repeated-in (opened A r) (Words A r) (words-opened A r) c (h .0) (h .1) w (h .2)
 words-opened A (join r s) w h = (h .0, h .1, h .2, words-opened A r (h .0) (h .3), words-opened A s (h .1) (h .4))
@@ -118,9 +116,7 @@ words-opened A (either r s) w (inr h) = inr (words-opened A s w h)
 
 opened-words : (A : List ℕ) (t : Tree) → Sensible A t → (w : List ℕ) → OpenedWords (opened A t) w → Words A t w
 unfolding opened
-opened-words A (set c) o w h =
-    let x = any-of-out (labelsIn A c) w h in let y = label-among A c (x .0) (x .1) in
-    (x .0, y .low, y .high, y .belongs, x .2)
+opened-words A (set c) o w h = let x = any-of-out (labelsIn A c) w h in (x .0, labels-in A c (x .0) .0 (x .1), x .2)
 opened-words A (group r) o w h = opened-words A r o w h
 opened-words A (times r c) o w h = repeated-out (opened A r) (Words A r) (opened-words A r (o .0)) c w (o .1) h
 opened-words A (join r s) o w h = (h .0, h .1, h .2, opened-words A r (o .0) (h .0) (h .3), opened-words A s (o .1) (h .1) (h .4))

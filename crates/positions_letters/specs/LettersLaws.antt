@@ -14,6 +14,7 @@ use Rattle.lists.specs.Lists.{keep, keeping, numbers}
 use Rattle.lists.specs.AscendingLaws.{numbers-here, numbers-past}
 use Rattle.lists.specs.Stored.{Stored}
 use Rattle.positions_follow.specs.Sets.{member, arc}
+use Rattle.alphabet.specs.Labels.{character}
 use Rattle.regex.specs.Tree.{Set, member as memberOf}
 use Rattle.positions.specs.Opened.{labelsIn, anyOf}
 use Rattle.positions.specs.EquationsLaws.{alone, numbered-any-of}
@@ -24,7 +25,7 @@ use Rattle.positions_letters.specs.Letters.{Ranged}
 -- The labels still to come when the loop is at a label.
 module _ (A : List ℕ) (c : Set) where
   abbrev pub passes : ℕ → Bool
-  passes x = memberOf c (getD A (x - 1) 0)
+  passes x = memberOf c (character A x)
 
   abbrev pub labelsFrom : ℕ → List ℕ
   labelsFrom x = keep passes (numbers x (length A + 1 - x))

@@ -1,5 +1,5 @@
--- Document 01's lines to try that are marked P, and four lines with barred labels (document 02, T-06), as one checked list: each case is data,
--- one test is computed over all of them from the definitions, and one law turns the test into the statement.
+-- Document 01's lines to try that are marked P, and lines with barred labels (document 02, T-06) and with two shapes of seven (T-07), as one
+-- checked list: each case is data, one test is computed over all of them from the definitions, and one law turns the test into the statement.
 use Prim.Native.Nat.{ℕ, _+_}
 use Prim.Native.String.{String}
 use mathlib.Core.Path.{_≡_, refl, ap, subst}
@@ -11,7 +11,7 @@ use lib.ListN.{length, getD}
 use lib.Dec.{eqb}
 use borrow.Author.Tests.{eqb-true}
 use Rattle.lists.specs.OrderLaws.{and-left, and-right}
-use Rattle.lists.specs.EachLaws.{all-each}
+use Rattle.lists.specs.EachLaws.{all-each, each-map}
 use Rattle.lists.specs.Lists.{any, keep, same-list, numbers}
 use Rattle.lists.specs.SameLaws.{same-list-true}
 use Rattle.lists.specs.Each.{all, Each}
@@ -21,6 +21,7 @@ use Rattle.refusal.specs.Verdict.{Verdict, passed, refused, unless, if-passed, 
 use Rattle.refusal.specs.Report.{Report}
 use Rattle.answers.specs.Decoded.{read as answer}
 use Rattle.ctc.specs.Collapse.{merge, without-blanks, collapse}
+use Rattle.alphabet.specs.Labels.{characters}
 use Rattle.automaton.specs.Automaton.{Accepts}
 use Rattle.automaton.specs.Form.{encode, view, lettersOf, alphabetOf, followOf, endsOf}
 use Rattle.automaton.specs.ValidLaws.{valid-at, valid-proper}
@@ -41,14 +42,14 @@ use Rattle.regex.specs.Sets.{closed, reserved, items, members, ranges-of, known
 use Rattle.regex.specs.Repetition.{number, from-on, from-to, comma, counts, sign, repetition}
 use Rattle.regex.specs.Parse.{grouped, step, go, parse, whole, expressionOf}
 use Rattle.regex.specs.Grammar.{WordsOf}
+use Rattle.regex.specs.Characters.{SpellsWord}
 use Rattle.positions.specs.Opened.{anyOf, copies, nested, repeated, opened, labels}
 use Rattle.positions.specs.Numbered.{numbered, positionAutomaton}
-use Rattle.alphabet.specs.Alphabet.{distinct}
 use Rattle.compile.specs.Call.{compile-call}
 use Rattle.compile.specs.Meaning.{compiled-means}
 use Rattle.decode_checks.specs.Checks.{Rooms, needed, matrix-checks}
 use Rattle.decode_valid.specs.Answers.{outcome-report, word-of}
-use Rattle.read_spelling.specs.Spelling.{characters}
+use Rattle.read_text.specs.SpeltLaws.{outcome-spelt}
 
 -- A case of Read: alphabet, text, costs, number of columns and words of form memory, with the path, its price and its word, or with the
 -- number of the refusal. Or a case of Compile: alphabet and text, with the words of their form.
@@ -198,9 +199,30 @@ cases =
     ∷ reads "ab" "a" (4294967295 ∷ 7 ∷ 0 ∷ 0 ∷ 2 ∷ 0 ∷ []) 2 2 (1 ∷ 0 ∷ []) 7 "a"
     ∷ reads "ab" "a|b" (0 ∷ 4294967295 ∷ 4 ∷ []) 1 3 (2 ∷ []) 4 "b"
     ∷ refuses "ab" "a*" (0 ∷ 0 ∷ 0 ∷ 4294967295 ∷ 4294967295 ∷ 4294967295 ∷ []) 2 3 16
+    -- a crossed and a plain 7 side by side are two sevens without a blank; the same 7 twice is one; one 7 may have either shape
+    ∷ reads "77" "77" (0 ∷ 1 ∷ 5 ∷ 0 ∷ 5 ∷ 1 ∷ []) 2 9 (1 ∷ 2 ∷ []) 2 "77"
+    ∷ reads "77" "77" (0 ∷ 1 ∷ 5 ∷ 0 ∷ 1 ∷ 5 ∷ []) 2 9 (1 ∷ 2 ∷ []) 6 "77"
+    ∷ refuses "7" "77" (0 ∷ 1 ∷ 0 ∷ 1 ∷ []) 2 4 16
+    ∷ reads "77" "7" (0 ∷ 1 ∷ 5 ∷ 0 ∷ 5 ∷ 1 ∷ []) 2 3 (0 ∷ 2 ∷ []) 1 "7"
+    ∷ reads "7a7" "[^7]" (0 ∷ 0 ∷ 5 ∷ 0 ∷ []) 1 2 (2 ∷ []) 5 "a"
+    ∷ compiles "77" "77" (0x10020004 ∷ 0x20000101 ∷ 0x20000102 ∷ 0x20000201 ∷ 0x20000202 ∷ 0x30000103 ∷ 0x30000104 ∷ 0x30000203 ∷ 0x30000204 ∷ [])
     ∷ []
+
+-- what a case states with words as lists of characters
+abbrev pub Spelt : Case → Type 0
+Spelt (reads A s costs t k p c w) = Outcome (SpellsWord (bytes A) (bytes s)) (matrix costs (length (bytes A) + 1) t) (some p)
+Spelt (refuses A s costs t k n) = Outcome (SpellsWord (bytes A) (bytes s)) (matrix costs (length (bytes A) + 1) t) none
+Spelt (compiles A s f) = Unit {0}
+
+stated-spelt : (c : Case) → Stated c → Spelt c
+stated-spelt (reads A s costs t k p c w) h = outcome-spelt (bytes A) (bytes s) (matrix costs (length (bytes A) + 1) t) refl (some p) .0 (h .0)
+stated-spelt (refuses A s costs t k n) h = outcome-spelt (bytes A) (bytes s) (matrix costs (length (bytes A) + 1) t) refl none .0 (h .0)
+stated-spelt (compiles A s f) h = tt
 
 -- every case holds
 pub cases-stated : Each Stated cases
-unfolding cases holds compiled tried answered passing figures first-refusal same decided exhaustive over better preferred not-after usable collapse merge without-blanks spells followOf endsOf compile-call distinct if-passed unless all any keep numbers flatMap encode labelsOf letterCount then first-of split enclosed provided closed reserved items members ranges-of class-ranges look-up classes known inside bracket escaped a-set labelled-set number from-on from-to comma counts sign repetition grouped step go parse whole expressionOf anyOf copies nested repeated opened labels numbered positionAutomaton
+unfolding cases holds compiled tried answered passing figures first-refusal same decided exhaustive over better preferred not-after usable collapse merge without-blanks spells followOf endsOf compile-call if-passed unless all any keep numbers flatMap encode labelsOf letterCount then first-of split enclosed provided closed reserved items members ranges-of class-ranges look-up classes known inside bracket escaped a-set labelled-set number from-on from-to comma counts sign repetition grouped step go parse whole expressionOf anyOf copies nested repeated opened labels numbered positionAutomaton
 cases-stated = all-each holds Stated holds-stated cases refl
+
+pub cases-spelt : Each Spelt cases
+cases-spelt = each-map Stated Spelt stated-spelt cases cases-stated

@@ -1,4 +1,2 @@
-pub mod Spelling
 pub mod InPlace
 pub mod Loops
-pub mod Examples

@@ -1,3 +1,4 @@
 pub mod Promise
 pub mod ChecksForm
 pub mod StepsLaws
+pub mod SpeltLaws

@@ -14,7 +14,7 @@ use Rattle.decode_checks.specs.Checks.{needed, matrix-checks}
 use Rattle.decode_valid.specs.Answers.{Answers, Checks}
 use Rattle.decode_valid.specs.Lent.{Lent, rooms}
 use Rattle.compile.specs.Call.{compile-call}
-use Rattle.read_spelling.specs.Spelling.{characters}
+use Rattle.alphabet.specs.Labels.{characters}
 
 -- Past Compile, with the form f: refusals 12 to 15, or the outcome for the words of the text, with the word written as characters. 'Past
 -- the checks with memory enough' means that no refusal except 16 applies.

@@ -23,8 +23,9 @@ use Rattle.compile.specs.Meaning.{compiled-means}
 use Rattle.compile.specs.Means.{Means}
 use Rattle.decode_checks.specs.Checks.{needed, matrix-checks}
 use Rattle.decode_valid.specs.Answers.{Answers, Checks}
+use Rattle.decode_valid.specs.AnswersLaws.{answers-same}
 use Rattle.decode_valid.specs.Lent.{Lent, rooms}
-use Rattle.read_spelling.specs.Spelling.{characters}
+use Rattle.alphabet.specs.Labels.{characters}
 use Rattle.read_valid.specs.Accepted.{ReadsAccepted}
 use Rattle.read_text.specs.Promise.{Reads}
 use Rattle.read_text.specs.ChecksForm.{ChecksForm}
@@ -33,16 +34,8 @@ use Rattle.read_text.specs.ChecksForm.{ChecksForm}
 pub read-words :
     (A s f : List ℕ) (M : Matrix) (before after : Lent) (answer : Report) → Means A s f → ReadsAccepted A f M before after answer
     → Answers (WordsOf A s) (characters A) (length f) M (needed (M .count) (lettersOf f)) before after answer
-read-words A s f M before after answer m a =
-    record {
-      outcome = a .outcome;
-      is = outcome-same M (Accepts (view f)) (WordsOf A s) (λ w. m .words w .0) (λ w. m .words w .1) (a .outcome) (a .is);
-      answered = a .answered;
-      path = a .path;
-      word = a .word;
-      work = a .work;
-      size = a .size;
-    }
+read-words A s f M before after answer m =
+    answers-same (Accepts (view f)) (WordsOf A s) (outcome-same M (Accepts (view f)) (WordsOf A s) (λ w. m .words w .0) (λ w. m .words w .1))
 
 -- the same, where the checks may refuse
 checked-words :

@@ -9,7 +9,7 @@ use Rattle.matrix.specs.Matrix.{Matrix}
 use Rattle.decode_checks.specs.Checks.{needed}
 use Rattle.decode_valid.specs.Answers.{Answers}
 use Rattle.decode_valid.specs.Lent.{Lent}
-use Rattle.read_spelling.specs.Spelling.{characters}
+use Rattle.alphabet.specs.Labels.{characters}
 
 -- the outcome for the words that the form accepts, with the word written as characters
 abbrev pub ReadsAccepted : (A f : List ℕ) (M : Matrix) (before after : Lent) (answer : Report) → Type 0

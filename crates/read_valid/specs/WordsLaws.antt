@@ -1,11 +1,10 @@
 -- Laws: from Decode's answer to Read's, which has the word as characters.
-use Prim.Native.Nat.{ℕ, _+_, _-_, _≤_, _<_}
+use Prim.Native.Nat.{ℕ, _+_, _≤_}
 use mathlib.Core.Path.{_≡_, ap, ap₂, _∙_}
 use mathlib.Core.Option.{Option, some, none}
-use mathlib.Core.List.{List, [], _∷_}
+use mathlib.Core.List.{List}
 use native.Mathlib.Omega.{arith}
-use lib.ListN.{length, getD, take, length-map}
-use Rattle.lists.specs.Each.{Each}
+use lib.ListN.{length, take, length-map}
 use Rattle.lists.specs.WrittenLaws.{length-written, written-over, take-written}
 use Rattle.lists.specs.Memory.{written}
 use Rattle.refusal.specs.declared.Refusal.{Refusal}
@@ -13,21 +12,17 @@ use Rattle.refusal.specs.NumberLaws.{number-between}
 use Rattle.refusal.specs.Report.{Report, turned-away}
 use Rattle.answers.specs.Decoded.{read}
 use Rattle.ctc.specs.Collapse.{collapse}
-use Rattle.ctc.specs.CollapseLaws.{collapse-each, collapse-letters, collapse-shorter}
+use Rattle.ctc.specs.CollapseLaws.{collapse-shorter}
+use Rattle.alphabet.specs.Labels.{character, characters}
 use Rattle.automaton.specs.Automaton.{Accepts}
 use Rattle.automaton.specs.Form.{view}
 use Rattle.matrix.specs.Matrix.{Matrix, price}
-use Rattle.matrix.specs.PathsLaws.{path-labels}
 use Rattle.outcome.specs.Outcome.{Best, Outcome}
+use Rattle.outcome.specs.OutcomeLaws.{rival-labels}
 use Rattle.decode_valid.specs.Answers.{outcome-report, path-of, word-of, labels, DecodeAnswers}
 use Rattle.decode_valid.specs.Lent.{Lent}
-use Rattle.read_spelling.specs.Spelling.{characters}
 use Rattle.read_spelling.specs.InPlace.{Labels, Spelt}
 use Rattle.read_valid.specs.Accepted.{ReadsAccepted}
-
-each-both : (P Q R : ℕ → Type 0) → ((x : ℕ) → P x → Q x → R x) → (w : List ℕ) → Each P w → Each Q w → Each R w
-each-both P Q R f [] h g = tt
-each-both P Q R f (x ∷ w) h g = (f x (h .0) (g .0), each-both P Q R f w (h .1) (g .1))
 
 -- the best path, from what Decode reports of it
 pub record ReadPath (f : List ℕ) (M : Matrix) (before after : Lent) (p n : ℕ) : Type 0 where
@@ -81,8 +76,7 @@ module _ (f : List ℕ) (M : Matrix) (before after : Lent) where
             room = omega arith;
             each =
                 rw (ap (take n) (r .word) ∙ take-written (collapse (r .best)) (before .word) n l)
-                (each-both (λ x. 0 < x) (λ x. x < M .width) (λ x. (1 ≤ x) × (x ≤ length A)) (λ x g h. (omega arith, omega arith)) (collapse (r .best))
-                (collapse-letters (r .best)) (collapse-each (λ x. x < M .width) (r .best) (path-labels M 0 (r .best) (r .is .qualifies .path .labels))));
+                (rival-labels (length A) M wide (Accepts (view f)) (r .best) (r .is .qualifies));
           }
 
       -- with the word written as characters, this is Read's answer
@@ -93,7 +87,7 @@ module _ (f : List ℕ) (M : Matrix) (before after : Lent) where
           let r = read-path p n a in
           let w = collapse (r .best) in
           let same : take n (after .word) ≡ w = ap (take n) (r .word) ∙ take-written w (before .word) n (r .length) in
-          let size : length (characters A w) ≡ length w = length-map w (λ x. getD A (x - 1) 0) in
+          let size : length (characters A w) ≡ length w = length-map w (character A) in
           record {
             outcome = some (r .best);
             is = r .is;

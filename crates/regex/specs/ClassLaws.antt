@@ -5,9 +5,8 @@ use mathlib.Core.Logic.{_↔_, _⊎_, inl, inr}
 use mathlib.Core.Option.{Option, some, none}
 use mathlib.Core.List.{List, [], _∷_, _++_, flatMap}
 use mathlib.Core.Bool.{Bool, true, false, not}
-use Prim.Native.Nat.{ℕ, _-_}
+use Prim.Native.Nat.{ℕ}
 use native.Mathlib.Omega.{arith}
-use lib.ListN.{getD}
 use lib.Dec.{eqb}
 use borrow.Author.Tests.{ne-eqb}
 use Rattle.lists.specs.Cases.{first-of, provided}
@@ -20,7 +19,8 @@ use Rattle.refusal.specs.declared.Refusal.{Refusal}
 use Rattle.refusal.specs.declared.Refusal.the-variants as refusal
 use Rattle.text.specs.Bytes.{bytes}
 use Rattle.text.specs.Text.{next}
-use Rattle.regex.specs.Tree.{Range, among, Set, only, except, member, set, Words}
+use Rattle.alphabet.specs.Labels.{Label, character}
+use Rattle.regex.specs.Tree.{Range, among, Set, only, except, set, HasLabel, Words}
 use Rattle.regex.specs.Letters.{labelsOf}
 use Rattle.regex.specs.Parsing.{found, fault, then, enclosed}
 use Rattle.regex.specs.Classes.{classes, look-up, class-ranges}
@@ -29,7 +29,7 @@ use Rattle.regex.specs.Parse.{m-alternation, m-branch, m-piece, m-group,
 use Rattle.regex.specs.Grammar.{TextOf, WordsOf}
 use Rattle.regex.specs.StepsLaws.{parse-step}
 use Rattle.regex.specs.Exact.{exact, one-tree}
-use Rattle.regex.specs.LabelsLaws.{label-word, Label}
+use Rattle.regex.specs.LabelsLaws.{label-word, labelled}
 
 -- A name is known exactly if it is one of the table.
 module _ (n : List ℕ) where
@@ -66,10 +66,6 @@ module _ (n : List ℕ) where
 
 -- The words of a text that is one set.
 module _ (A s : List ℕ) (c : Set) (parsed : a-set s ≡ found c []) (no-group : next "(" s ≡ false) where
-  labelled : labelled-set A s ≡ elim (eqb (labelsOf A c) 0) [ true ↦ fault refusal.Foreign s | false ↦ found c [] ]
-  unfolding labelled-set then
-  labelled = rw (parsed, labelled-set)
-
   -- without a label it is no expression
   none-parsed : (n : Refusal) (r : List ℕ) → labelled-set A s ≡ fault n r → (d : ℕ) → parse A m-alternation d s ≡ fault n r
   unfolding step then
@@ -84,15 +80,15 @@ module _ (A s : List ℕ) (c : Set) (parsed : a-set s ≡ found c []) (no-group 
   set-words w = (λ h. by (eqb (labelsOf A c) 0) refl h, λ h. (set c, text h, h))
     where
       text : Words A (set c) w → TextOf A 16 (set c) s
-      text h = let l = label-word A c .1 (w, h) in labelled ∙ rw (ne-eqb (labelsOf A c) 0 (λ z. omega arith))
+      text h = let l = label-word A c .1 (w, h) in labelled A s c [] parsed ∙ rw (ne-eqb (labelsOf A c) 0 (λ z. omega arith))
 
       by : (t : Bool) → eqb (labelsOf A c) 0 ≡ t → WordsOf A s w → Words A (set c) w
       by true e h =
-          let p = none-parsed refusal.Foreign s (labelled ∙ rw e) 16 in
+          let p = none-parsed refusal.Foreign s (labelled A s c [] parsed ∙ rw e) 16 in
           let q = exact A s (h .0) .1 (h .1) in
           let k : expressionOf A s ≡ fault refusal.Foreign s = rw (p, expressionOf) in
           let z : _≡_ {A = ℕ} 0 1 = cc in absurd (omega arith)
-      by false e h = let t : TextOf A 16 (set c) s = labelled ∙ rw e in subst (λ r. Words A r w) (one-tree A 16 s (h .0) (set c) (h .1) t) (h .2)
+      by false e h = let t : TextOf A 16 (set c) s = labelled A s c [] parsed ∙ rw e in subst (λ r. Words A r w) (one-tree A 16 s (h .0) (set c) (h .1) t) (h .2)
 
 -- Each class of the table, by itself in a bracket, means its ranges, and complemented all other bytes.
 abbrev between : List ℕ → List ℕ
@@ -112,21 +108,21 @@ each-means = (
 )
 
 -- a word of one label
-one-label : (A : List ℕ) (c : Set) (x : ℕ) → Words A (set c) (x ∷ []) ↔ (Label A x × (member c (getD A (x - 1) 0) ≡ true))
-one-label A c x = (λ h. let q : x ≡ h .0 = cc in rw q ((h .1, h .2), h .3), λ h. (x, h .0 .0, h .0 .1, h .1, refl))
+one-label : (A : List ℕ) (c : Set) (x : ℕ) → Words A (set c) (x ∷ []) ↔ HasLabel A c x
+one-label A c x = (λ h. let e = h .2 in let q : x ≡ h .0 = cc in rw q (h .1), λ h. (x, h, refl))
 
 module _ (A n : List ℕ) (rs : List Range) (class : class-ranges n ≡ some rs) (x : ℕ) where
   class-means : Means (n, rs)
   class-means = each-among Means (n, rs) classes each-means (class-known n rs class)
 
   -- A label is a word of `[[:name:]]` exactly if its character is in the class, and a word of `[^[:name:]]` exactly if it is not.
-  pub class-words : WordsOf A (between n) (x ∷ []) ↔ (Label A x × (among rs (getD A (x - 1) 0) ≡ true))
+  pub class-words : WordsOf A (between n) (x ∷ []) ↔ (Label A x × (among rs (character A x) ≡ true))
   class-words =
       let s = set-words A (between n) (only rs) (class-means .0) refl (x ∷ []) in
       let o = one-label A (only rs) x in
       (λ h. o .0 (s .0 h), λ h. s .1 (o .1 h))
 
-  pub complement-words : WordsOf A (complemented n) (x ∷ []) ↔ (Label A x × (not (among rs (getD A (x - 1) 0)) ≡ true))
+  pub complement-words : WordsOf A (complemented n) (x ∷ []) ↔ (Label A x × (not (among rs (character A x)) ≡ true))
   complement-words =
       let s = set-words A (complemented n) (except rs) (class-means .1) refl (x ∷ []) in
       let o = one-label A (except rs) x in

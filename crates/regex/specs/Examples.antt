@@ -153,6 +153,12 @@ complement-cases =
 label-cases : List Case
 label-cases = letters-of "[a-b]" 2 ∷ refused-as "[b-a]" Bracket 0 ∷ []
 
+-- over `7a7`: each label of a character is a letter; 8 is no label at all
+repeat-cases : List Case
+repeat-cases =
+    letters-of "7" 2 ∷ letters-of "." 3 ∷ letters-of "[5-8]" 2 ∷ letters-of "[7a]" 3 ∷ letters-of "[[:digit:]]" 2 ∷ letters-of "[^7]" 1 ∷ letters-of "[^a]" 2 ∷
+    letters-of "[^[:digit:]]" 1 ∷ letters-of "77" 4 ∷ letters-of "7{63}" 126 ∷ letters-of "7{64}" 128 ∷ refused-as "[^7a]" Foreign 0 ∷ refused-as "78" Foreign 1 ∷ []
+
 many : ℕ → List ℕ → List ℕ
 many zero s = []
 many (suc n) s = s ++ many n s
@@ -175,6 +181,7 @@ tried :
     × (failing (bytes "+-.:=A[]\\`ab}") class-name-cases ≡ [])
     × (failing (bytes "^ab") complement-cases ≡ [])
     × (failing (bytes "ba") label-cases ≡ [])
+    × (failing (bytes "7a7") repeat-cases ≡ [])
     -- each sign, made ordinary
     × (size signs (expressionOf signs sign-texts) ≡ 12)
     -- 232 bytes
@@ -191,8 +198,8 @@ tried :
     -- `alpha` and `:`, and then an ordinary `]`
     × (expressionOf (bytes ":A]") (bytes "[[:alpha:]:]]")
     ≡ found (join (set (only (range 65 90 ∷ range 97 122 ∷ range 58 58 ∷ []))) (set (alone 93))) [])
-unfolding failing meets text-cases bracket-cases class-cases class-bracket-cases class-name-cases complement-cases label-cases many size signs sign-texts labelsOf letterCount then first-of split enclosed provided closed reserved items members ranges-of class-ranges look-up classes known flatMap inside bracket escaped a-set labelled-set number from-on from-to comma counts sign repetition grouped step go parse whole expressionOf
-tried = (refl, refl, refl, refl, refl, refl, refl, refl, refl, refl, refl, refl, refl)
+unfolding failing meets text-cases bracket-cases class-cases class-bracket-cases class-name-cases complement-cases label-cases repeat-cases many size signs sign-texts labelsOf letterCount then first-of split enclosed provided closed reserved items members ranges-of class-ranges look-up classes known flatMap inside bracket escaped a-set labelled-set number from-on from-to comma counts sign repetition grouped step go parse whole expressionOf
+tried = (refl, refl, refl, refl, refl, refl, refl, refl, refl, refl, refl, refl, refl, refl)
 
 -- "A `-` may begin an item only first or just before the closing `]`": in the middle it may not, whatever follows it inside
 hyphen-inside : (b : Sign) (s : List Sign) → items false (byte (code "-") ∷ (b ∷ s)) ≡ none

@@ -1,6 +1,5 @@
 -- The labels of words: a set has a word exactly if it has a label, and a word's labels are those of the alphabet.
--- For the reader: nothing uses it.
-use mathlib.Core.Path.{_≡_, refl, ap, _∙_}
+use mathlib.Core.Path.{_≡_, refl, sym, ap, _∙_}
 use mathlib.Core.Logic.{_↔_, inl, inr}
 use mathlib.Core.List.{List, [], _∷_}
 use mathlib.Core.Bool.{Bool, true, false}
@@ -8,10 +7,16 @@ use Prim.Native.Nat.{ℕ, zero, suc, _+_, _-_, _≤_, _<_, suc-le-suc}
 use native.Mathlib.Omega.{arith}
 use native.Mathlib.Nat.{le-of-suc-le-suc}
 use lib.ListN.{length, getD}
-use Rattle.lists.specs.EachLaws.{each-append}
+use lib.Dec.{eqb}
+use borrow.Author.Tests.{ne-eqb, eqb-false}
+use Rattle.lists.specs.EachLaws.{each-append, each-map}
 use Rattle.lists.specs.Each.{Each}
-use Rattle.regex.specs.Tree.{Set, member, Tree, set, group, times, join, either, Joined, Words}
+use Rattle.refusal.specs.declared.Refusal.the-variants as refusal
+use Rattle.alphabet.specs.Labels.{Label}
+use Rattle.regex.specs.Tree.{Set, member, Tree, set, group, times, join, either, Joined, WordsOver, HasLabel, Words}
 use Rattle.regex.specs.Letters.{labelsOf}
+use Rattle.regex.specs.Parsing.{Parsing, found, fault, then}
+use Rattle.regex.specs.Sets.{a-set, labelled-set}
 
 -- a label of a set, counted from 0
 abbrev Place : List ℕ → Set → Type 0
@@ -34,27 +39,57 @@ some-place (b ∷ A) c h = by (member c b) refl (λ k. some-place A c k)
 
 -- A set is refused as foreign exactly if it has no word.
 pub label-word : (A : List ℕ) (c : Set) → (1 ≤ labelsOf A c) ↔ ((w : List ℕ) × Words A (set c) w)
-label-word A c = (λ h. word (some-place A c h), λ h. place-some A c (h .1 .0 - 1) (let l = h .1 .1 in let m = h .1 .2 in omega arith) (h .1 .3))
+label-word A c =
+    (λ h. word (some-place A c h), λ h. let l = h .1 .1 .0 .0 in let m = h .1 .1 .0 .1 in place-some A c (h .1 .0 - 1) (omega arith) (h .1 .1 .1))
   where
     word : Place A c → (w : List ℕ) × Words A (set c) w
     word p =
         let e : suc (p .0) - 1 ≡ p .0 = omega arith in
         let l = p .1 in
-        (suc (p .0) ∷ [], (suc (p .0), omega arith, omega arith, ap (λ (i : ℕ). member c (getD A i 0)) e ∙ p .2, refl))
+        (suc (p .0) ∷ [], (suc (p .0), ((omega arith, omega arith), ap (λ (i : ℕ). member c (getD A i 0)) e ∙ p .2), refl))
 
-module _ (A : List ℕ) where
-  -- a label of the alphabet
-  abbrev pub Label : ℕ → Type 0
-  Label x = (1 ≤ x) × (x ≤ length A)
+-- the answer where a set is at the front of the text
+pub labelled : (A s : List ℕ) (c : Set) (r : List ℕ) → a-set s ≡ found c r → labelled-set A s ≡ elim (eqb (labelsOf A c) 0) [ true ↦ fault refusal.Foreign s | false ↦ found c r ]
+unfolding labelled-set then
+labelled A s c r e = rw (e, labelled-set)
 
-  joined-labels : (W : List ℕ → Type 0) → ((w : List ℕ) → W w → Each Label w) → (k : ℕ) (w : List ℕ) → Joined W k w → Each Label w
-  joined-labels W f zero w h = rw h tt
-  joined-labels W f (suc k) w h = rw (h .2) (each-append Label (h .0) (h .1) (f (h .0) (h .3)) (joined-labels W f k (h .1) (h .4)))
+-- A set is taken exactly if it is at the front of the text and has a label.
+pub set-exactly : (A s : List ℕ) (c : Set) (r : List ℕ) → (labelled-set A s ≡ found c r) ↔ ((a-set s ≡ found c r) × (1 ≤ labelsOf A c))
+unfolding labelled-set then
+set-exactly A s c r = (
+  λ h. by (a-set s) refl h,
+  λ h. let some = h .1 in labelled A s c r (h .0) ∙ rw (ne-eqb (labelsOf A c) 0 (λ z. omega arith)),
+)
+  where
+    by : (y : Parsing Set) → a-set s ≡ y → labelled-set A s ≡ found c r → (a-set s ≡ found c r) × (1 ≤ labelsOf A c)
+    by (fault n r′) e h = let q : labelled-set A s ≡ fault n r′ = rw (e, labelled-set) in let z : _≡_ {A = ℕ} 0 1 = cc in absurd (omega arith)
+    by (found c′ r′) e h = branch (eqb (labelsOf A c′) 0) refl (sym (labelled A s c′ r′ e) ∙ h)
+      where
+        branch :
+            (t : Bool) → eqb (labelsOf A c′) 0 ≡ t → elim t [ true ↦ fault refusal.Foreign s | false ↦ found c′ r′ ] ≡ found c r
+            → (a-set s ≡ found c r) × (1 ≤ labelsOf A c)
+        branch true k q = let z : _≡_ {A = ℕ} 0 1 = cc in absurd (omega arith)
+        branch false k q =
+            let same : c′ ≡ c = cc in
+            let some : 1 ≤ labelsOf A c′ = (let n = eqb-false (labelsOf A c′) 0 k in omega arith) in
+            (e ∙ q, rw (sym same) some)
 
-  pub word-labels : (t : Tree) (w : List ℕ) → Words A t w → Each Label w
-  word-labels (set c) w h = rw (h .4) ((h .1, h .2), tt)
-  word-labels (group r) w h = word-labels r w h
-  word-labels (times r c) w h = joined-labels (Words A r) (word-labels r) (h .0) w (h .2)
-  word-labels (join r s) w h = rw (h .2) (each-append Label (h .0) (h .1) (word-labels r (h .0) (h .3)) (word-labels s (h .1) (h .4)))
-  word-labels (either r s) w (inl h) = word-labels r w h
-  word-labels (either r s) w (inr h) = word-labels s w h
+-- Each symbol of a word is one of some set.
+module _ (Has : Set → ℕ → Type 0) where
+  abbrev pub OfSome : ℕ → Type 0
+  OfSome x = (c : Set) × Has c x
+
+  joined-symbols : (W : List ℕ → Type 0) → ((w : List ℕ) → W w → Each OfSome w) → (k : ℕ) (w : List ℕ) → Joined W k w → Each OfSome w
+  joined-symbols W f zero w h = rw h tt
+  joined-symbols W f (suc k) w h = rw (h .2) (each-append OfSome (h .0) (h .1) (f (h .0) (h .3)) (joined-symbols W f k (h .1) (h .4)))
+
+  pub word-symbols : (t : Tree) (w : List ℕ) → WordsOver Has t w → Each OfSome w
+  word-symbols (set c) w h = rw (h .2) ((c, h .1), tt)
+  word-symbols (group r) w h = word-symbols r w h
+  word-symbols (times r c) w h = joined-symbols (WordsOver Has r) (word-symbols r) (h .0) w (h .2)
+  word-symbols (join r s) w h = rw (h .2) (each-append OfSome (h .0) (h .1) (word-symbols r (h .0) (h .3)) (word-symbols s (h .1) (h .4)))
+  word-symbols (either r s) w (inl h) = word-symbols r w h
+  word-symbols (either r s) w (inr h) = word-symbols s w h
+
+pub word-labels : (A : List ℕ) (t : Tree) (w : List ℕ) → Words A t w → Each (Label A) w
+word-labels A t w h = each-map (OfSome (HasLabel A)) (Label A) (λ x o. o .1 .0) w (word-symbols (HasLabel A) t w h)

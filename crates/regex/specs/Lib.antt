@@ -6,6 +6,7 @@ pub mod Sets
 pub mod Repetition
 pub mod Parse
 pub mod Grammar
+pub mod Characters
 pub mod Examples
 pub mod SignExamples
 pub mod SaysLaws
@@ -23,6 +24,7 @@ pub mod Exact
 pub mod Leftmost
 pub mod TogetherLaws
 pub mod LabelsLaws
+pub mod CharactersLaws
 pub mod NameLaws
 pub mod ClassLaws
 pub mod ClassExamples

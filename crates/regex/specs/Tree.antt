@@ -1,11 +1,11 @@
--- An expression as a tree, and its set of words over an alphabet (document 01, "Expression text").
+-- An expression as a tree, and its set of words (document 01, "Expression text"): over labels here, over characters in Characters.
 use mathlib.Core.Path.{_≡_}
 use mathlib.Core.Logic.{_⊎_}
 use mathlib.Core.List.{List, [], _∷_, _++_}
 use mathlib.Core.Bool.{Bool, true, false, not, _&&_, _||_}
-use Prim.Native.Nat.{ℕ, zero, suc, _-_, _≤_}
-use lib.ListN.{length, getD}
+use Prim.Native.Nat.{ℕ, zero, suc, _≤_}
 use lib.Dec.{leb}
+use Rattle.alphabet.specs.Labels.{Label, character}
 
 -- bytes from the first to the last, by value
 pub data Range : Type 0 where
@@ -49,10 +49,18 @@ abbrev pub Joined : (List ℕ → Type 0) → ℕ → List ℕ → Type 0
 Joined Word zero w = w ≡ []
 Joined Word (suc k) w = (u : List ℕ) × (v : List ℕ) × (w ≡ u ++ v) × Word u × Joined Word k v
 
--- The words over alphabet A: label x is the character at place x - 1.
+-- The words of a tree, where `Has c x` says that x is a one-letter word of the set c.
+abbrev pub WordsOver : (Set → ℕ → Type 0) → Tree → List ℕ → Type 0
+WordsOver Has (set c) w = (x : ℕ) × Has c x × (w ≡ x ∷ [])
+WordsOver Has (group r) w = WordsOver Has r w
+WordsOver Has (times r c) w = (k : ℕ) × Allows c k × Joined (WordsOver Has r) k w
+WordsOver Has (join r s) w = (u : List ℕ) × (v : List ℕ) × (w ≡ u ++ v) × WordsOver Has r u × WordsOver Has s v
+WordsOver Has (either r s) w = WordsOver Has r w ⊎ WordsOver Has s w
+
+-- a label of the set: one whose character belongs to it
+abbrev pub HasLabel : List ℕ → Set → ℕ → Type 0
+HasLabel A c x = Label A x × (member c (character A x) ≡ true)
+
+-- The words over the labels of the alphabet A.
 abbrev pub Words : List ℕ → Tree → List ℕ → Type 0
-Words A (set c) w = (x : ℕ) × (1 ≤ x) × (x ≤ length A) × (member c (getD A (x - 1) 0) ≡ true) × (w ≡ x ∷ [])
-Words A (group r) w = Words A r w
-Words A (times r c) w = (k : ℕ) × Allows c k × Joined (Words A r) k w
-Words A (join r s) w = (u : List ℕ) × (v : List ℕ) × (w ≡ u ++ v) × Words A r u × Words A s v
-Words A (either r s) w = Words A r w ⊎ Words A s w
+Words A = WordsOver (HasLabel A)

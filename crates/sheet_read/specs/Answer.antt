@@ -17,7 +17,7 @@ use Rattle.outcome.specs.Outcome.{Outcome}
 use Rattle.regex.specs.Grammar.{WordsOf}
 use Rattle.compile.specs.Call.{compile-call}
 use Rattle.decode_checks.specs.Checks.{Rooms, matrix-checks}
-use Rattle.read_spelling.specs.Spelling.{characters}
+use Rattle.alphabet.specs.Labels.{characters}
 use Rattle.sheet_lines.specs.Lines.{reading-lines, refusal-line}
 
 -- "It lends 16,384 words each of form and work, and 255 bytes each for path and word."

@@ -10,7 +10,7 @@ use Rattle.ctc.specs.Collapse.{collapse}
 use Rattle.ctc.specs.CollapseLaws.{collapse-shorter}
 use Rattle.matrix.specs.Matrix.{Matrix, price}
 use Rattle.matrix.specs.PathsLaws.{path-labels}
-use Rattle.read_spelling.specs.Spelling.{characters}
+use Rattle.alphabet.specs.Labels.{character, characters}
 use Rattle.sheet_lines.specs.LengthsLaws.{reading-short, refusal-short}
 use Rattle.sheet_read.specs.Answer.{longest, PrintsReading}
 use Rattle.sheet_read.specs.PrintedLaws.{PrintsRefusal, PrintsPath, reading-printed, printed-price}
@@ -25,7 +25,7 @@ path-bound A M output h =
     let narrow = h .narrow in
     let n = h .is .one-each in
     let s = collapse-shorter p in
-    let m = length-map (collapse p) (λ x. getD A (x - 1) 0) in
+    let m = length-map (collapse p) (character A) in
     let most = printed-price h in
     let e = ap length (h .lines) in
     let l =

@@ -26,7 +26,7 @@ use Rattle.compile.specs.Call.{compile-call}
 use Rattle.compile.specs.Meaning.{compiled-means}
 use Rattle.decode_checks.specs.Checks.{matrix-checks}
 use Rattle.decode_checks.specs.PassingLaws.{fits}
-use Rattle.read_spelling.specs.Spelling.{characters}
+use Rattle.alphabet.specs.Labels.{characters}
 use Rattle.sheet_lines.specs.Lines.{reading-lines, refusal-line}
 use Rattle.sheet_read.specs.Answer.{form-room, lent-rooms, outcome-lines, PrintsOutcome, PrintsChecked, PrintsCompiled, PrintsReading}
 

@@ -28,7 +28,7 @@ use Rattle.compile.specs.Call.{compile-call}
 use Rattle.decode_checks.specs.Checks.{needed, matrix-checks}
 use Rattle.decode_valid.specs.Answers.{outcome-report, path-of, word-of, Answers, Checks}
 use Rattle.decode_valid.specs.Lent.{Lent, rooms}
-use Rattle.read_spelling.specs.Spelling.{characters}
+use Rattle.alphabet.specs.Labels.{character, characters}
 use Rattle.read_text.specs.Promise.{ReadsBy, Reads}
 use Rattle.sheet_lines.specs.Lines.{reading-lines, refusal-line}
 use Rattle.sheet_print.specs.Printed.{Shown, answer-lines}
@@ -102,7 +102,7 @@ module _ (Printed : List ℕ → Type 0) (A : List ℕ) (M : Matrix) (before aft
   said-best : (p n l : ℕ) → Said Printed A M before after (read p n l) → Readable p n
   said-best p n l (away m e h) = absurd (never-both m p n l e)
   said-best p n l (best b k c e u v h) =
-      let size : length (characters A (collapse b)) ≡ length (collapse b) = length-map (collapse b) (λ x. getD A (x - 1) 0) in
+      let size : length (characters A (collapse b)) ≡ length (collapse b) = length-map (collapse b) (character A) in
       let count : n ≡ length (collapse b) = ap (λ (r : Report). r .filled) e in
       let same-price : p ≡ price M b = ap (λ (r : Report). r .price) e in
       let same-word : take n (after .word) ≡ characters A (collapse b) = ap (take n) v ∙ take-written (characters A (collapse b)) (before .word) n (count ∙ sym size) in
