@@ -18,13 +18,15 @@
    A call keeps no pointer and no state. Calls from several threads at once are safe if they share no lent memory: the lent memory of one
    call must not overlap any list of another. Const lists may be shared.
 
-   Labels 1 to K are the characters of the alphabet in their order, and 0 is the blank. A column of a matrix has the costs of labels 0 to K:
-   each is at most 1,000,000, or KAVUREHY_BARRED if the label is barred in that column. A form is a list of 32-bit words; its first word has
-   L, the number of letters, in bits 0 to 7, and K in bits 16 to 23. Decode and read need (columns + 1) * (2 * L + 1) work words. No call
-   needs more than 65,280, that is 256 * 255, for 255 columns and 127 letters.
+   K is the length of the alphabet, label x from 1 to K is its x-th character, and 0 is the blank. An alphabet may list a character more
+   than once: it then has several labels, as a 7 that is written in two shapes. Equal neighbours of a path are equal labels, so two labels of
+   one character side by side are two characters without a blank between. A column of a matrix has the costs of labels 0 to K: each is at
+   most 1,000,000, or KAVUREHY_BARRED if the label is barred in that column. A form is a list of 32-bit words; its first word has L, the
+   number of letters, in bits 0 to 7, and K in bits 16 to 23. Decode and read need (columns + 1) * (2 * L + 1) work words. No call needs more
+   than 65,280, that is 256 * 255, for 255 columns and 127 letters.
 
    Each call returns 0, or the number of the refusal that applies:
-      1 alphabet       not 1 to 95 distinct bytes, each 32 to 126
+      1 alphabet       not 1 to 95 bytes, each 32 to 126
       2 text length    0 or over 255
       3 text byte      a byte outside 32 to 126
       4 misplaced sign a repetition with nothing to repeat, or after another repetition, except one ?; an empty branch or group; a stray or
@@ -33,7 +35,7 @@
       6 count          braces ill-formed or out of range
       7 bracket        unclosed, a descending range, a hyphen where no item may begin with it, [. or [= inside, [: without :] after it, or
                        a class as the end of a range
-      8 foreign        a character that is not in the alphabet, or a bracket without a label
+      8 foreign        a character or a bracket without any label in the alphabet
       9 letters        more than 127
      10 form memory    shorter than the form
      11 bad form       the list is no valid form
@@ -64,8 +66,9 @@
 extern "C" {
 #endif
 
-/* Writes the form of an expression over an alphabet to form, and its length to counts[0]. The form accepts a word of labels exactly if the
-   word is one of the expression's, by its text. A bracket may have classes, as in [[:digit:].-]: the characters of the alphabet that are in
+/* Writes the form of an expression over an alphabet to form, and its length to counts[0]. The form accepts a list of labels exactly if each
+   is 1 to K and their characters are a word of the expression, by its text. A character, a range, . and a bracket mean all labels of their
+   characters, and each of these is a letter. A bracket may have classes, as in [[:digit:].-]: the characters of the alphabet that are in
    the class of that name in the POSIX locale. No form is longer than 16,257 words: the head, 127 letters, an arc from each to each.
    Returns 0, or a refusal: 1 to 10, 19. */
 uint32_t kavurehy_compile(const uint8_t *alphabet, size_t alphabet_length, const uint8_t *text, size_t text_length, uint32_t *form,
@@ -93,8 +96,8 @@ uint32_t kavurehy_decode(const uint32_t *form, size_t form_length, const uint32_
                          uint32_t counts[2]);
 
 /* Compiles an expression over an alphabet and reads a matrix with it. Writes the form as compile does, and path and word as decode does,
-   except that the word is in characters of the alphabet, and that the words of the expression take the place of those that the form
-   accepts. Writes the price to counts[0], the word's length to counts[1] and the form's to counts[2]. The needed work words,
+   except that the word is in characters of the alphabet, and that it is a word of the expression, as characters, in place of one that the
+   form accepts. Writes the price to counts[0], the word's length to counts[1] and the form's to counts[2]. The needed work words,
    (columns + 1) * (2 * L + 1) for an expression of L letters, may hold anything afterwards; the others are as they were. Returns 0, or a
    refusal: 1 to 10, 12 to 16, 19. After 12 to 16 the form memory holds the form, though counts[2] is 0: after 15 its first word says how many
    work words are needed. */

@@ -13,7 +13,8 @@ ghost use Rattle.read_text.specs.Promise.{Reads};
 
 // Document 01's Read, for an alphabet of K characters, the text of an expression and a matrix of T columns; the compiled form of the
 // expression has L letters. Of all paths, lists of T labels 0 to K that use no barred label, whose CTC collapse is a word of the expression,
-// it finds the cheapest, and among equals the first by labels. Label 0 is the blank, and label i is the i-th character of the alphabet.
+// it finds the cheapest, and among equals the first by labels. Label 0 is the blank, and label i is the i-th character of the alphabet,
+// which may list a character more than once: a list of labels is a word if its characters spell one.
 // - On success it writes the compiled form to the front of `form`, the path to the front of `path` and its collapse, as characters, to the
 //   front of `word`, and returns the price, which is the sum of the path's costs, and the lengths of the collapse and of the form.
 // - Refusal 16, no reading, means that there is no such path. It leaves `path` and `word` as they were.
@@ -24,8 +25,8 @@ ghost use Rattle.read_text.specs.Promise.{Reads};
 // After refusals 12 to 16 too, `form` begins with the compiled form. Success and refusal 16 may change (T + 1) × (2L + 1) words of `work`.
 // Memory after these, and after what is written, is as it was.
 //
-// `Reads` is this promise (read_text, specs/Promise.antt); specs/Demands.antt has what it means for a caller, as theorems, with rivals as
-// document 01 has them. Nothing in it speaks of states. Demand 3 in `Reads`, clause by clause:
+// `Reads` is this promise (read_text, specs/Promise.antt), by the words over labels; specs/Demands.antt has what it means for a caller, as
+// theorems, with rivals as document 01 has them and words over characters. Nothing in it speaks of states. Demand 3 in `Reads`, clause by clause:
 // - the cheapest rival: the field `is` of `Answers`, an `Outcome` for the words of the text; where it is a path, `Best` says of it
 //   `qualifies` (a rival: one label for each column, none of them barred, its collapse a word) and `least`;
 // - the first by labels among equals: `first` of `Best`;
