@@ -1,8 +1,10 @@
 //! Brackets and braces, each at the beginning of a text.
+use super::alphabet::labelled;
 use super::class::class;
 use std::ops::RangeInclusive;
 
-/// The labels of a bracket and its length; 7 where it is none, 19 where a class has no known name, 8 where it has no label.
+/// The characters of a bracket and its length; 7 where it is none, 19 where a class has no known name, 8 where no character has a
+/// label.
 pub fn bracket(alphabet: &[u8], text: &[u8]) -> Result<(Vec<u8>, usize), u32> {
     let complement = text.get(1) == Some(&b'^');
     let start = if complement { 2 } else { 1 };
@@ -16,13 +18,8 @@ pub fn bracket(alphabet: &[u8], text: &[u8]) -> Result<(Vec<u8>, usize), u32> {
     let classes = classes.ok_or(19u32)?;
     let inside =
         |c: u8| ranges.iter().any(|range| range.contains(&c)) || classes.iter().any(|has| has(c));
-    let labels: Vec<u8> = (1..=alphabet.len() as u8)
-        .filter(|&x| inside(alphabet[usize::from(x) - 1]) != complement)
-        .collect();
-    if labels.is_empty() {
-        return Err(8);
-    }
-    Ok((labels, end + 1))
+    let characters = labelled(alphabet, |c| inside(c) != complement)?;
+    Ok((characters, end + 1))
 }
 
 /// A sign inside a bracket: a class, by its name, or one byte.

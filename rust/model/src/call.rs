@@ -1,4 +1,5 @@
 //! A call of Read, and what it should answer and write.
+use crate::alphabet::characters_of;
 use crate::derivatives::Machine;
 use crate::expression::Tree;
 use crate::form::Form;
@@ -46,10 +47,12 @@ impl Call {
         }
     }
 
-    /// The best path by a search over all lists of labels.
+    /// The best path by a search over all lists of labels; a list is a word if the characters of its labels spell one.
     pub fn search(&self, tree: &Tree, form: &Form) -> Option<Best> {
         let Line { costs, columns, .. } = &self.line;
-        exhaustive(form.k, costs, *columns, |word| is_word(tree, word))
+        exhaustive(form.k, costs, *columns, |word| {
+            is_word(tree, &self.characters(word))
+        })
     }
 
     /// The best path by what remains of the tree, and by the form: the two must agree.
@@ -62,7 +65,6 @@ impl Call {
 
     /// The characters of a word.
     pub fn characters(&self, word: &[u8]) -> Vec<u8> {
-        let character = |&x: &u8| self.alphabet[usize::from(x) - 1];
-        word.iter().map(character).collect()
+        characters_of(&self.alphabet, word)
     }
 }

@@ -13,7 +13,8 @@ type Remainder = Vec<Rc<Tree>>;
 /// All that may remain.
 type State = BTreeSet<Remainder>;
 
-/// The states of an expression by number, the whole expression first: may the word end, and where do labels lead?
+/// The states of an expression by number, the whole expression first: may the word end, and where do labels lead? A label leads
+/// where its character does.
 pub struct Machine {
     ends: Vec<bool>,
     steps: Vec<Vec<(u8, usize)>>,
@@ -21,7 +22,7 @@ pub struct Machine {
 
 impl Machine {
     /// None if there are more states than `most`.
-    pub fn new(tree: &Rc<Tree>, k: u8, most: usize) -> Option<Machine> {
+    pub fn new(tree: &Rc<Tree>, alphabet: &[u8], most: usize) -> Option<Machine> {
         let mut states = vec![State::from([vec![tree.clone()]])];
         let mut numbers = BTreeMap::from([(states[0].clone(), 0)]);
         let mut machine = Machine {
@@ -31,8 +32,8 @@ impl Machine {
         while machine.steps.len() < states.len() {
             let here = states[machine.steps.len()].clone();
             let mut steps = Vec::new();
-            for x in 1..=k {
-                let next: State = here.iter().flat_map(|rest| after_all(rest, x)).collect();
+            for (x, &c) in (1..).zip(alphabet) {
+                let next: State = here.iter().flat_map(|rest| after_all(rest, c)).collect();
                 if !next.is_empty() {
                     let number = *numbers.entry(next.clone()).or_insert(states.len());
                     if number == states.len() {
@@ -50,7 +51,7 @@ impl Machine {
         Some(machine)
     }
 
-    /// Is the word one of the expression's?
+    /// Is the word of labels one of the expression's?
     pub fn is_word(&self, word: &[u8]) -> bool {
         let step = |at: usize, x: &u8| {
             let found = self.steps[at].iter().find(|step| step.0 == *x);
@@ -134,29 +135,29 @@ fn empty_all(parts: &[Rc<Tree>]) -> bool {
     parts.iter().all(|part| empty(part))
 }
 
-/// What may remain of an expression after the label x.
-fn after(tree: &Tree, x: u8) -> State {
+/// What may remain of an expression after the character c.
+fn after(tree: &Tree, c: u8) -> State {
     match tree {
-        Tree::Set(labels) if labels.contains(&x) => State::from([Vec::new()]),
+        Tree::Set(characters) if characters.contains(&c) => State::from([Vec::new()]),
         Tree::Set(_) => State::new(),
-        Tree::Join(parts) => after_all(parts, x),
-        Tree::Either(branches) => branches.iter().flat_map(|b| after(b, x)).collect(),
+        Tree::Join(parts) => after_all(parts, c),
+        Tree::Either(branches) => branches.iter().flat_map(|b| after(b, c)).collect(),
         Tree::Repeat(part, least, most) => {
             let left = most.map(|m| m - 1);
             let again = Rc::new(Tree::Repeat(part.clone(), least.saturating_sub(1), left));
             let more = (left != Some(0)).then_some(again);
             let with = |rest: Remainder| rest.into_iter().chain(more.clone()).collect();
-            after(part, x).into_iter().map(with).collect()
+            after(part, c).into_iter().map(with).collect()
         }
     }
 }
 
-/// The same for parts joined: x is the first label of some part before which all may be empty.
-fn after_all(parts: &[Rc<Tree>], x: u8) -> State {
+/// The same for parts joined: c is the first character of some part before which all may be empty.
+fn after_all(parts: &[Rc<Tree>], c: u8) -> State {
     let mut all = State::new();
     for (n, part) in parts.iter().enumerate() {
         let with = |rest: Remainder| rest.into_iter().chain(parts[n + 1..].to_vec()).collect();
-        all.extend(after(part, x).into_iter().map(with));
+        all.extend(after(part, c).into_iter().map(with));
         if !empty(part) {
             break;
         }

@@ -1,9 +1,11 @@
 //! From the text of an expression to its tree or its refusal: first the signs one by one, then every fault with its place, where
 //! the leftmost counts, then the tree by a stack of open groups.
+use super::alphabet::labelled;
 use super::bracket::{braces, bracket};
 use std::rc::Rc;
 
-/// A set of labels, ascending; parts joined; branches; or a part repeated, with the least and the most number of times.
+/// A set of characters of the alphabet, ascending; parts joined; branches; or a part repeated, with the least and the most number
+/// of times.
 #[derive(Debug, PartialEq, Eq, PartialOrd, Ord)]
 pub enum Tree {
     Set(Vec<u8>),
@@ -43,8 +45,7 @@ type Token = (usize, Result<(Sign, usize), u32>);
 /// lowest number; 19 is the only fault at its place, since a bracket has one fault at most.
 pub fn parse(alphabet: &[u8], text: &[u8]) -> Result<Rc<Tree>, u32> {
     let printable = |b: &u8| (32..=126).contains(b);
-    let doubled = (1..alphabet.len()).any(|n| alphabet[..n].contains(&alphabet[n]));
-    if !(1..=95).contains(&alphabet.len()) || doubled || !alphabet.iter().all(printable) {
+    if !(1..=95).contains(&alphabet.len()) || !alphabet.iter().all(printable) {
         return Err(1);
     }
     if !(1..=255).contains(&text.len()) {
@@ -75,9 +76,9 @@ fn tokens(alphabet: &[u8], text: &[u8]) -> Vec<Token> {
 
 /// The sign that the text begins with, and its length.
 fn sign(alphabet: &[u8], text: &[u8]) -> Result<(Sign, usize), u32> {
-    let ordinary = |c: u8, length| match alphabet.iter().position(|&a| a == c) {
-        Some(n) => Ok((Sign::Set(vec![n as u8 + 1]), length)),
-        None => Err(8),
+    let ordinary = |c: u8, length| {
+        let alone = labelled(alphabet, |other| other == c)?;
+        Ok((Sign::Set(alone), length))
     };
     match text[0] {
         b'(' => Ok((Sign::Open, 1)),
@@ -87,8 +88,8 @@ fn sign(alphabet: &[u8], text: &[u8]) -> Result<(Sign, usize), u32> {
         b'+' => Ok((Sign::Times(1, None), 1)),
         b'?' => Ok((Sign::Times(0, Some(1)), 1)),
         b'{' => braces(text).map(|(least, most, length)| (Sign::Times(least, most), length)),
-        b'[' => bracket(alphabet, text).map(|(labels, length)| (Sign::Set(labels), length)),
-        b'.' => Ok((Sign::Set((1..=alphabet.len() as u8).collect()), 1)),
+        b'[' => bracket(alphabet, text).map(|(characters, length)| (Sign::Set(characters), length)),
+        b'.' => labelled(alphabet, |_| true).map(|all| (Sign::Set(all), 1)),
         b'^' | b'$' => Err(4),
         b'\\' => match text.get(1) {
             Some(&c) if b"^.[$()|*+?{\\".contains(&c) => ordinary(c, 2),
@@ -159,7 +160,7 @@ fn tree(text: &[u8], tokens: Vec<Token>) -> Rc<Tree> {
         match sign.unwrap().0 {
             Sign::Open => groups.push(Group::default()),
             Sign::Bar => branches.push(joined(std::mem::take(parts))),
-            Sign::Set(labels) => parts.push(Rc::new(Tree::Set(labels))),
+            Sign::Set(characters) => parts.push(Rc::new(Tree::Set(characters))),
             Sign::Times(least, most) if !modifier => {
                 let part = parts.pop().unwrap();
                 parts.push(Rc::new(Tree::Repeat(part, least, most)));

@@ -1,7 +1,9 @@
-//! Document 01 in plain Rust, as close to its sentences as possible, with two requests of document 02: classes of characters (T-01)
-//! and barred labels (T-06). Nothing here is taken from the Rattle code; parser, matcher and search use other methods, and `ranked`
-//! breaks ties in another way. `input` makes random input, `tally` counts answers.
+//! Document 01 in plain Rust, as close to its sentences as possible, with three requests of document 02: classes of characters
+//! (T-01), barred labels (T-06) and characters with several labels (T-07). Nothing here is taken from the Rattle code; parser,
+//! matcher and search use other methods, and `ranked` breaks ties in another way. `input` makes random input, `tally` counts
+//! answers.
 
+pub mod alphabet;
 pub mod bracket;
 pub mod call;
 pub mod class;

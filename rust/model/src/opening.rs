@@ -1,4 +1,5 @@
 //! Opening an expression into letters, and its form: first and last letters, and the arcs of joining and repeating.
+use super::alphabet::labels_of;
 use super::expression::{parse, Tree};
 use super::form::{Form, Letter};
 use std::collections::BTreeSet;
@@ -7,7 +8,7 @@ use std::rc::Rc;
 /// The tree and the form of a text, or the first of refusals 1 to 9 and 19 that applies.
 pub fn compile(alphabet: &[u8], text: &[u8]) -> Result<(Rc<Tree>, Form), u32> {
     let tree = parse(alphabet, text)?;
-    if letters(&tree) > 127 {
+    if letters(alphabet, &tree) > 127 {
         return Err(9);
     }
     let mut form = Form {
@@ -16,7 +17,7 @@ pub fn compile(alphabet: &[u8], text: &[u8]) -> Result<(Rc<Tree>, Form), u32> {
         letters: Vec::new(),
         arcs: BTreeSet::new(),
     };
-    let part = number(&open(&tree), &mut form);
+    let part = number(&open(alphabet, &tree), &mut form);
     form.empty = part.empty;
     for i in part.first {
         form.letters[usize::from(i) - 1].first = true;
@@ -41,14 +42,14 @@ pub fn compile_within(
 }
 
 /// How many letters an expression opens into. Nested counts multiply beyond any integer: the largest is used for all of those.
-fn letters(tree: &Tree) -> usize {
+fn letters(alphabet: &[u8], tree: &Tree) -> usize {
     match tree {
-        Tree::Set(labels) => labels.len(),
-        Tree::Join(parts) | Tree::Either(parts) => parts
-            .iter()
-            .fold(0, |sum: usize, part| sum.saturating_add(letters(part))),
+        Tree::Set(characters) => labels_of(alphabet, characters).len(),
+        Tree::Join(parts) | Tree::Either(parts) => parts.iter().fold(0, |sum: usize, part| {
+            sum.saturating_add(letters(alphabet, part))
+        }),
         Tree::Repeat(part, least, most) => {
-            letters(part).saturating_mul(most.unwrap_or(*least).max(1))
+            letters(alphabet, part).saturating_mul(most.unwrap_or(*least).max(1))
         }
     }
 }
@@ -63,21 +64,27 @@ enum Opened {
     Plus(Box<Opened>),
 }
 
-fn open(tree: &Tree) -> Opened {
+/// A set becomes the alternation of all labels of its characters.
+fn open(alphabet: &[u8], tree: &Tree) -> Opened {
     match tree {
-        Tree::Set(labels) => Opened::Either(labels.iter().map(|&x| Opened::Letter(x)).collect()),
-        Tree::Join(parts) => Opened::Join(parts.iter().map(|part| open(part)).collect()),
-        Tree::Either(branches) => Opened::Either(branches.iter().map(|b| open(b)).collect()),
-        Tree::Repeat(part, 0, None) => Opened::Star(Box::new(open(part))),
+        Tree::Set(characters) => {
+            let labels = labels_of(alphabet, characters);
+            Opened::Either(labels.into_iter().map(Opened::Letter).collect())
+        }
+        Tree::Join(parts) => Opened::Join(parts.iter().map(|part| open(alphabet, part)).collect()),
+        Tree::Either(branches) => {
+            Opened::Either(branches.iter().map(|b| open(alphabet, b)).collect())
+        }
+        Tree::Repeat(part, 0, None) => Opened::Star(Box::new(open(alphabet, part))),
         Tree::Repeat(part, least, None) => {
-            let mut parts = copies(part, least - 1);
-            parts.push(Opened::Plus(Box::new(open(part))));
+            let mut parts = copies(alphabet, part, least - 1);
+            parts.push(Opened::Plus(Box::new(open(alphabet, part))));
             Opened::Join(parts)
         }
         Tree::Repeat(part, least, Some(most)) => {
-            let mut parts = copies(part, *least);
+            let mut parts = copies(alphabet, part, *least);
             parts.extend((*least..*most).fold(None, |inner, _| {
-                let nested = copies(part, 1).into_iter().chain(inner).collect();
+                let nested = copies(alphabet, part, 1).into_iter().chain(inner).collect();
                 Some(Opened::Optional(Box::new(Opened::Join(nested))))
             }));
             Opened::Join(parts)
@@ -85,8 +92,8 @@ fn open(tree: &Tree) -> Opened {
     }
 }
 
-fn copies(part: &Tree, n: usize) -> Vec<Opened> {
-    (0..n).map(|_| open(part)).collect()
+fn copies(alphabet: &[u8], part: &Tree, n: usize) -> Vec<Opened> {
+    (0..n).map(|_| open(alphabet, part)).collect()
 }
 
 /// Of a part: is the empty word one of its words, and which letters may be first or last?

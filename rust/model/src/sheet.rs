@@ -98,7 +98,7 @@ fn search(call: &Call, tree: &Rc<Tree>, form: &Form) -> Option<Best> {
     if lists.is_some_and(|n| n <= 10_000) {
         return call.search(tree, form);
     }
-    match Machine::new(tree, form.k, 300) {
+    match Machine::new(tree, &call.alphabet, 300) {
         Some(machine) => call.search_twice(&machine, form),
         None => ranked(form, &call.line.costs),
     }

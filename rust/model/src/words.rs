@@ -1,7 +1,7 @@
 //! An expression's set of words, by its tree: where in a word each part may end.
 use super::expression::Tree;
 
-/// Is the word, of at most 63 labels, one of the expression's?
+/// Is the word, of at most 63 characters, one of the expression's?
 pub fn is_word(tree: &Tree, word: &[u8]) -> bool {
     ends(tree, word, 1) >> word.len() & 1 == 1
 }
@@ -9,8 +9,8 @@ pub fn is_word(tree: &Tree, word: &[u8]) -> bool {
 /// The places of the word where the expression may end if it begins at one of the places `from`; a place is a bit.
 fn ends(tree: &Tree, word: &[u8], from: u64) -> u64 {
     match tree {
-        Tree::Set(labels) => {
-            let fits = |&n: &usize| from >> n & 1 == 1 && labels.contains(&word[n]);
+        Tree::Set(characters) => {
+            let fits = |&n: &usize| from >> n & 1 == 1 && characters.contains(&word[n]);
             let places = (0..word.len()).filter(fits);
             places.fold(0, |set, n| set | 1 << (n + 1))
         }

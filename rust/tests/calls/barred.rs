@@ -1,6 +1,6 @@
 //! Barred labels: an exhaustive search on small matrices that have some, two other exact methods on long lines, and refusal 13.
 use crate::decode;
-use crate::read_call::{hold_long, hold_small};
+use crate::read_call::{hold_both, hold_long, hold_small};
 use crate::LEAST;
 use model::call::Call;
 use model::form::Form;
@@ -98,12 +98,7 @@ fn barred_reads() {
             continue;
         };
         if form.letters.len() <= 20 && call.line.costs.contains(&BARRED) {
-            let answer = hold_small(&call, &mut tally);
-            let by_form = decode::Call {
-                form: form.words(),
-                line: call.line.clone(),
-            };
-            assert_eq!(by_form.hold_small(&mut tally), answer, "{call:?}");
+            let answer = hold_both(&call, &form, &mut tally);
             seen.add(&form, &call.line, &answer);
         }
     }

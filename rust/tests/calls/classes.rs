@@ -142,6 +142,6 @@ fn place_of_unknown_classes() {
     answer(19, &format!("{}[[:x:]]", "(".repeat(16)));
     answer(5, &format!("{}[[:x:]]", "(".repeat(17)));
     answer(3, "[[:x:]]\n");
-    answers(b"aa", 1, "[[:x:]]");
+    answers(b"a\x7f", 1, "[[:x:]]");
     assert_eq!(hold(b"ab", b"[[:x:]]", 0), 19);
 }

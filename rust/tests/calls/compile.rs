@@ -2,6 +2,7 @@
 use crate::support::{number, Lent};
 use crate::LEAST;
 use kavurehy::{raw, Refusal, FORM_WORDS};
+use model::alphabet::{characters_of, labels_of};
 use model::derivatives::Machine;
 use model::expression::{parse, Tree};
 use model::input::texts::{alphabet, bad_alphabet, text};
@@ -77,24 +78,30 @@ fn words_of_texts() {
         if text.len() <= 255 {
             assert_eq!(parse(&alphabet, &text), Ok(tree.clone()));
         }
-        let machine = Machine::new(&tree, alphabet.len() as u8, 100);
-        let mut form = vec![0; FORM_WORDS];
-        let length = match kavurehy::compile(&alphabet, &text, &mut form) {
+        let machine = Machine::new(&tree, &alphabet, 100);
+        let words = [(); 20].map(|_| word(&mut r, &tree, &alphabet));
+        let answers = match accepted(&alphabet, &text, &words) {
             Err(Refusal::TextLength | Refusal::Letters) => continue,
-            length => length.unwrap(),
+            answers => answers.unwrap(),
         };
-        for _ in 0..20 {
-            let word = word(&mut r, &tree, alphabet.len());
-            let accepted = is_word(&tree, &word);
-            assert_eq!(kavurehy::judge(&form[..length], &word), Ok(accepted));
+        for (word, accepted) in words.iter().zip(answers) {
+            assert_eq!(is_word(&tree, &characters_of(&alphabet, word)), accepted);
             if let Some(machine) = &machine {
-                assert_eq!(machine.is_word(&word), accepted);
+                assert_eq!(machine.is_word(word), accepted);
             }
             yes += usize::from(accepted);
             no += usize::from(!accepted);
         }
     }
     assert!(yes >= CASES / 10 && no >= CASES / 10, "{yes} {no}");
+}
+
+/// Does Judge of the compiled text accept each of these words? The refusal if the text does not compile.
+pub fn accepted(alphabet: &[u8], text: &[u8], words: &[Vec<u8>]) -> Result<Vec<bool>, Refusal> {
+    let mut form = vec![0; FORM_WORDS];
+    let length = kavurehy::compile(alphabet, text, &mut form)?;
+    let form = &form[..length];
+    words.iter().map(|w| kavurehy::judge(form, w)).collect()
 }
 
 /// The text for which Compile was seen to use the most stack, on a thread with less than 1.5 times that (FIGURES.md).
@@ -112,20 +119,27 @@ fn deepest_text() {
 }
 
 /// A word of at most 60 labels: one of the expression's if it is not longer, at times with one label changed.
-pub fn word(r: &mut Random, tree: &Tree, k: usize) -> Vec<u8> {
-    let mut word = Vec::new();
-    spell(r, tree, &mut word);
-    word.truncate(60);
+pub fn word(r: &mut Random, tree: &Tree, alphabet: &[u8]) -> Vec<u8> {
+    let mut characters = Vec::new();
+    spell(r, tree, &mut characters);
+    characters.truncate(60);
+    let mut word = any_labels(r, alphabet, &characters);
     if !word.is_empty() && r.chance(50) {
         let n = r.below(word.len());
-        word[n] = r.from(1, k) as u8;
+        word[n] = r.from(1, alphabet.len()) as u8;
     }
     word
 }
 
+/// One of its labels for each character.
+pub fn any_labels(r: &mut Random, alphabet: &[u8], characters: &[u8]) -> Vec<u8> {
+    let any_label = |&c: &u8| *r.pick(&labels_of(alphabet, &[c]));
+    characters.iter().map(any_label).collect()
+}
+
 fn spell(r: &mut Random, tree: &Tree, word: &mut Vec<u8>) {
     match tree {
-        Tree::Set(labels) => word.push(*r.pick(labels)),
+        Tree::Set(characters) => word.push(*r.pick(characters)),
         Tree::Join(parts) => parts.iter().for_each(|part| spell(r, part, word)),
         Tree::Either(branches) => {
             let branch = r.pick(branches);

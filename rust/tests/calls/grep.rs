@@ -1,6 +1,9 @@
-//! Classes in brackets against `grep -E -x` in the C locale. Where no grep can be started, these tests say so and pass.
-use crate::compile::word;
-use kavurehy::{compile, judge, Refusal, FORM_WORDS};
+//! Classes in brackets against `grep -E -x` in the C locale, which knows characters and no labels. Where no grep can be started,
+//! these tests say so and pass.
+use crate::compile::{accepted, word};
+use crate::repeats::repeats;
+use kavurehy::Refusal;
+use model::alphabet::characters_of;
 use model::expression::{parse, Tree};
 use model::input::texts::alphabet;
 use model::input::writer::CLASSES;
@@ -40,7 +43,7 @@ fn grep(text: &str, lines: &[u8]) -> Output {
 fn selected(alphabet: &[u8], text: &str, words: &[Vec<u8>]) -> Vec<bool> {
     let mut lines = Vec::new();
     for word in words {
-        lines.extend(word.iter().map(|&x| alphabet[usize::from(x) - 1]));
+        lines.extend(characters_of(alphabet, word));
         lines.push(b'\n');
     }
     let output = grep(text, &lines);
@@ -54,13 +57,6 @@ fn selected(alphabet: &[u8], text: &str, words: &[Vec<u8>]) -> Vec<bool> {
         selected[number.parse::<usize>().unwrap() - 1] = true;
     }
     selected
-}
-
-/// Does Judge of the compiled text accept each of these words? The refusal if the text does not compile.
-fn accepted(alphabet: &[u8], text: &str, words: &[Vec<u8>]) -> Result<Vec<bool>, Refusal> {
-    let mut form = vec![0; FORM_WORDS];
-    let length = compile(alphabet, text.as_bytes(), &mut form)?;
-    words.iter().map(|w| judge(&form[..length], w)).collect()
 }
 
 /// Each class and its complement, with each of the 95 characters as a word; a bracket without a character is refusal 8.
@@ -78,7 +74,8 @@ fn members_by_grep() {
                 true => Ok(selected),
                 false => Err(Refusal::Foreign),
             };
-            assert_eq!(accepted(&all, &text, &words), expected, "{text}");
+            let accepted = accepted(&all, text.as_bytes(), &words);
+            assert_eq!(accepted, expected, "{text}");
         }
     }
 }
@@ -153,21 +150,22 @@ fn expression(r: &mut Random, alphabet: &[u8]) -> String {
 }
 
 /// A word of the expression, at times with one label changed, or any short word.
-fn random_word(r: &mut Random, tree: &Tree, k: usize) -> Vec<u8> {
+fn random_word(r: &mut Random, tree: &Tree, alphabet: &[u8]) -> Vec<u8> {
+    let k = alphabet.len();
     match r.chance(40) {
-        true => word(r, tree, k),
+        true => word(r, tree, alphabet),
         false => (0..r.from(0, 4)).map(|_| r.from(1, k) as u8).collect(),
     }
 }
 
-/// Judge of a compiled text accepts a word exactly if grep selects it.
+/// Judge of a compiled text accepts a word exactly if grep selects its characters; many alphabets repeat some.
 #[test]
 fn words_by_grep() {
     if !is_there("words_by_grep") {
         return;
     }
     let mut r = random("words_by_grep");
-    let (mut yes, mut no) = (0, 0);
+    let (mut yes, mut no, mut repeated) = (0, 0, 0);
     while yes + no < PAIRS {
         let most = *r.pick(&[6, 12, 30]);
         let alphabet = alphabet(&mut r, most);
@@ -177,25 +175,24 @@ fn words_by_grep() {
             tree => tree.unwrap(),
         };
         let words: Vec<_> = (0..WORDS)
-            .map(|_| random_word(&mut r, &tree, alphabet.len()))
+            .map(|_| random_word(&mut r, &tree, &alphabet))
             .collect();
-        match accepted(&alphabet, &text, &words) {
+        match accepted(&alphabet, text.as_bytes(), &words) {
             Err(Refusal::Letters) => {}
             Err(refusal) => panic!("{text} over {}: {refusal}", alphabet.escape_ascii()),
             Ok(accepted) => {
+                let selected = selected(&alphabet, &text, &words);
                 let said = alphabet.escape_ascii();
-                assert_eq!(
-                    accepted,
-                    selected(&alphabet, &text, &words),
-                    "{text} over {said}"
-                );
+                assert_eq!(accepted, selected, "{text} over {said}");
                 let words = accepted.iter().filter(|&&word| word).count();
                 yes += words;
                 no += WORDS - words;
+                repeated += if repeats(&alphabet) { WORDS } else { 0 };
             }
         }
     }
-    assert!(yes >= PAIRS / 4 && no >= PAIRS / 4, "{yes} {no}");
+    let seen = [yes, no, repeated];
+    assert!(seen.iter().all(|&n| n >= PAIRS / 4), "{seen:?}");
 }
 
 /// Names that no class has.
@@ -214,7 +211,7 @@ fn unknown_names_by_grep() {
         let alphabet = alphabet(&mut r, 12);
         let name = *r.pick(&UNKNOWN);
         let text = bracket(&mut r, &alphabet, name);
-        let answer = accepted(&alphabet, &text, &[]);
+        let answer = accepted(&alphabet, text.as_bytes(), &[]);
         assert_eq!(answer, Err(Refusal::ClassName), "{text}");
         let status = grep(&text, b"").status.code();
         assert_eq!(status, Some(2), "{text}");

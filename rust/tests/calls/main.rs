@@ -13,6 +13,7 @@ mod lines;
 mod matrix;
 mod read;
 mod read_call;
+mod repeats;
 mod support;
 mod texts;
 

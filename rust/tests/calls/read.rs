@@ -27,7 +27,8 @@ fn small_reads() {
         if let Ok(best) = hold_small(&call, &mut tally) {
             let (tree, form) = compile(&call.alphabet, &call.text).unwrap();
             let costs = &call.line.costs;
-            ties += usize::from(tied(form.k, costs, &best, |w| is_word(&tree, w)));
+            let is_word = |w: &[u8]| is_word(&tree, &call.characters(w));
+            ties += usize::from(tied(form.k, costs, &best, is_word));
             let word = collapse(&best.path);
             parted += usize::from(word.windows(2).any(|pair| pair[0] == pair[1]));
             several += usize::from(word.len() > 1);

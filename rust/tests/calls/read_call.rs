@@ -1,4 +1,5 @@
 //! A call of Read by the library, compared with what the document says of it.
+use crate::decode;
 use crate::matrix::{matrix, Memory};
 use crate::support::{number, Lent};
 use kavurehy::raw;
@@ -107,10 +108,21 @@ pub fn hold_small(call: &Call, tally: &mut Tally) -> Result<Best, u32> {
     hold(call, tally, |tree, form| call.search(tree, form))
 }
 
+/// With a search over all lists of labels; Decode must answer the same by the form of the text.
+pub fn hold_both(call: &Call, form: &Form, tally: &mut Tally) -> Result<Best, u32> {
+    let answer = hold_small(call, tally);
+    let by_form = decode::Call {
+        form: form.words(),
+        line: call.line.clone(),
+    };
+    assert_eq!(by_form.hold_small(tally), answer, "{call:?}");
+    answer
+}
+
 /// With two other methods; none if what may remain of the tree has more than `most` states.
 pub fn hold_long(call: &Call, tally: &mut Tally, most: usize) -> Option<Result<Best, u32>> {
-    let (tree, form) = compile(&call.alphabet, &call.text).ok()?;
-    let machine = Machine::new(&tree, form.k, most)?;
+    let (tree, _) = compile(&call.alphabet, &call.text).ok()?;
+    let machine = Machine::new(&tree, &call.alphabet, most)?;
     Some(hold(call, tally, |_, form| {
         call.search_twice(&machine, form)
     }))

@@ -2,6 +2,7 @@
 //! brackets hold; those with classes, and 19, are in `classes`.
 use crate::compile::hold;
 use kavurehy::FORM_WORDS;
+use model::alphabet::characters_of;
 use model::opening::compile;
 
 /// This text over this alphabet must be answered with this number.
@@ -24,16 +25,20 @@ pub fn answer(number: u32, texts: &str) {
     answer_over(b"ab", number, texts);
 }
 
-/// The characters of the letters that a text opens into.
-pub fn letters(alphabet: &[u8], text: &str) -> String {
+/// The labels of the letters that a text opens into.
+pub fn labels(alphabet: &[u8], text: &str) -> Vec<u8> {
     let mut form = vec![0; FORM_WORDS];
     let text = text.as_bytes();
     kavurehy::compile(alphabet, text, &mut form).unwrap();
     assert_eq!(hold(alphabet, text, FORM_WORDS), 0);
-    let labels = form[1..].iter().take_while(|word| *word >> 28 == 2);
-    labels
-        .map(|word| char::from(alphabet[(word & 0xff) as usize - 1]))
-        .collect()
+    let letters = form[1..].iter().take_while(|word| *word >> 28 == 2);
+    letters.map(|word| *word as u8).collect()
+}
+
+/// Their characters.
+pub fn letters(alphabet: &[u8], text: &str) -> String {
+    let labels = labels(alphabet, text);
+    String::from_utf8(characters_of(alphabet, &labels)).unwrap()
 }
 
 #[test]
@@ -54,7 +59,8 @@ fn lines_of_the_document() {
 
 #[test]
 fn alphabets_and_bytes() {
-    let alphabets: [&[u8]; 7] = [b"", b"aa", b"a\x1f", b"\x7f", b"ba b", &[0x80], &[32; 96]];
+    let many = b"ba b".repeat(24);
+    let alphabets: [&[u8]; 7] = [b"", b"aa\x7f", b"a\x1f", b"\x7f", &many, &[0x80], &[32; 96]];
     for alphabet in alphabets {
         for text in ["a", "", "*", "\n"] {
             answers(alphabet, 1, text);

@@ -88,7 +88,7 @@ fn layout() {
 /// The refusals that come before 16.
 #[test]
 fn before_no_reading() {
-    refuses(b"aa\na\n- - -\n", 1);
+    refuses(b"a\x7f\na\n- - -\n", 1);
     refuses(b"ab\nc\n- - -\n", 8);
     for narrow in ["-", "- -", "- - - -"] {
         refuses(format!("ab\na\n{narrow}\n").as_bytes(), 12);

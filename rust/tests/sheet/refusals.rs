@@ -47,11 +47,11 @@ fn texts(list: &str) -> Vec<Vec<u8>> {
 }
 
 fn alphabets() -> Vec<Vec<u8>> {
-    let doubled = [b"a!a\na\n".to_vec(), b"aa\na*\n0 0\n".to_vec()];
+    let repeated = ["a!".repeat(48) + "\na\n", "a".repeat(96) + "\na*\n0 0\n"];
     let empty = [b"\na*\n".to_vec(), b"\n\n".to_vec(), b"\n\n0\n".to_vec()];
     let many = (32..=127).chain(*b"\na*\n").collect();
     let mut all = bytes_outside("?\na\n");
-    all.extend(doubled);
+    all.extend(repeated.map(String::into_bytes));
     all.extend(empty);
     all.push(many);
     all
@@ -104,6 +104,7 @@ fn each_number() {
 fn limits_that_pass() {
     let all: String = (' '..='~').collect();
     prints(format!("{all}\n.?\n").as_bytes(), "0\n\n\n");
+    prints(format!("{}\n.?\n", "a".repeat(95)).as_bytes(), "0\n\n\n");
     prints(&long(255), "0\n\n0\n");
     prints(b"a\na{0,127}\n0 1\n", "0\n\n0\n");
     let nested = format!("a\n{}a{}*\n", "(".repeat(16), ")".repeat(16));
@@ -131,9 +132,9 @@ fn largest_form() {
 #[test]
 fn first_number() {
     let refusals = [
-        (1, "aa\n\n0\n"),
+        (1, "a\u{7f}\n\n0\n"),
         (1, "\n**\n0 0\n9999999 0\n"),
-        (1, "aa\n\u{1}\n"),
+        (1, "a\u{1f}\n\u{1}\n"),
         (2, "ab\n\n0 9999999\n"),
         (3, "ab\n\u{1f}**c\n0\n"),
         (4, "ab\n**c\n0\n"),

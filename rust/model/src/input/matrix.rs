@@ -50,7 +50,7 @@ impl Line {
     }
 
     /// Bars the labels of which this holds, by column and label.
-    fn bar_where(&mut self, mut barred: impl FnMut(usize, usize) -> bool) {
+    pub fn bar_where(&mut self, mut barred: impl FnMut(usize, usize) -> bool) {
         for (n, cost) in self.costs.iter_mut().enumerate() {
             if barred(n / self.width, n % self.width) {
                 *cost = BARRED;

@@ -6,19 +6,44 @@ use super::Random;
 /// Bytes that mean something in texts, and a few that do not.
 const SIGNS: &[u8] = b"()[]{}|*+?.\\^$-,:=0129ab ";
 
-/// 1 to `most` distinct bytes in any order; often signs.
+/// 1 to `most` bytes in any order, often signs; in 70 of 100 lists some of them come again, unless there is one place only.
 pub fn alphabet(r: &mut Random, most: usize) -> Vec<u8> {
-    let k = r.edge(1, most);
-    let mut bytes: Vec<u8> = match r.chance(40) && k <= SIGNS.len() {
+    if most == 1 || r.chance(30) {
+        let k = r.edge(1, most);
+        return distinct(r, k);
+    }
+    let k = r.edge(2, most);
+    let least = if r.chance(20) { 1 } else { 2.min(k - 1) };
+    let number = r.edge(least, k - 1);
+    let mut bytes = distinct(r, number);
+    repeat(r, &mut bytes, k);
+    bytes
+}
+
+/// This many distinct bytes.
+fn distinct(r: &mut Random, number: usize) -> Vec<u8> {
+    let mut bytes: Vec<u8> = match r.chance(40) && number <= SIGNS.len() {
         true => SIGNS.to_vec(),
         false => (32..=126).collect(),
     };
-    for n in 0..k {
+    for n in 0..number {
         let m = r.from(n, bytes.len() - 1);
         bytes.swap(n, m);
     }
-    bytes.truncate(k);
+    bytes.truncate(number);
     bytes
+}
+
+/// Repeats bytes of a list, side by side or apart, until it has this length.
+fn repeat(r: &mut Random, bytes: &mut Vec<u8>, length: usize) {
+    while bytes.len() < length {
+        let n = r.below(bytes.len());
+        let place = match r.chance(20) {
+            true => n,
+            false => r.below(bytes.len() + 1),
+        };
+        bytes.insert(place, bytes[n]);
+    }
 }
 
 /// A list that is no alphabet: refusal 1.
@@ -27,7 +52,10 @@ pub fn bad_alphabet(r: &mut Random) -> Vec<u8> {
     let n = r.below(bytes.len());
     match r.below(4) {
         0 => bytes.clear(),
-        1 => bytes.push(bytes[n]),
+        1 => {
+            let length = r.edge(96, 200);
+            repeat(r, &mut bytes, length);
+        }
         2 => bytes[n] = *r.pick(&[0, 9, 10, 31, 127, 128, 255]),
         _ => bytes = (32..=r.from(127, 200) as u8).collect(),
     }

@@ -1,6 +1,8 @@
 //! Random expressions of every construct, written together with the tree that they should give.
 use super::Random;
+use crate::alphabet::labels_of;
 use crate::expression::{either, joined, Tree};
+use std::collections::BTreeSet;
 use std::rc::Rc;
 
 /// A class of characters: its name, and which bytes from 32 to 126 it has.
@@ -38,7 +40,7 @@ pub fn set(r: &mut Random, alphabet: &[u8]) -> (String, usize) {
     };
     let text = String::from_utf8(writer.text).expect("bytes from 32 to 126");
     match &*tree {
-        Tree::Set(labels) => (text, labels.len()),
+        Tree::Set(characters) => (text, labels_of(alphabet, characters).len()),
         other => panic!("{other:?} is no set"),
     }
 }
@@ -98,33 +100,32 @@ impl<'a> Writer<'a> {
 
     /// An ordinary character, escaped where it must be.
     fn character(&mut self) -> Rc<Tree> {
-        let n = self.r.below(self.alphabet.len());
-        let c = self.alphabet[n];
+        let c = *self.r.pick(self.alphabet);
         if b"^.[$()|*+?{\\".contains(&c) {
             self.text.push(b'\\');
         }
         self.text.push(c);
-        Rc::new(Tree::Set(vec![n as u8 + 1]))
+        Rc::new(Tree::Set(vec![c]))
     }
 
-    /// `.`, or a bracket with at least one label.
+    /// `.`, or a bracket with at least one character of the alphabet.
     fn set(&mut self) -> Rc<Tree> {
+        let all: BTreeSet<u8> = self.alphabet.iter().copied().collect();
         if self.r.chance(20) {
             self.text.push(b'.');
-            return Rc::new(Tree::Set((1..=self.alphabet.len() as u8).collect()));
+            return Rc::new(Tree::Set(all.into_iter().collect()));
         }
         loop {
             let complement = self.r.chance(25);
-            let (inside, members) = self.items(complement);
-            let label =
-                |(n, c): (usize, &u8)| (members.contains(c) != complement).then_some(n as u8 + 1);
-            let labels: Vec<u8> = self.alphabet.iter().enumerate().filter_map(label).collect();
-            if !labels.is_empty() {
+            let (items, members) = self.items(complement);
+            let has = |c: &&u8| members.contains(c) != complement;
+            let characters: Vec<u8> = all.iter().filter(has).copied().collect();
+            if !characters.is_empty() {
                 self.text.push(b'[');
                 self.text.extend(complement.then_some(b'^'));
-                self.text.extend(inside);
+                self.text.extend(items);
                 self.text.push(b']');
-                return Rc::new(Tree::Set(labels));
+                return Rc::new(Tree::Set(characters));
             }
         }
     }
