@@ -1,4 +1,4 @@
-//! Document 01's example and its lines to try, as sheets, and lines with classes.
+//! Document 01's example and its lines to try, as sheets, and lines with classes and with repeated characters.
 use crate::{prints, refuses};
 
 /// Over the alphabet `ab`: this text and these columns print these lines. Lines are written with `/` between.
@@ -70,6 +70,24 @@ fn classes() {
     refuses(b"7 -+\n[[:digit:]-+]\n", 7);
     refuses(b"7 -+\n[[:digits:]]\n", 19);
     refuses(b"7 -+\n[[:alpha:]]\n", 8);
+}
+
+/// An alphabet that lists a character more than once, as document 02 allows it: the path tells which of its labels was read.
+#[test]
+fn repeated_characters() {
+    prints(b"77\n77\n0 1 5\n0 5 1\n", "2\n77\n1 2\n");
+    prints(b"77\n77\n0 1 5\n0 1 5\n", "6\n77\n1 2\n");
+    prints(b"77\n7\n0 1 5\n0 5 1\n", "1\n7\n0 2\n");
+    prints(b"77\n77\n0 1 -\n0 1 -\n0 1 -\n", "2\n77\n1 0 1\n");
+    prints(b"7a7\n[^7]\n0 0 5 0\n", "5\na\n2\n");
+    prints(
+        b"a1aa\na*\n9 9 9 9 0\n9 0 9 9 9\n9 9 9 0 9\n",
+        "0\naaa\n4 1 3\n",
+    );
+    refuses(b"77\n77\n0 1 -\n0 1 -\n", 16);
+    refuses(b"77\n[^7]\n0 1 5\n", 8);
+    refuses(b"777\n7{43}\n", 9);
+    refuses(b"77\n7\n0 1\n", 12);
 }
 
 /// No column line: the width counts as K + 1 whatever K is, and there are three lines although word and path are empty.
