@@ -71,7 +71,8 @@ pub const fn work_words(columns: usize, letters: usize) -> usize {
     (columns + 1) * (2 * letters + 1)
 }
 
-/// Writes the form of an expression over an alphabet and returns its length.
+/// Writes the form of an expression over an alphabet and returns its length. A character that the alphabet lists more than once
+/// has a label for each of its places, and in the expression it means all of them.
 ///
 /// ```
 /// use kavurehy::{compile, judge, Refusal};
@@ -87,6 +88,11 @@ pub const fn work_words(columns: usize, letters: usize) -> usize {
 /// assert_eq!(judge(&form[..3], &[4]), Ok(true));
 /// assert_eq!(judge(&form[..3], &[3]), Ok(false));
 /// assert_eq!(compile(b"a1b2", b"[[:digits:]]", &mut form), Err(Refusal::ClassName));
+///
+/// // Two shapes of 7: the labels 1 and 3.
+/// assert_eq!(compile(b"7a7", b"[^a]", &mut form), Ok(3));
+/// assert_eq!(judge(&form[..3], &[1]), Ok(true));
+/// assert_eq!(judge(&form[..3], &[3]), Ok(true));
 /// ```
 ///
 /// Refusals, the first that applies: 1 to 3; of 4 to 8 ([`Refusal::MisplacedSign`] to [`Refusal::Foreign`]) and 19
@@ -238,6 +244,23 @@ pub fn decode(
 /// Writes the form of an expression over an alphabet, the cheapest path of one label for each column, none of them barred, whose
 /// collapse is a word of the expression, among equally cheap ones the first by labels, and that word as characters. The crate's
 /// example calls it.
+///
+/// Where the alphabet lists a character more than once, a list of labels is a word if the characters of its labels spell one.
+/// Collapse compares labels, so two labels of one character side by side are that character twice, without a blank.
+///
+/// ```
+/// use kavurehy::{read, work_words, Matrix};
+///
+/// // A crossed and a plain 7: two columns, each with the costs of blank and of both shapes.
+/// let matrix = Matrix { costs: &[0, 1, 5, 0, 5, 1], width: 3, columns: 2 };
+/// let (mut form, mut path, mut word) = ([0; 9], [0; 2], [0; 2]);
+/// let mut work = vec![0; work_words(2, 4)];
+///
+/// let reading = read(b"77", b"77", matrix, &mut form, &mut path, &mut word, &mut work).unwrap();
+/// assert_eq!(reading.price, 2);
+/// assert_eq!(path, [1, 2]);
+/// assert_eq!(word, *b"77");
+/// ```
 ///
 /// A form of L letters needs [`work_words`] for L; those may hold anything afterwards. L is in bits 0 to 7 of the form's first
 /// word, which is in the form memory after [`Refusal::Work`] too.
