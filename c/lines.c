@@ -1,4 +1,4 @@
-/* Document 01's lines, some with classes and some with barred labels, with the forms written by hand, and the largest input. */
+/* Document 01's lines, some with classes, barred labels or repeated characters, with the forms written by hand, and the largest input. */
 #include "tests.h"
 
 #include <string.h>
@@ -6,26 +6,43 @@
 #include "kavurehy.h"
 #include "rooms.h"
 
-/* A line over the alphabet ab: the text, its form, the costs; price, path and word. */
-static void document_line(const char *text, struct words form, struct words costs, uint32_t price, struct bytes path, const char *word)
+/* The matrix of these costs, as a line for a form. */
+static struct line costs_line(struct words form, struct words costs)
 {
-    uint8_t labels[4] = {0};
-    struct line line = line_of(form, costs.first, costs.length / 3);
-    for (size_t n = 0; n < strlen(word); n++)
-        labels[n] = (uint8_t)(word[n] - 'a' + 1);
-    struct bytes spelt = {labels, strlen(word)};
-    decodes(form, line, reading(line, price, path, spelt));
-    reads(TEXT("ab"), TEXT(text), form, line, reading(line, price, path, spelt));
-    hold_judge(form, spelt, 0, 1);
-    collapses(2, path, spelt);
+    return line_of(form, costs.first, costs.length / (characters_of(form) + 1));
+}
+
+/* A line over an alphabet: the text, its form, the costs; price, path, and word as labels. */
+static void line_over(const char *alphabet, const char *text, struct words form, struct words costs, uint32_t price, struct bytes path,
+                      struct bytes word)
+{
+    struct line line = costs_line(form, costs);
+    decodes(form, line, reading(line, price, path, word));
+    reads(TEXT(alphabet), TEXT(text), form, line, reading(line, price, path, word));
+    hold_judge(form, word, 0, 1);
+    collapses(characters_of(form), path, word);
 }
 
 /* A line that has no reading. */
+static void line_over_unread(const char *alphabet, const char *text, struct words form, struct words costs)
+{
+    struct line line = costs_line(form, costs);
+    decodes(form, line, no_reading(line));
+    reads(TEXT(alphabet), TEXT(text), form, line, no_reading(line));
+}
+
+/* The same over the alphabet ab; the word is given by its characters. */
+static void document_line(const char *text, struct words form, struct words costs, uint32_t price, struct bytes path, const char *word)
+{
+    uint8_t labels[4] = {0};
+    for (size_t n = 0; n < strlen(word); n++)
+        labels[n] = (uint8_t)(word[n] - 'a' + 1);
+    line_over("ab", text, form, costs, price, path, (struct bytes){labels, strlen(word)});
+}
+
 static void document_line_unread(const char *text, struct words form, struct words costs)
 {
-    struct line line = line_of(form, costs.first, costs.length / 3);
-    decodes(form, line, no_reading(line));
-    reads(TEXT("ab"), TEXT(text), form, line, no_reading(line));
+    line_over_unread("ab", text, form, costs);
 }
 
 static void document_lines(void)
@@ -61,6 +78,35 @@ static void barred_lines(void)
     document_line("a|b", WORDS(0x10020002, 0x20000301, 0x20000302), WORDS(0, KAVUREHY_BARRED, 4), 4, BYTES(2), "b");
     document_line("aa", aa, WORDS(KAVUREHY_BARRED, 1, 9, 5, 1, KAVUREHY_BARRED, 5, 1, 9), 7, BYTES(1, 0, 1), "aa");
     document_line_unread("aa", aa, WORDS(5, 1, 9, KAVUREHY_BARRED, 1, 9, 5, 1, 9));
+}
+
+/* Two shapes of 7: unlike ones side by side are two sevens without a blank, and one shape twice needs one. */
+static void lines_of_sevens(void)
+{
+    struct words either = WORDS(0x10020002, 0x20000301, 0x20000302);
+    struct words both = WORDS(0x10020004, 0x20000101, 0x20000102, 0x20000201, 0x20000202, 0x30000103, 0x30000104, 0x30000203, 0x30000204);
+    line_over("77", "77", both, WORDS(0, 1, 5, 0, 5, 1), 2, BYTES(1, 2), BYTES(1, 2));
+    line_over("77", "77", both, WORDS(0, 1, 5, 0, 1, 5), 6, BYTES(1, 2), BYTES(1, 2));
+    line_over("77", "77", both, WORDS(0, 1, 5, 0, 1, 5, 0, 1, 5), 2, BYTES(1, 0, 1), BYTES(1, 1));
+    line_over("77", "7", either, WORDS(0, 1, 5, 0, 5, 1), 1, BYTES(0, 2), BYTES(2));
+    line_over_unread("77", "77", both, WORDS(0, 1, KAVUREHY_BARRED, 0, 1, KAVUREHY_BARRED));
+    line_over_unread("7", "77", WORDS(0x10010002, 0x20000101, 0x20000201, 0x30000102), WORDS(0, 1, 0, 1));
+}
+
+/* Each kind of set means all labels of its characters, in label order, and a complement takes away all of them. */
+static void sets_of_labels(void)
+{
+    static const char *const SEVENS[] = {"7", "[5-8]", "[77]", "[^a]", "[[:digit:]]", "[^[:alpha:]]"};
+    struct words sevens = WORDS(0x10030002, 0x20000301, 0x20000303), a = WORDS(0x10030001, 0x20000302);
+    struct words all = WORDS(0x10030003, 0x20000301, 0x20000302, 0x20000303);
+    for (size_t n = 0; n < sizeof SEVENS / sizeof *SEVENS; n++) {
+        compiles(TEXT("7a7"), TEXT(SEVENS[n]), sevens);
+        line_over("7a7", SEVENS[n], sevens, WORDS(0, 9, 0, 2), 2, BYTES(3), BYTES(3));
+    }
+    compiles(TEXT("+a+"), TEXT("\\+"), sevens);
+    compiles(TEXT("7a7"), TEXT("."), all);
+    compiles(TEXT("7a7"), TEXT("[a7]"), all);
+    line_over("7a7", "[^7]", a, WORDS(0, 0, 5, 0), 5, BYTES(2), BYTES(2));
 }
 
 static void document_texts(void)
@@ -138,6 +184,8 @@ void lines(void)
     document_lines();
     class_lines();
     barred_lines();
+    lines_of_sevens();
+    sets_of_labels();
     document_texts();
     document_limits();
     largest();

@@ -21,17 +21,21 @@ static void refuse_text(struct bytes alphabet, struct bytes text, uint32_t numbe
 
 static void alphabets_and_lengths(void)
 {
-    uint8_t many[96], longest[256];
-    for (size_t n = 0; n < 96; n++)
+    uint8_t many[96], repeated[96], longest[256];
+    for (size_t n = 0; n < 96; n++) {
         many[n] = (uint8_t)(32 + n);
+        repeated[n] = (uint8_t)"bab"[n % 3];
+    }
     memset(longest, 'a', sizeof longest);
     longest[0] = '[';
-    struct bytes alphabets[] = {TEXT(""), TEXT("aa"), TEXT("bab"), TEXT("a\n"), TEXT("\x1f"), TEXT("\x7f"), TEXT("a\x80"), {many, 96}};
+    struct bytes alphabets[] = {TEXT(""),     {repeated, 96}, TEXT("bab\x7f"), TEXT("a\n"),
+                                TEXT("\x1f"), TEXT("\x7f"),   TEXT("a\x80"),   {many, 96}};
     for (size_t n = 0; n < sizeof alphabets / sizeof *alphabets; n++) {
         refuse_text(alphabets[n], TEXT("a"), 1);
         refuse_text(alphabets[n], TEXT(""), 1);
         refuse_text(alphabets[n], TEXT("*\n"), 1);
     }
+    refuse_text((struct bytes){repeated, 95}, TEXT(""), 2);
     longest[255] = ']';
     refuse_text(TEXT("a"), (struct bytes){longest, 256}, 2);
     refuse_text(TEXT("a"), TEXT(""), 2);
@@ -65,6 +69,19 @@ static void texts(void)
     for (size_t n = 0; n < sizeof REFUSED / sizeof *REFUSED; n++)
         for (size_t m = 0; m < 12 && REFUSED[n].texts[m] != NULL; m++)
             refuse_text(TEXT("ab"), TEXT(REFUSED[n].texts[m]), REFUSED[n].number);
+}
+
+/* A repeated character is no fault of the alphabet; 8 is no label at all, and 9 counts labels. */
+static void repeated_characters(void)
+{
+    uint8_t sevens[95];
+    memset(sevens, '7', sizeof sevens);
+    refuse_text(TEXT("aa"), TEXT("*"), 4);
+    refuse_text(TEXT("bab"), TEXT("a{0}"), 6);
+    refuse_text(TEXT("77"), TEXT("[^7]"), 8);
+    refuse_text(TEXT("77"), TEXT("7a"), 8);
+    refuse_text(TEXT("777"), TEXT("7{43}"), 9);
+    refuse_text((struct bytes){sevens, 95}, TEXT("77"), 9);
 }
 
 /* Judge and decode refuse this form, whatever the word or the matrix and its memory are. */
@@ -230,6 +247,7 @@ void refusals(void)
 {
     alphabets_and_lengths();
     texts();
+    repeated_characters();
     forms();
     matrices();
     bad_costs();

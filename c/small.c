@@ -19,9 +19,15 @@ static uint32_t below(uint32_t n)
     return (uint32_t)(state >> 33) % n;
 }
 
-/* How many lines have several best lists, a best word that needs a blank between equal labels, no reading; and how many have another best
-   list, or none, only because of barred labels. */
-static unsigned long tied, parted, unread, changed, barred;
+/* How many lines have several best lists, a best word that needs a blank between equal labels, a best list with two labels of one character
+   side by side, no reading; and how many have another best list, or none, only because of barred labels. */
+static unsigned long tied, parted, beside, unread, changed, barred;
+
+/* Are these two unequal labels of one character? */
+static int are_twins(const char *alphabet, uint8_t x, uint8_t y)
+{
+    return x != 0 && y != 0 && x != y && alphabet[x - 1] == alphabet[y - 1];
+}
 
 /* Decode must find what the search finds, and so must read if there is a text. */
 static struct best hold_matrix(struct words form, const struct language *language, const char *alphabet, const char *text,
@@ -34,11 +40,14 @@ static struct best hold_matrix(struct words form, const struct language *languag
     decodes(form, line, answer);
     if (text != NULL)
         reads(TEXT(alphabet), TEXT(text), form, line, answer);
-    int pair = 0;
+    int pair = 0, twins = 0;
     for (size_t n = 1; n < best.length; n++)
         pair |= best.word[n] == best.word[n - 1];
+    for (size_t n = 1; n < columns; n++)
+        twins |= text != NULL && are_twins(alphabet, best.path[n - 1], best.path[n]);
     tied += best.tied != 0;
     parted += pair != 0;
+    beside += twins != 0;
     unread += !best.found;
     return best;
 }
@@ -129,7 +138,7 @@ static void made_forms(void)
     }
 }
 
-/* A text, compiled by POSIX's regcomp to match whole words, and its alphabet. */
+/* A text, compiled by POSIX's regcomp to match whole words, and its alphabet: a word of labels is matched by its characters. */
 struct matcher {
     const char *alphabet;
     regex_t regex;
@@ -157,7 +166,7 @@ static struct language language_of_text(const char *alphabet, const char *text)
     return language;
 }
 
-/* Expressions of every construct except the modifier, which regcomp does not know. */
+/* Expressions of every construct except the modifier, which regcomp does not know; some over alphabets with repeated characters. */
 static void texts(void)
 {
     static const char *const TEXTS[][2] = {
@@ -168,6 +177,9 @@ static void texts(void)
         {"ab", "((a|b)b){1,2}"}, {"ab", "b{0,2}a{2,}"},  {"ba", "[a-b]b"},      {"ba", "(b|ab?)+"},
         {"abc", "c?(a|b)+c?"},   {"abc", "[a-c]{2}"},    {"cab", "[a-b]+c|cc"}, {"+a.", "[.+]?a\\+*"},
         {"a1B", "[[:alpha:]]+1?"}, {"1-a", "[[:digit:]-]{2}a*"}, {"aA ", "[^[:upper:]]*A"}, {"b 1", "([[:space:]]|[[:xdigit:]1]b)+"},
+        {"77", "77"},            {"77", "7?7+"},         {"aa", "(aa)*"},       {"777", "7{2,3}"},
+        {"7a7", "[^7]?7*"},      {"7a7", "[5-8]{2}a*"},  {"aba", "[^b]{1,3}b?"}, {"baa", "(a*b)*a?"},
+        {"aab", "(a|ab)(b|ba)?"}, {"a1a", "[[:alpha:]]+1?"}, {"1-1", "[[:digit:]-]{2}1*"}, {"+a+", "(\\+|a\\+)*"},
     };
     for (size_t n = 0; n < sizeof TEXTS / sizeof *TEXTS; n++) {
         const char *alphabet = TEXTS[n][0], *text = TEXTS[n][1];
@@ -185,11 +197,12 @@ static void texts(void)
 
 void small_matrices(void)
 {
-    tied = parted = unread = changed = barred = 0;
+    tied = parted = beside = unread = changed = barred = 0;
     made_forms();
     texts();
     calling("small matrices");
-    if (tied < 5000 || parted < 1000 || unread < 1000 || changed < 1000 || barred < 1000)
-        fail("%lu lines are tied, %lu parted, %lu without a reading; by barred labels %lu changed, %lu without a reading", tied, parted,
-             unread, changed, barred);
+    if (tied < 5000 || parted < 1000 || beside < 1000 || unread < 1000 || changed < 1000 || barred < 1000)
+        fail("%lu lines are tied, %lu parted, %lu with a character beside itself, %lu without a reading; by barred labels %lu changed, "
+             "%lu without a reading",
+             tied, parted, beside, unread, changed, barred);
 }

@@ -2,7 +2,7 @@
 #ifndef TESTS_H
 #define TESTS_H
 
-/* Document 01's lines, some with classes and some with barred labels, and the largest input. */
+/* Document 01's lines, some with classes, barred labels or repeated characters, and the largest input. */
 void lines(void);
 
 /* Every refusal of every call, by itself and with later ones. */
