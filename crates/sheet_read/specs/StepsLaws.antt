@@ -1,10 +1,10 @@
 -- From what Read promises to what is printed.
-use Prim.Native.Nat.{ℕ, _-_, _≤_}
+use Prim.Native.Nat.{ℕ, _≤_}
 use mathlib.Core.Path.{_≡_, refl, sym, ap, _∙_, subst}
 use mathlib.Core.Option.{Option, some, none}
 use mathlib.Core.List.{List}
 use native.Mathlib.Omega.{arith}
-use lib.ListN.{length, getD, take, length-map}
+use lib.ListN.{length, take, length-map}
 use Rattle.lists.specs.WrittenLaws.{take-written, written-fits}
 use Rattle.lists.specs.Memory.{written}
 use Rattle.refusal.specs.declared.Refusal.{Refusal}
