@@ -3,7 +3,7 @@
 use Prim.Native.Nat.{ℕ, _≤_}
 use mathlib.Core.Path.{_≡_, refl, sym, ap, _∙_, subst}
 use mathlib.Core.Bool.{Bool, true, false, not}
-use mathlib.Core.Logic.{Iff·trans, Iff·symm}
+use mathlib.Core.Logic.{_↔_, Iff·trans, Iff·symm}
 use mathlib.Core.List.{List, [], _∷_}
 use native.Mathlib.Omega.{arith}
 use lib.ListN.{length}
@@ -16,12 +16,16 @@ use Rattle.refusal.specs.declared.Refusal.the-variants.{Alphabet, TextLength, T
 use Rattle.refusal.specs.Verdict.{Verdict, passed, refused, Check, check, unless, if-passed, first-refusal}
 use Rattle.refusal.specs.VerdictLaws.{unless-neither, first-all}
 use Rattle.refusal.specs.declared.Checked.the-variants.{Passed}
+use Rattle.alphabet.specs.Labels.{characters}
+use Rattle.automaton.specs.Automaton.{Accepts}
+use Rattle.automaton.specs.Form.{view}
 use Rattle.regex.specs.Tree.{Tree}
 use Rattle.regex.specs.Parsing.{Parsing, found, fault}
 use Rattle.regex.specs.Letters.{letterCount}
 use Rattle.regex.specs.Parse.{expressionOf}
 use Rattle.regex.specs.Grammar.{TextOf}
 use Rattle.regex.specs.Exact.{exact, words-of-text, expression-whole}
+use Rattle.regex.specs.Characters.{CharacterWordsOf, SpellsWord}
 use Rattle.regex.specs.CharactersLaws.{words-of-spelt, all-spelt}
 use Rattle.regex.specs.SenseLaws.{sensible}
 use Rattle.positions.specs.Compiled.{formOf}
@@ -29,7 +33,7 @@ use Rattle.positions.specs.CompiledLaws.{form-valid, form-alphabet, form-letter
 use Rattle.alphabet.specs.Alphabet.{is-alphabet, text-checks}
 use Rattle.alphabet.specs.AlphabetLaws.{alphabet-exactly}
 use Rattle.compile.specs.Call.{parsed-form, compile-call}
-use Rattle.compile.specs.Means.{Means, Spells-words}
+use Rattle.compile.specs.Means.{Means}
 
 -- what passed a list of checks passed each
 unless-passed : {X : Type 0} (t : Bool) (n : Refusal) (cs : List Check) (a b : X) → unless (check t n ∷ cs) a ≡ passed b → (t ≡ false) × (unless cs a ≡ passed b)
@@ -75,14 +79,18 @@ module _ (A s : List ℕ) (room : ℕ) (f : List ℕ) where
           let size = alphabet-exactly A .0 (not-false (is-alphabet A) (a .0)) in
           tree (size .0) (size .1) (expressionOf A s) refl (rw (sym (unless-same s s′ (c .1))) at g)
 
-  -- the same with the words over characters
-  pub compiled-spells : compile-call A s room ≡ passed f → Spells-words A s f
-  compiled-spells e =
-      let m = compiled-means e in
-      record {
-        accepted = λ w. Iff·trans (m .words w) (words-of-spelt A s w);
-        spelt = λ v h. let k = all-spelt A s v .0 h in (k .0, m .words (k .0) .1 (k .1), k .2);
-      }
+  -- The same with words over characters: it accepts a list of labels exactly if their characters spell a word of the text, and the words of
+  -- the text are what it accepts, spelt.
+  pub compiled-spells : compile-call A s room ≡ passed f → (w : List ℕ) → Accepts (view f) w ↔ SpellsWord A s w
+  compiled-spells e w = Iff·trans (compiled-means e .words w) (words-of-spelt A s w)
+
+  pub compiled-spelt :
+      compile-call A s room ≡ passed f → (v : List ℕ) → CharacterWordsOf A s v ↔ ((w : List ℕ) × Accepts (view f) w × (characters A w ≡ v))
+  compiled-spelt e v =
+      let same = compiled-means e .words in (
+        λ h. let k = all-spelt A s v .0 h in (k .0, same (k .0) .1 (k .1), k .2),
+        λ h. all-spelt A s v .1 (h .0, same (h .0) .0 (h .1), h .2),
+      )
 
   -- The other way: what no refusal turns away compiles.
   pub compiles :

@@ -1,5 +1,5 @@
--- There is one outcome, and it depends only on the words, of those only on lists of labels; past refusals 12 and 13 a rival is exactly
--- what demand 3 says.
+-- There is one outcome, and it depends only on the words; past refusals 12 and 13 a rival is exactly what
+-- demand 3 says.
 use Prim.Native.Nat.{ℕ, _+_, _≤_, _<_}
 use mathlib.Core.Path.{_≡_, refl, ap}
 use mathlib.Core.Option.{Option, some, none}
@@ -14,7 +14,7 @@ use Rattle.lists.specs.Each.{Each}
 use Rattle.lists.specs.EachLaws.{each-map, each-both}
 use Rattle.matrix.specs.Matrix.{Matrix, price}
 use Rattle.matrix.specs.Barred.{NoneBarred}
-use Rattle.matrix.specs.Paths.{CostsPass}
+use Rattle.matrix.specs.Paths.{PathOf, CostsPass}
 use Rattle.matrix.specs.PathsLaws.{none-barred, path-labels, path-unbarred, unbarred-path}
 use Rattle.outcome.specs.OrderLaws.{order-antisymmetric}
 use Rattle.outcome.specs.Outcome.{Rival, OutcomeOf, Outcome}
@@ -43,23 +43,11 @@ module _ (M : Matrix) where
       → (a : Option (List ℕ)) → Outcome Word₁ M a → Outcome Word₂ M a
   outcome-same Word₁ Word₂ to from a h = outcome-of-same (price M) (rival-same Word₁ Word₂ to) (rival-same Word₂ Word₁ from) a h
 
--- The outcome depends only on words of labels 1 to k, where the columns have the labels 0 to k.
-module _ (k : ℕ) (M : Matrix) (wide : M .width ≡ k + 1) where
-  pub rival-labels : (Word : List ℕ → Type 0) (p : List ℕ) → Rival Word M p → Each (λ x. (1 ≤ x) × (x ≤ k)) (collapse p)
-  rival-labels Word p r =
-      each-both (λ x. 0 < x) (λ x. x < M .width) (λ x. (1 ≤ x) × (x ≤ k)) (λ x g h. (omega arith, omega arith)) (collapse p) (collapse-letters p)
-      (collapse-each (λ x. x < M .width) p (path-labels M 0 p (r .path .labels)))
-
-  rival-agrees :
-      (Word₁ Word₂ : List ℕ → Type 0) → ((w : List ℕ) → Each (λ x. (1 ≤ x) × (x ≤ k)) w → Word₁ w → Word₂ w)
-      → (p : List ℕ) → Rival Word₁ M p → Rival Word₂ M p
-  rival-agrees Word₁ Word₂ f p r = record { path = r .path; word = f (collapse p) (rival-labels Word₁ p r) (r .word) }
-
-  pub outcome-agrees :
-      (Word₁ Word₂ : List ℕ → Type 0) → ((w : List ℕ) → Each (λ x. (1 ≤ x) × (x ≤ k)) w → Word₁ w ↔ Word₂ w)
-      → (a : Option (List ℕ)) → Outcome Word₁ M a → Outcome Word₂ M a
-  outcome-agrees Word₁ Word₂ same =
-      outcome-of-same (price M) (rival-agrees Word₁ Word₂ (λ w l. same w l .0)) (rival-agrees Word₂ Word₁ (λ w l. same w l .1))
+-- the labels of a path's collapse are 1 to k where the columns have the labels 0 to k
+pub collapse-labels : (k : ℕ) (M : Matrix) → M .width ≡ k + 1 → (p : List ℕ) → PathOf M p → Each (λ x. (1 ≤ x) × (x ≤ k)) (collapse p)
+collapse-labels k M wide p h =
+    each-both (λ x. 0 < x) (λ x. x < M .width) (λ x. (1 ≤ x) × (x ≤ k)) (λ x g l. (omega arith, omega arith)) (collapse p) (collapse-letters p)
+    (collapse-each (λ x. x < M .width) p (path-labels M 0 p (h .labels)))
 
 -- A rival is what demand 3 says (`Plain-rival`), whatever the costs are; past refusals 12 and 13 nothing else is asked of it.
 module _ (Word : List ℕ → Type 0) (k : ℕ) (M : Matrix) (wide : M .width ≡ k + 1) (p : List ℕ) where

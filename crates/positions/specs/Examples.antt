@@ -84,9 +84,10 @@ record Examples : Type 0 where
   -- `[^b]`, and `a` where two labels have that character
   set-labels : over abc (set (except (range (code "b") (code "b") ∷ []))) ≡ letters (1 ∷ 3 ∷ []) false (1 ∷ 2 ∷ []) (1 ∷ 2 ∷ []) ([] ∷ [] ∷ [])
   same-character : over aba a ≡ letters (1 ∷ 3 ∷ []) false (1 ∷ 2 ∷ []) (1 ∷ 2 ∷ []) ([] ∷ [] ∷ [])
-  -- `[^a]` and `[^b]` there: a complement leaves out all labels of a character, or none
+  -- `[^a]` there: a complement leaves out all labels of a character
   all-left-out : over aba (set (except (range (code "a") (code "a") ∷ []))) ≡ letters (2 ∷ []) false (1 ∷ []) (1 ∷ []) ([] ∷ [])
-  none-left-out : over aba (set (except (range (code "b") (code "b") ∷ []))) ≡ letters (1 ∷ 3 ∷ []) false (1 ∷ 2 ∷ []) (1 ∷ 2 ∷ []) ([] ∷ [] ∷ [])
+  -- three labels of six, in label order
+  three-labels : formOf (code "b" ∷ (code "a" ∷ (code "b" ∷ (code "a" ∷ (code "b" ∷ (code "a" ∷ [])))))) b ≡ 0x10060003 ∷ 0x20000301 ∷ 0x20000303 ∷ 0x20000305 ∷ []
 
 examples : Examples
 unfolding opened keep numbers anyOf repeated copies nested labels numbered positionAutomaton letterCount labelsOf encode flatMap
@@ -108,5 +109,5 @@ examples = record {
   set-labels = refl;
   same-character = refl;
   all-left-out = refl;
-  none-left-out = refl;
+  three-labels = refl;
 }

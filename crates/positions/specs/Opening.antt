@@ -6,8 +6,8 @@ use mathlib.Core.List.{List, [], _∷_}
 use native.Mathlib.Omega.{arith}
 use lib.ListN.{length}
 use Rattle.lists.specs.AmongLaws.{among-keep, keep-among}
-use Rattle.lists.specs.Lists.{Among, numbers}
-use Rattle.lists.specs.AscendingLaws.{among-numbers, numbers-among}
+use Rattle.lists.specs.Lists.{Among, numbers, Ascending}
+use Rattle.lists.specs.AscendingLaws.{among-numbers, numbers-among, ascending-keep, ascending-numbers}
 use Rattle.alphabet.specs.Labels.{character}
 use Rattle.regex.specs.Tree.{Set, Count, between, onward, Tree, set, group, times, join, either, member, Allows, Joined, HasLabel, Words}
 use Rattle.regex.specs.OwnCountsLaws.{InRange}
@@ -39,6 +39,10 @@ labels-in A c x = (
       let high = h .0 .1 in
       among-keep (λ y. member c (character A y)) x (numbers 1 (length A)) (among-numbers 1 (length A) x (h .0 .0) (omega arith)) (h .1),
 )
+
+-- in label order, each once
+pub labels-ascending : (A : List ℕ) (c : Set) → Ascending (labelsIn A c)
+labels-ascending A c = ascending-keep (λ x. member c (character A x)) (numbers 1 (length A)) (ascending-numbers 1 (length A))
 
 -- Repetitions. Joined words of a set are joined words of each larger set.
 joined-map : (P Q : List ℕ → Type 0) → ((w : List ℕ) → P w → Q w) → (k : ℕ) (w : List ℕ) → Joined P k w → Joined Q k w

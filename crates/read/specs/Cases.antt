@@ -11,7 +11,7 @@ use lib.ListN.{length, getD}
 use lib.Dec.{eqb}
 use borrow.Author.Tests.{eqb-true}
 use Rattle.lists.specs.OrderLaws.{and-left, and-right}
-use Rattle.lists.specs.EachLaws.{all-each, each-map}
+use Rattle.lists.specs.EachLaws.{all-each}
 use Rattle.lists.specs.Lists.{any, keep, same-list, numbers}
 use Rattle.lists.specs.SameLaws.{same-list-true}
 use Rattle.lists.specs.Each.{all, Each}
@@ -199,30 +199,27 @@ cases =
     ∷ reads "ab" "a" (4294967295 ∷ 7 ∷ 0 ∷ 0 ∷ 2 ∷ 0 ∷ []) 2 2 (1 ∷ 0 ∷ []) 7 "a"
     ∷ reads "ab" "a|b" (0 ∷ 4294967295 ∷ 4 ∷ []) 1 3 (2 ∷ []) 4 "b"
     ∷ refuses "ab" "a*" (0 ∷ 0 ∷ 0 ∷ 4294967295 ∷ 4294967295 ∷ 4294967295 ∷ []) 2 3 16
-    -- a crossed and a plain 7 side by side are two sevens without a blank; the same 7 twice is one; one 7 may have either shape
+    -- a crossed and a plain 7 side by side are two sevens without a blank; the same 7 twice is one; one 7 may have either shape, the first
+    -- label at equal price, the other where one is barred
     ∷ reads "77" "77" (0 ∷ 1 ∷ 5 ∷ 0 ∷ 5 ∷ 1 ∷ []) 2 9 (1 ∷ 2 ∷ []) 2 "77"
     ∷ reads "77" "77" (0 ∷ 1 ∷ 5 ∷ 0 ∷ 1 ∷ 5 ∷ []) 2 9 (1 ∷ 2 ∷ []) 6 "77"
     ∷ refuses "7" "77" (0 ∷ 1 ∷ 0 ∷ 1 ∷ []) 2 4 16
     ∷ reads "77" "7" (0 ∷ 1 ∷ 5 ∷ 0 ∷ 5 ∷ 1 ∷ []) 2 3 (0 ∷ 2 ∷ []) 1 "7"
     ∷ reads "7a7" "[^7]" (0 ∷ 0 ∷ 5 ∷ 0 ∷ []) 1 2 (2 ∷ []) 5 "a"
+    ∷ reads "77" "7" (9 ∷ 1 ∷ 5 ∷ 9 ∷ 5 ∷ 1 ∷ []) 2 3 (1 ∷ 1 ∷ []) 6 "7"
+    ∷ reads "77" "7" (9 ∷ 4 ∷ 4 ∷ []) 1 3 (1 ∷ []) 4 "7"
+    ∷ reads "77" "7" (9 ∷ 4294967295 ∷ 4 ∷ []) 1 3 (2 ∷ []) 4 "7"
     ∷ compiles "77" "77" (0x10020004 ∷ 0x20000101 ∷ 0x20000102 ∷ 0x20000201 ∷ 0x20000202 ∷ 0x30000103 ∷ 0x30000104 ∷ 0x30000203 ∷ 0x30000204 ∷ [])
     ∷ []
-
--- what a case states with words as lists of characters
-abbrev pub Spelt : Case → Type 0
-Spelt (reads A s costs t k p c w) = Outcome (SpellsWord (bytes A) (bytes s)) (matrix costs (length (bytes A) + 1) t) (some p)
-Spelt (refuses A s costs t k n) = Outcome (SpellsWord (bytes A) (bytes s)) (matrix costs (length (bytes A) + 1) t) none
-Spelt (compiles A s f) = Unit {0}
-
-stated-spelt : (c : Case) → Stated c → Spelt c
-stated-spelt (reads A s costs t k p c w) h = outcome-spelt (bytes A) (bytes s) (matrix costs (length (bytes A) + 1) t) refl (some p) .0 (h .0)
-stated-spelt (refuses A s costs t k n) h = outcome-spelt (bytes A) (bytes s) (matrix costs (length (bytes A) + 1) t) refl none .0 (h .0)
-stated-spelt (compiles A s f) h = tt
 
 -- every case holds
 pub cases-stated : Each Stated cases
 unfolding cases holds compiled tried answered passing figures first-refusal same decided exhaustive over better preferred not-after usable collapse merge without-blanks spells followOf endsOf compile-call if-passed unless all any keep numbers flatMap encode labelsOf letterCount then first-of split enclosed provided closed reserved items members ranges-of class-ranges look-up classes known inside bracket escaped a-set labelled-set number from-on from-to comma counts sign repetition grouped step go parse whole expressionOf anyOf copies nested repeated opened labels numbered positionAutomaton
 cases-stated = all-each holds Stated holds-stated cases refl
 
-pub cases-spelt : Each Spelt cases
-cases-spelt = each-map Stated Spelt stated-spelt cases cases-stated
+-- the two sevens, with words as lists of characters
+pub sevens-spelt : Outcome (SpellsWord (bytes "77") (bytes "77")) (matrix (0 ∷ 1 ∷ 5 ∷ 0 ∷ 5 ∷ 1 ∷ []) 3 2) (some (1 ∷ 2 ∷ []))
+unfolding cases
+sevens-spelt =
+    outcome-spelt (bytes "77") (bytes "77") (matrix (0 ∷ 1 ∷ 5 ∷ 0 ∷ 5 ∷ 1 ∷ []) 3 2) (some (1 ∷ 2 ∷ [])) .0
+    (cases-stated .1 .1 .1 .1 .1 .1 .1 .1 .1 .1 .1 .1 .1 .1 .0 .0)

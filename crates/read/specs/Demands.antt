@@ -19,16 +19,16 @@ use Rattle.refusal.specs.Fills.{filling}
 use Rattle.ctc.specs.Spread.{spread, Shortest}
 use Rattle.ctc.specs.SpreadLaws.{spread-is-shortest}
 use Rattle.alphabet.specs.Labels.{characters}
-use Rattle.automaton.specs.Form.{lettersOf}
+use Rattle.automaton.specs.Automaton.{Accepts}
+use Rattle.automaton.specs.Form.{view, lettersOf}
 use Rattle.matrix.specs.Matrix.{Matrix}
 use Rattle.regex.specs.Grammar.{WordsOf}
-use Rattle.regex.specs.Characters.{SpellsWord}
+use Rattle.regex.specs.Characters.{CharacterWordsOf, SpellsWord}
 use Rattle.compile.specs.Call.{compile-call}
-use Rattle.compile.specs.Meaning.{compiled-means, compiled-spells}
-use Rattle.compile.specs.Means.{Means, Spells-words}
+use Rattle.compile.specs.Meaning.{compiled-means, compiled-spells, compiled-spelt}
+use Rattle.compile.specs.Means.{Means}
 use Rattle.outcome.specs.Plain.{Plain-rival}
 use Rattle.decode_checks.specs.Checks.{needed, matrix-checks}
-use Rattle.decode_checks.specs.PassingLaws.{fits}
 use Rattle.decode_valid.specs.Answers.{Answers}
 use Rattle.decode_valid.specs.AnswersLaws.{answers-same}
 use Rattle.decode_valid.specs.Lent.{Lent, rooms}
@@ -57,22 +57,33 @@ module _ (A s : List ℕ) (M : Matrix) (form form′ : List ℕ) (before after :
         let h = rw e at (rw compiles at (reads .reads)) in
         (h .0, h .1, compiled)
 
-    -- Demand 2: the form means the text, by labels and by characters.
+    -- Demand 2: the form means the text. It accepts a list of labels exactly if their characters spell a word of the text, and the words of the
+    -- text are what it accepts, spelt.
     pub demand-2 : Means A s f
     demand-2 = compiled-means A s (length form) f compiles
 
-    pub demand-2-characters : Spells-words A s f
-    demand-2-characters = compiled-spells A s (length form) f compiles
+    pub demand-2-accepts : (w : List ℕ) → Accepts (view f) w ↔ SpellsWord A s w
+    demand-2-accepts = compiled-spells A s (length form) f compiles
+
+    pub demand-2-words : (v : List ℕ) → CharacterWordsOf A s v ↔ ((w : List ℕ) × Accepts (view f) w × (characters A w ≡ v))
+    demand-2-words = compiled-spelt A s (length form) f compiles
 
     module _ (passes : first-refusal (matrix-checks (length A) (lettersOf f) M (rooms before)) ≡ Passed) where
+      -- Past the checks Read promises what demands 1 and 3 ask, and nothing else.
+      pub demanded-exactly :
+          Answers (WordsOf A s) (characters A) (length f) M (needed (M .count) (lettersOf f)) before after answer
+          ↔ (Best-or-none (SpellsWord A s) (characters A) (length A) (length f) M before after answer
+          × Kept (needed (M .count) (lettersOf f)) M before after answer)
+      demanded-exactly =
+          let exactly = answers-as-demanded (length A) (lettersOf f) passes (λ w. length-map w _) in (
+            λ a. exactly .0 (answers-same (WordsOf A s) (SpellsWord A s) (λ o. outcome-spelt A s M o .0) a),
+            λ d. answers-same (SpellsWord A s) (WordsOf A s) (λ o. outcome-spelt A s M o .1) (exactly .1 d),
+          )
+
       demanded :
           Best-or-none (SpellsWord A s) (characters A) (length A) (length f) M before after answer
           × Kept (needed (M .count) (lettersOf f)) M before after answer
-      demanded =
-          let answers : Answers (WordsOf A s) (characters A) (length f) M (needed (M .count) (lettersOf f)) before after answer = rw passes at (rw compiles at (reads .reads)) in
-          let wide = fits (length A) (lettersOf f) M (rooms before) passes .wide in
-          answers-as-demanded (length A) (lettersOf f) passes (λ w. length-map w _) .0
-          (answers-same (WordsOf A s) (SpellsWord A s) (λ o. outcome-spelt A s M wide o .0) answers)
+      demanded = demanded-exactly .0 (rw passes at (rw compiles at (reads .reads)))
 
       -- Demand 1 past the checks: the form is in its memory; other memory after what is counted, and after the work words that are needed,
       -- is as it was.

@@ -18,7 +18,7 @@ use Rattle.automaton.specs.Automaton.{Accepts}
 use Rattle.automaton.specs.Form.{view}
 use Rattle.matrix.specs.Matrix.{Matrix, price}
 use Rattle.outcome.specs.Outcome.{Best, Outcome}
-use Rattle.outcome.specs.OutcomeLaws.{rival-labels}
+use Rattle.outcome.specs.OutcomeLaws.{collapse-labels}
 use Rattle.decode_valid.specs.Answers.{outcome-report, path-of, word-of, labels, DecodeAnswers}
 use Rattle.decode_valid.specs.Lent.{Lent}
 use Rattle.read_spelling.specs.InPlace.{Labels, Spelt}
@@ -76,7 +76,7 @@ module _ (f : List ℕ) (M : Matrix) (before after : Lent) where
             room = omega arith;
             each =
                 rw (ap (take n) (r .word) ∙ take-written (collapse (r .best)) (before .word) n l)
-                (rival-labels (length A) M wide (Accepts (view f)) (r .best) (r .is .qualifies));
+                (collapse-labels (length A) M wide (r .best) (r .is .qualifies .path));
           }
 
       -- with the word written as characters, this is Read's answer

@@ -3,21 +3,25 @@
 use mathlib.Core.Path.{_≡_, refl, sym, ap, ap₂, _∙_}
 use mathlib.Core.Logic.{_↔_, inl, inr}
 use mathlib.Core.List.{List, [], _∷_, _++_}
+use mathlib.Core.Bool.{Bool, true, false}
 use Prim.Native.Nat.{ℕ, zero, suc, _-_, _≤_}
 use native.Mathlib.Omega.{arith}
 use lib.ListN.{getD}
+use lib.Dec.{eqb}
+use borrow.Author.Tests.{eqb-false}
 use Rattle.lists.specs.Each.{Each}
 use Rattle.lists.specs.EachLaws.{each-map}
 use Rattle.lists.specs.Lists.{Among}
 use Rattle.lists.specs.AmongLaws.{among-at, among-index}
+use Rattle.refusal.specs.declared.Refusal.the-variants as refusal
 use Rattle.alphabet.specs.Labels.{Label, character, characters}
 use Rattle.regex.specs.Tree.{Set, member, Tree, set, group, times, join, either, Joined, WordsOver, HasLabel, Words}
 use Rattle.regex.specs.Letters.{labelsOf}
-use Rattle.regex.specs.Parsing.{found}
-use Rattle.regex.specs.Sets.{labelled-set}
+use Rattle.regex.specs.Parsing.{found, fault}
+use Rattle.regex.specs.Sets.{a-set, labelled-set}
 use Rattle.regex.specs.Grammar.{TextOf, WordsOf}
 use Rattle.regex.specs.Characters.{HasCharacter, CharacterWords, CharacterWordsOf, SpellsWord}
-use Rattle.regex.specs.LabelsLaws.{label-word, set-exactly, OfSome, word-symbols, word-labels}
+use Rattle.regex.specs.LabelsLaws.{label-word, labelled, set-exactly, OfSome, word-symbols, word-labels}
 
 -- two lists of the same length whose elements are related one by one
 abbrev Pairs : (ℕ → ℕ → Type 0) → List ℕ → List ℕ → Type 0
@@ -87,7 +91,7 @@ module _ (A : List ℕ) where
       spelt c b x h e = (e .0, ap (member c) (e .1) ∙ h .1)
 
   -- A list of labels is a word of the text exactly if each is a label of the alphabet and their characters spell a word.
-  pub words-of-spelt : (s w : List ℕ) → WordsOf A s w ↔ (Each (Label A) w × SpellsWord A s w)
+  pub words-of-spelt : (s w : List ℕ) → WordsOf A s w ↔ SpellsWord A s w
   words-of-spelt s w = (
     λ h. let k = words-spelt (h .0) w .0 (h .2) in (k .0, (h .0, h .1, k .1)),
     λ h. (h .1 .0, h .1 .1, words-spelt (h .1 .0) w .1 (h .0, h .1 .2)),
@@ -113,7 +117,7 @@ module _ (A : List ℕ) where
     λ h. rw (sym (h .2)) (words-of-spelt s (h .0) .0 (h .1) .1),
   )
 
--- A set is refused as foreign exactly if the alphabet lists none of its characters.
+-- A set has a label exactly if the alphabet lists one of its characters.
 pub label-character : (A : List ℕ) (c : Set) → (1 ≤ labelsOf A c) ↔ ((b : ℕ) × HasCharacter A c b)
 label-character A c = (λ h. let w = label-word A c .0 h in spelt (w .0) (w .1), λ h. label-word A c .1 (labels (h .0) (h .1)))
   where
@@ -124,6 +128,19 @@ label-character A c = (λ h. let w = label-word A c .0 h in spelt (w .0) (w .1),
     labels b h =
         let r = labels-for A (b ∷ []) (h .0, tt) in
         (r .0, words-spelt A (set c) (r .0) .1 (r .1, (b, h, r .2)))
+
+-- Refusal 8 is 'no label at all': a set is foreign exactly if the alphabet lists none of its characters.
+pub foreign-exactly :
+    (A s : List ℕ) (c : Set) (r : List ℕ) → a-set s ≡ found c r
+    → (labelled-set A s ≡ fault refusal.Foreign s) ↔ ((b : ℕ) → HasCharacter A c b → ⊥)
+foreign-exactly A s c r e = (
+  λ h b k. let q = set-exactly A s c r .1 (e, label-character A c .1 (b, k)) in let z : _≡_ {A = ℕ} 0 1 = cc in omega arith,
+  λ n. by (eqb (labelsOf A c) 0) refl n,
+)
+  where
+    by : (t : Bool) → eqb (labelsOf A c) 0 ≡ t → ((b : ℕ) → HasCharacter A c b → ⊥) → labelled-set A s ≡ fault refusal.Foreign s
+    by true k n = labelled A s c r e ∙ rw k
+    by false k n = let m = eqb-false (labelsOf A c) 0 k in let b = label-character A c .0 (omega arith) in absurd (n (b .0) (b .1))
 
 -- An alphabet that lists the characters of another has all its texts and words.
 module _ (A B : List ℕ) (more : (b : ℕ) → Among b A → Among b B) where

@@ -1,5 +1,5 @@
--- What counts as a word of a set, and so of `[[:name:]]` and `[^[:name:]]` (document 02, T-01: "the POSIX set cut down to the alphabet"); and
--- which names are known. For the reader: nothing uses it.
+-- What counts as a word of a set, and so of an ordinary character (document 02, T-07: a character "means all its labels"), of `[[:name:]]` and
+-- of `[^[:name:]]` (T-01: "the POSIX set cut down to the alphabet"); and which names are known. For the reader: only examples use it.
 use mathlib.Core.Path.{_≡_, refl, sym, ap, ap₂, subst, _∙_}
 use mathlib.Core.Logic.{_↔_, _⊎_, inl, inr}
 use mathlib.Core.Option.{Option, some, none}
@@ -11,9 +11,10 @@ use lib.Dec.{eqb}
 use borrow.Author.Tests.{ne-eqb}
 use Rattle.lists.specs.Cases.{first-of, provided}
 use Rattle.lists.specs.Each.{Each}
-use Rattle.lists.specs.Lists.{Among, same-list}
+use Rattle.lists.specs.Lists.{Among, same-list, in-range}
 use Rattle.lists.specs.AmongLaws.{each-among}
-use Rattle.lists.specs.OrderLaws.{not-both}
+use Rattle.lists.specs.OrderLaws.{not-both, or-either, or-left}
+use Rattle.lists.specs.RangeLaws.{range-inside, range-true}
 use Rattle.lists.specs.SameLaws.{same-list-true, same-list-self}
 use Rattle.refusal.specs.declared.Refusal.{Refusal}
 use Rattle.refusal.specs.declared.Refusal.the-variants as refusal
@@ -24,7 +25,7 @@ use Rattle.regex.specs.Tree.{Range, among, Set, only, except, set, HasLa
 use Rattle.regex.specs.Letters.{labelsOf}
 use Rattle.regex.specs.Parsing.{found, fault, then, enclosed}
 use Rattle.regex.specs.Classes.{classes, look-up, class-ranges}
-use Rattle.regex.specs.Sets.{closed, reserved, items, members, ranges-of, known, inside, bracket, a-set, labelled-set}
+use Rattle.regex.specs.Sets.{closed, reserved, items, members, ranges-of, known, inside, bracket, alone, a-set, labelled-set}
 use Rattle.regex.specs.Parse.{m-alternation, m-branch, m-piece, m-group, step, parse, expressionOf}
 use Rattle.regex.specs.Grammar.{TextOf, WordsOf}
 use Rattle.regex.specs.StepsLaws.{parse-step}
@@ -110,6 +111,20 @@ each-means = (
 -- a word of one label
 one-label : (A : List ℕ) (c : Set) (x : ℕ) → Words A (set c) (x ∷ []) ↔ HasLabel A c x
 one-label A c x = (λ h. let e = h .2 in let q : x ≡ h .0 = cc in rw q (h .1), λ h. (x, h, refl))
+
+-- A text that is one ordinary character means all its labels and no others: a label is a word of it exactly if it has that character.
+module _ (A s : List ℕ) (b : ℕ) (ordinary : a-set s ≡ found (alone b) []) (no-group : next "(" s ≡ false) (x : ℕ) where
+  pub character-words : WordsOf A s (x ∷ []) ↔ (Label A x × (character A x ≡ b))
+  character-words =
+      let t = set-words A s (alone b) ordinary no-group (x ∷ []) in
+      let o = one-label A (alone b) x in (
+        λ h. let k = o .0 (t .0 h) in (k .0, same (character A x) (or-either (in-range b b (character A x)) false (k .1))),
+        λ h. t .1 (o .1 (h .0, rw (h .1) (or-left (in-range b b b) false (range-inside b b b (omega arith) (omega arith))))),
+      )
+    where
+      same : (y : ℕ) → (in-range b b y ≡ true) ⊎ (false ≡ true) → y ≡ b
+      same y (inl e) = let k = range-true b b y e in omega (arith, k .0, k .1)
+      same y (inr e) = let z : _≡_ {A = ℕ} 0 1 = cc in absurd (omega arith)
 
 module _ (A n : List ℕ) (rs : List Range) (class : class-ranges n ≡ some rs) (x : ℕ) where
   class-means : Means (n, rs)

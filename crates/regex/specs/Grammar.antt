@@ -25,6 +25,6 @@ TextOf A d (times r c) w = (u : List ℕ) × (v : List ℕ) × (w ≡ u ++ v) ×
 TextOf A d (join r s) w = (u : List ℕ) × (v : List ℕ) × (w ≡ u ++ v) × TextOf A d r u × (loose r ≤ 1) × TextOf A d s v × (loose s ≤ 2)
 TextOf A d (either r s) w = (u : List ℕ) × (v : List ℕ) × (w ≡ u ++ (code "|" ∷ v)) × TextOf A d r u × (loose r ≤ 2) × TextOf A d s v
 
--- "An expression's set of words goes by its text": w is a word of the text s.
+-- "An expression's set of words goes by its text": the list of labels w is a word of the text s.
 abbrev pub WordsOf : List ℕ → List ℕ → List ℕ → Type 0
 WordsOf A s w = (t : Tree) × TextOf A 16 t s × Words A t w

@@ -37,7 +37,7 @@ some-place (b ∷ A) c h = by (member c b) refl (λ k. some-place A c k)
     by true e f = (zero, omega arith, e)
     by false e f = let k : 1 ≤ 0 + labelsOf A c = (rw e at h) in let p = f (omega arith) in (suc (p .0), suc-le-suc (p .1), p .2)
 
--- A set is refused as foreign exactly if it has no word.
+-- A set has a label exactly if it has a word.
 pub label-word : (A : List ℕ) (c : Set) → (1 ≤ labelsOf A c) ↔ ((w : List ℕ) × Words A (set c) w)
 label-word A c =
     (λ h. word (some-place A c h), λ h. let l = h .1 .1 .0 .0 in let m = h .1 .1 .0 .1 in place-some A c (h .1 .0 - 1) (omega arith) (h .1 .1 .1))

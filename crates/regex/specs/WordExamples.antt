@@ -7,11 +7,15 @@ use mathlib.Core.Bool.{true}
 use Prim.Native.Nat.{ℕ, zero, suc, _-_, _+_, _≤_}
 use native.Mathlib.Omega.{arith}
 use lib.ListN.{length, getD, length-append}
+use Rattle.lists.specs.Cases.{first-of}
 use Rattle.lists.specs.Lists.{Among}
 use Rattle.text.specs.Bytes.{bytes}
+use Rattle.alphabet.specs.Labels.{Label, character}
 use Rattle.regex.specs.Tree.{range, Count, between, onward, Set, only, except, member, Tree, set, times, join, either, Allows, Joined, Words}
-use Rattle.regex.specs.Sets.{alone}
+use Rattle.regex.specs.Sets.{alone, a-set}
+use Rattle.regex.specs.Grammar.{WordsOf}
 use Rattle.regex.specs.Characters.{CharacterWords}
+use Rattle.regex.specs.ClassLaws.{character-words}
 
 -- `[a-b]` over `ba` has both labels
 by-value : Words (bytes "ba") (set (only (range 97 98 ∷ []))) (1 ∷ []) × Words (bytes "ba") (set (only (range 97 98 ∷ []))) (2 ∷ [])
@@ -75,6 +79,11 @@ two-sevens = (
   (2 ∷ [], 2 ∷ [], refl, (2, ((omega arith, omega arith), refl), refl), (2, ((omega arith, omega arith), refl), refl)),
   (55 ∷ [], 55 ∷ [], refl, (55, (inl refl, refl), refl), (55, (inl refl, refl), refl)),
 )
+
+-- `7` means the labels of 7 over any alphabet
+seven : (A : List ℕ) (x : ℕ) → WordsOf A (bytes "7") (x ∷ []) ↔ (Label A x × (character A x ≡ 55))
+unfolding a-set first-of
+seven A x = character-words A (bytes "7") 55 refl refl x
 
 -- `[^7]` over `7a7` means a alone: no label of 7 is left
 others : (v : List ℕ) → CharacterWords (bytes "7a7") (set (except (range 55 55 ∷ []))) v ↔ (v ≡ bytes "a")
