@@ -96,11 +96,10 @@ uint32_t kavurehy_decode(const uint32_t *form, size_t form_length, const uint32_
                          uint32_t counts[2]);
 
 /* Compiles an expression over an alphabet and reads a matrix with it. Writes the form as compile does, and path and word as decode does,
-   except that the word is in characters of the alphabet, and that it is a word of the expression, as characters, in place of one that the
-   form accepts. Writes the price to counts[0], the word's length to counts[1] and the form's to counts[2]. The needed work words,
-   (columns + 1) * (2 * L + 1) for an expression of L letters, may hold anything afterwards; the others are as they were. Returns 0, or a
-   refusal: 1 to 10, 12 to 16, 19. After 12 to 16 the form memory holds the form, though counts[2] is 0: after 15 its first word says how many
-   work words are needed. */
+   except that the word is in characters of the alphabet: a word of the expression takes the place of one that the form accepts. Writes the
+   price to counts[0], the word's length to counts[1] and the form's to counts[2]. The needed work words, (columns + 1) * (2 * L + 1) for an
+   expression of L letters, may hold anything afterwards; the others are as they were. Returns 0, or a refusal: 1 to 10, 12 to 16, 19. After
+   12 to 16 the form memory holds the form, though counts[2] is 0: after 15 its first word says how many work words are needed. */
 uint32_t kavurehy_read(const uint8_t *alphabet, size_t alphabet_length, const uint8_t *text, size_t text_length, const uint32_t *costs,
                        size_t costs_length, size_t width, size_t columns, uint32_t *form, size_t form_memory, uint8_t *path,
                        size_t path_memory, uint8_t *word, size_t word_memory, uint32_t *work, size_t work_memory, uint32_t counts[3]);

@@ -31,7 +31,7 @@ Pairs S (x ∷ w) [] = ⊥
 Pairs S (x ∷ w) (y ∷ v) = S x y × Pairs S w v
 
 module _ (S : ℕ → ℕ → Type 0) where
-  -- a list paired with two that are joined
+  -- what is paired with u and w joined, cut after what is paired with u
   record Parts (u w v : List ℕ) : Type 0 where
     left : List ℕ
     right : List ℕ
@@ -46,7 +46,7 @@ module _ (S : ℕ → ℕ → Type 0) where
       let p = parts u w v (h .1) in
       record { left = y ∷ p .left; right = p .right; joined = ap (λ l. y ∷ l) (p .joined); first = (h .0, p .first); second = p .second }
 
-  -- Words are carried over if the symbols of each set are.
+  -- Words are carried over if the one-letter words of each set are.
   module _ (Has Has′ : Set → ℕ → Type 0) (carry : (c : Set) (x y : ℕ) → Has c x → S x y → Has′ c y) where
     carried-joined :
         (W W′ : List ℕ → Type 0) → ((w v : List ℕ) → Pairs S w v → W w → W′ v) → (k : ℕ) (w v : List ℕ) → Pairs S w v → Joined W k w → Joined W′ k v

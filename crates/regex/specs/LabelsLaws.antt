@@ -1,4 +1,5 @@
--- The labels of words: a set has a word exactly if it has a label, and a word's labels are those of the alphabet.
+-- The labels of sets and words: a set has a word exactly if it has a label, and is taken only then; a word's labels are those of the
+-- alphabet.
 use mathlib.Core.Path.{_≡_, refl, sym, ap, _∙_}
 use mathlib.Core.Logic.{_↔_, inl, inr}
 use mathlib.Core.List.{List, [], _∷_}
@@ -74,7 +75,7 @@ set-exactly A s c r = (
             let some : 1 ≤ labelsOf A c′ = (let n = eqb-false (labelsOf A c′) 0 k in omega arith) in
             (e ∙ q, rw (sym same) some)
 
--- Each symbol of a word is one of some set.
+-- What a word consists of, over labels or characters: each is a one-letter word of some set.
 module _ (Has : Set → ℕ → Type 0) where
   abbrev pub OfSome : ℕ → Type 0
   OfSome x = (c : Set) × Has c x
