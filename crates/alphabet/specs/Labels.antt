@@ -3,6 +3,8 @@
 use Prim.Native.Nat.{ℕ, _-_, _≤_}
 use mathlib.Core.List.{List, map}
 use lib.ListN.{length, getD}
+use lib.Dec.{eqb}
+use Rattle.lists.specs.Lists.{keep, numbers}
 
 -- a label of the alphabet
 abbrev pub Label : (A : List ℕ) (x : ℕ) → Type 0
@@ -15,3 +17,7 @@ character A x = getD A (x - 1) 0
 -- the characters of a word's labels
 abbrev pub characters : (A w : List ℕ) → List ℕ
 characters A w = map (character A) w
+
+-- the labels of a character, ascending
+abbrev pub labels-of : (A : List ℕ) (c : ℕ) → List ℕ
+labels-of A c = keep (λ x. eqb (character A x) c) (numbers 1 (length A))

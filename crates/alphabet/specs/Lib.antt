@@ -1,4 +1,5 @@
 pub mod Labels
+pub mod LabelsLaws
 pub mod Alphabet
 pub mod AlphabetLaws
 pub mod Examples

@@ -2,7 +2,7 @@
 -- its text, has it.
 use Prim.Native.Nat.{ℕ, _≤_}
 use mathlib.Core.Path.{_≡_, refl, sym, ap, _∙_, subst}
-use mathlib.Core.Bool.{Bool, true, false, not}
+use mathlib.Core.Bool.{not}
 use mathlib.Core.Logic.{_↔_, Iff·trans, Iff·symm}
 use mathlib.Core.List.{List, [], _∷_}
 use native.Mathlib.Omega.{arith}
@@ -11,10 +11,9 @@ use lib.Dec.{ltb}
 use borrow.Author.Tests.{ltb-false, le-ltb, not-false}
 use Rattle.lists.specs.Lists.{in-range}
 use Rattle.lists.specs.Each.{all}
-use Rattle.refusal.specs.declared.Refusal.{Refusal}
 use Rattle.refusal.specs.declared.Refusal.the-variants.{Alphabet, TextLength, TextByte, Letters, FormMemory}
-use Rattle.refusal.specs.Verdict.{Verdict, passed, refused, Check, check, unless, if-passed, first-refusal}
-use Rattle.refusal.specs.VerdictLaws.{unless-neither, first-all}
+use Rattle.refusal.specs.Verdict.{Verdict, passed, refused, check, unless, if-passed, first-refusal}
+use Rattle.refusal.specs.VerdictLaws.{unless-neither, unless-passed, unless-same, first-all}
 use Rattle.refusal.specs.declared.Checked.the-variants.{Passed}
 use Rattle.alphabet.specs.Labels.{characters}
 use Rattle.automaton.specs.Automaton.{Accepts}
@@ -35,22 +34,12 @@ use Rattle.alphabet.specs.AlphabetLaws.{alphabet-exactly}
 use Rattle.compile.specs.Call.{parsed-form, compile-call}
 use Rattle.compile.specs.Means.{Means}
 
--- what passed a list of checks passed each
-unless-passed : {X : Type 0} (t : Bool) (n : Refusal) (cs : List Check) (a b : X) → unless (check t n ∷ cs) a ≡ passed b → (t ≡ false) × (unless cs a ≡ passed b)
-unfolding unless
-unless-passed true n cs a b e = let z : _≡_ {A = ℕ} 0 1 = cc in absurd (omega arith)
-unless-passed false n cs a b e = (refl, e)
-
-unless-same : {X : Type 0} (a b : X) → unless [] a ≡ passed b → a ≡ b
-unfolding unless
-unless-same a b e = cc
-
 module _ (A s : List ℕ) (room : ℕ) (f : List ℕ) where
   tree : (low : 1 ≤ length A) (high : length A ≤ 95) (y : Parsing Tree) → expressionOf A s ≡ y → parsed-form A room y ≡ passed f → Means A s f
   tree low high (fault n rest) e h = let z : _≡_ {A = ℕ} 0 1 = cc in absurd (omega arith)
   tree low high (found t rest) e h =
-      let a = unless-passed (ltb 127 (letterCount A t)) Letters (check (ltb room (length (formOf A t))) FormMemory ∷ []) (formOf A t) f h in
-      let b = unless-passed (ltb room (length (formOf A t))) FormMemory [] (formOf A t) f (a .1) in
+      let a = unless-passed (formOf A t) f (ltb 127 (letterCount A t)) Letters (check (ltb room (length (formOf A t))) FormMemory ∷ []) h in
+      let b = unless-passed (formOf A t) f (ltb room (length (formOf A t))) FormMemory [] (a .1) in
       let same = unless-same (formOf A t) f (b .1) in
       let few : letterCount A t ≤ 127 = ltb-false 127 (letterCount A t) (a .0) in
       let whole : expressionOf A s ≡ found t [] = e ∙ ap (found t) (expression-whole A s t rest e) in
@@ -73,9 +62,9 @@ module _ (A s : List ℕ) (room : ℕ) (f : List ℕ) where
       by : (v : Verdict (List ℕ)) → unless (text-checks A s) s ≡ v → if-passed v (λ s. parsed-form A room (expressionOf A s)) ≡ passed f → Means A s f
       by (refused n) h g = let z : _≡_ {A = ℕ} 0 1 = cc in absurd (omega arith)
       by (passed s′) h g =
-          let a = unless-passed (not (is-alphabet A)) Alphabet (check (not (in-range 1 255 (length s))) TextLength ∷ (check (not (all (in-range 32 126) s)) TextByte ∷ [])) s s′ h in
-          let b = unless-passed (not (in-range 1 255 (length s))) TextLength (check (not (all (in-range 32 126) s)) TextByte ∷ []) s s′ (a .1) in
-          let c = unless-passed (not (all (in-range 32 126) s)) TextByte [] s s′ (b .1) in
+          let a = unless-passed s s′ (not (is-alphabet A)) Alphabet (check (not (in-range 1 255 (length s))) TextLength ∷ (check (not (all (in-range 32 126) s)) TextByte ∷ [])) h in
+          let b = unless-passed s s′ (not (in-range 1 255 (length s))) TextLength (check (not (all (in-range 32 126) s)) TextByte ∷ []) (a .1) in
+          let c = unless-passed s s′ (not (all (in-range 32 126) s)) TextByte [] (b .1) in
           let size = alphabet-exactly A .0 (not-false (is-alphabet A) (a .0)) in
           tree (size .0) (size .1) (expressionOf A s) refl (rw (sym (unless-same s s′ (c .1))) at g)
 

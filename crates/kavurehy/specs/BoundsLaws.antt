@@ -39,6 +39,8 @@ use Rattle.outcome.specs.Outcome.{Outcome}
 use Rattle.regex.specs.Grammar.{WordsOf}
 use Rattle.compile.specs.Call.{compile-call}
 use Rattle.compile.specs.Meaning.{compiled-means}
+use Rattle.compile_list.specs.Call.{compile-list-call}
+use Rattle.compile_list.specs.Meaning.{list-means}
 use Rattle.decode_checks.specs.Checks.{needed, matrix-checks, decode-checks}
 use Rattle.decode_checks.specs.PassingLaws.{fits}
 use Rattle.decode_valid.specs.Answers.{labels, Checks, Answers, outcome-report}
@@ -74,7 +76,7 @@ spread-few k word room =
     filled-few 510 (spread word) (ltb room (length (spread word))) (label-fault k 1 word) OutputMemory Label
     (λ e. let h = short k 1 word e in omega (arith, spread-length word, few-pairs-in word))
 
--- Compile: a form has its head, a word for each of at most 127 letters, and at most an arc from each to each.
+-- Compile and CompileList: a form has its head, a word for each of at most 127 letters, and at most an arc from each to each.
 pub form-few : (f : List ℕ) → validForm f ≡ true → length f ≤ 16257
 unfolding encode
 form-few f valid =
@@ -89,12 +91,10 @@ form-few f valid =
     let same = ap length (encode-view f valid) in
     omega (arith, length-map letters (letterOf A), length-append (map (letterOf A) letters) (flatMap (arcsFrom A) letters))
 
-compile-few : (A s : List ℕ) (room : ℕ) → report (compile-call A s room) .filled ≤ 16257
-compile-few A s room = by (compile-call A s room) refl
-  where
-    by : (v : Verdict (List ℕ)) → compile-call A s room ≡ v → report v .filled ≤ 16257
-    by (refused n) e = omega arith
-    by (passed f) e = form-few f (compiled-means A s room f e .valid)
+-- a call that fills a valid form
+form-filled : (v : Verdict (List ℕ)) → ((f : List ℕ) → v ≡ passed f → validForm f ≡ true) → report v .filled ≤ 16257
+form-filled (refused n) valid = omega arith
+form-filled (passed f) valid = form-few f (valid f refl)
 
 module _ {answer : Report} {before after : List ℕ} where
   pub collapse-fits : (k : ℕ) (path : List ℕ) (room : ℕ) → Fills (collapse-call k path room) answer before after → answer .filled < 2 ^ 32
@@ -104,7 +104,10 @@ module _ {answer : Report} {before after : List ℕ} where
   spread-fits k word room h = rw (h .answered) (omega (arith, spread-few k word room))
 
   pub compile-fits : (A s : List ℕ) (room : ℕ) → Fills (compile-call A s room) answer before after → answer .filled < 2 ^ 32
-  compile-fits A s room h = rw (h .answered) (omega (arith, compile-few A s room))
+  compile-fits A s room h = rw (h .answered) (omega (arith, form-filled (compile-call A s room) (λ f e. compiled-means A s room f e .valid)))
+
+  pub list-fits : (A s : List ℕ) (room : ℕ) → Fills (compile-list-call A s room) answer before after → answer .filled < 2 ^ 32
+  list-fits A s room h = rw (h .answered) (omega (arith, form-filled (compile-list-call A s room) (λ f e. list-means A s room f e .valid)))
 
 -- Decode and Read: the word is no longer than the path, which has a label for each of at most 255 columns.
 module _ (Word : List ℕ → Type 0) (spelt : List ℕ → List ℕ) (form : ℕ) (M : Matrix) where

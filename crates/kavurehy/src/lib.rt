@@ -12,6 +12,7 @@ ghost use Rattle.ctc_spread.specs.Calls.{spread-call};
 ghost use Rattle.confidence.specs.Cost.{costs-call};
 ghost use Rattle.matrix.specs.Matrix.{matrix};
 ghost use Rattle.compile.specs.Call.{compile-call};
+ghost use Rattle.compile_list.specs.Call.{compile-list-call};
 ghost use Rattle.decode_valid.specs.Lent.{lent};
 ghost use Rattle.kavurehy.specs.Handed.{FillsCounted, FillsPlain, Judges, DecodesCounted, ReadsCounted};
 
@@ -26,6 +27,19 @@ pub extern "C" fn kavurehy_compile(
     ensures { λ r. ⌜ FillsCounted (compile-call (old alphabet) (old text) (length (old form))) (old form) (new form) (new counts) r ⌝ }
 {
     hand_length(compile::compile(alphabet, text, form), counts)
+}
+
+// Writes the form of a list of words over an alphabet, and its length to `counts`.
+#[no_mangle]
+pub extern "C" fn kavurehy_compile_list(
+    alphabet: &[u8],
+    list: &[u8],
+    form: &mut [u32],
+    counts: &mut [u32; 1],
+) -> u32
+    ensures { λ r. ⌜ FillsCounted (compile-list-call (old alphabet) (old list) (length (old form))) (old form) (new form) (new counts) r ⌝ }
+{
+    hand_length(compile_list::compile_list(alphabet, list, form), counts)
 }
 
 // Does the form accept the word? Writes 1 or 0 to `accepted`.

@@ -1,14 +1,15 @@
--- Laws of the elements of a list: as a fact, as a test, and after map, keep, append and flatMap.
+-- Laws of the elements of a list: as a fact, as a test, and after map, keep, append and flatMap; and the loop that looks for an element.
 use Prim.Native.Nat.{ℕ, zero, suc, _+_, _*_, _<_, _≤_}
 use mathlib.Core.Path.{_≡_, refl, sym, ap, ap₂, subst, _∙_}
-use mathlib.Core.Bool.{Bool, true, false, cond, _||_}
+use mathlib.Core.Bool.{Bool, true, false, cond, _||_, or-assoc}
 use mathlib.Core.Logic.{_⊎_, inl, inr}
-use mathlib.Core.List.{List, [], _∷_, _++_, map, flatMap}
+use mathlib.Core.List.{List, [], _∷_, _++_, map, flatMap, append-assoc, append-nil}
 use native.Mathlib.Nat.{le-of-suc-le-suc, not-suc-le-zero}
 use native.Mathlib.Omega.{arith}
-use lib.ListN.{length, getD, length-append}
+use lib.ListN.{length, getD, drop, length-append}
 use Rattle.lists.specs.Lists.{Among, any, keeping, keep}
 use Rattle.lists.specs.Each.{Each}
+use Rattle.lists.specs.EachLaws.{drop-here, drop-all}
 use Rattle.lists.specs.OrderLaws.{or-either}
 
 module _ {A : Type 0} where
@@ -68,6 +69,33 @@ module _ {A : Type 0} where
       by (inl l) = inl (inr l)
       by (inr r) = inr r
 
+  pub keep-append : (p : A → Bool) (xs ys : List A) → keep p (xs ++ ys) ≡ keep p xs ++ keep p ys
+  unfolding keep
+  keep-append p [] ys = refl
+  keep-append p (x ∷ xs) ys = rw (keep-append p xs ys) (by (p x))
+    where
+      by : (t : Bool) → keeping t x (keep p xs ++ keep p ys) ≡ keeping t x (keep p xs) ++ keep p ys
+      by true = refl
+      by false = refl
+
+  pub any-append : (p : A → Bool) (xs ys : List A) → any p (xs ++ ys) ≡ (any p xs || any p ys)
+  unfolding any
+  any-append p [] ys = refl
+  any-append p (x ∷ xs) ys = rw (any-append p xs ys) (sym (or-assoc (p x) (any p xs) (any p ys)))
+
+  -- The loop that looks for an element which passes: at index i the rest of xs decides. Past the end an element is d.
+  module _ (p : A → Bool) (d : A) (xs : List A) (i : ℕ) where
+    pub any-more : i < length xs → p (getD xs i d) ≡ false → any p (drop i xs) ≡ any p xs → any p (drop (i + 1) xs) ≡ any p xs
+    unfolding any
+    any-more l t e = sym (ap (any p) (drop-here d xs i l) ∙ ap (λ b. b || any p (drop (i + 1) xs)) t) ∙ e
+
+    pub any-found : i < length xs → p (getD xs i d) ≡ true → any p xs ≡ true
+    any-found l t = among-any p (getD xs i d) xs (among-at d xs i l) t
+
+  pub any-end : (p : A → Bool) (xs : List A) (i : ℕ) → length xs ≤ i → any p (drop i xs) ≡ any p xs → any p xs ≡ false
+  unfolding any
+  any-end p xs i l e = sym e ∙ ap (any p) (drop-all xs i l)
+
   -- tests that agree on the list keep the same elements
   pub keep-same : (p q : A → Bool) (xs : List A) → ((x : A) → Among x xs → p x ≡ q x) → keep p xs ≡ keep q xs
   unfolding keep
@@ -120,6 +148,12 @@ module _ {A B : Type 0} where
   flat-same f g (x ∷ xs) e = ap₂ _++_ (e x (inl refl)) (flat-same f g xs (λ y m. e y (inr m)))
 
 module _ {A B : Type 0} (f : A → B) where
+  -- at an index within the list, whatever an element past its end counts as
+  pub map-at : (xs : List A) (i : ℕ) (a : A) (b : B) → i < length xs → getD (map f xs) i b ≡ f (getD xs i a)
+  map-at [] i a b l = absurd (not-suc-le-zero l)
+  map-at (x ∷ xs) zero a b l = refl
+  map-at (x ∷ xs) (suc i) a b l = map-at xs i a b (le-of-suc-le-suc l)
+
   pub among-map : (a : A) (xs : List A) → Among a xs → Among (f a) (map f xs)
   among-map a [] m = absurd m
   among-map a (x ∷ xs) (inl e) = inl (ap f e)
@@ -131,6 +165,15 @@ module _ {A B : Type 0} (f : A → B) where
   map-among b (x ∷ xs) (inr m) = let r = map-among b xs m in (r .0, inr (r .1), r .2)
 
 module _ {A B : Type 0} (f : A → List B) where
+  pub flat-append : (xs ys : List A) → flatMap f (xs ++ ys) ≡ flatMap f xs ++ flatMap f ys
+  unfolding flatMap
+  flat-append [] ys = refl
+  flat-append (x ∷ xs) ys = rw (flat-append xs ys) (sym (append-assoc (f x) (flatMap f xs) (flatMap f ys)))
+
+  pub flat-one : (x : A) → flatMap f (x ∷ []) ≡ f x
+  unfolding flatMap
+  flat-one x = append-nil (f x)
+
   pub among-flat : (a : A) (b : B) (xs : List A) → Among a xs → Among b (f a) → Among b (flatMap f xs)
   unfolding flatMap
   among-flat a b [] m h = absurd m

@@ -11,6 +11,7 @@ pub mod RangeLaws
 pub mod EachLaws
 pub mod AmongLaws
 pub mod AscendingLaws
+pub mod DistinctLaws
 pub mod SameLaws
 pub mod WrittenLaws
 pub mod OutsideLaws
@@ -23,4 +24,5 @@ pub mod LeastLaws
 pub mod FillingLoops
 pub mod UptoLoops
 pub mod RemainingLoops
+pub mod LowestLaws
 pub mod Examples

@@ -5,6 +5,7 @@ use mathlib.Core.Path.{_≡_}
 use mathlib.Core.Logic.{_⊎_}
 use Prim.Native.Nat.{ℕ, zero, suc, _<_}
 use lib.Dec.{eqb, leb}
+use lib.ListN.{getD}
 use Rattle.lists.specs.Each.{Each}
 
 module _ {A : Type 0} where
@@ -44,7 +45,16 @@ unfoldable pub numbers : ℕ → ℕ → List ℕ
 numbers a zero = []
 numbers a (suc n) = a ∷ numbers (suc a) n
 
+-- the lowest of the numbers 1 to n that passes the test, or 0 if none does
+abbrev pub lowest : (ℕ → Bool) → ℕ → ℕ
+lowest p n = getD (keep p (numbers 1 n)) 0 0
+
 -- each element is below all elements after it
 abbrev pub Ascending : List ℕ → Type 0
 Ascending [] = Unit {0}
 Ascending (x ∷ xs) = Each (λ y. x < y) xs × Ascending xs
+
+-- each element differs from all elements after it
+abbrev pub Distinct : {A : Type 0} → List A → Type 0
+Distinct [] = Unit {0}
+Distinct {A} (x ∷ xs) = Each (λ (y : A). x ≡ y → ⊥) xs × Distinct xs

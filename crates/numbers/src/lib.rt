@@ -1,6 +1,7 @@
-// Small functions on numbers: conversions of bytes, 32-bit words and sizes; the lesser of two; a range; a truth value as a number.
+// Small functions on numbers and truth values: conversions of bytes, 32-bit words and sizes; the lesser of two; a range; a truth value as a
+// number; either of two.
 ghost use mathlib.Core.Path.{_≡_};
-ghost use mathlib.Core.Bool.{cond};
+ghost use mathlib.Core.Bool.{cond, _||_};
 ghost use Prim.Native.Nat.{_<_, _≤_, min};
 ghost use Rattle.lists.specs.Lists.{in-range};
 
@@ -59,4 +60,11 @@ pub fn in_range(low: usize, high: usize, x: usize) -> bool
         return false;
     }
     x <= high
+}
+
+// Is either of the two true?
+pub fn either(a: bool, b: bool) -> bool
+    ensures { λ r. ⌜ r ≡ (a || b) ⌝ }
+{
+    if a { true } else { b }
 }

@@ -5,10 +5,10 @@ use mathlib.Core.Logic.{inl, inr, _↔_}
 use mathlib.Core.List.{List, [], _∷_}
 use native.Mathlib.Omega.{arith}
 use lib.ListN.{length}
-use Rattle.lists.specs.AmongLaws.{among-keep, keep-among}
 use Rattle.lists.specs.Lists.{Among, numbers, Ascending}
-use Rattle.lists.specs.AscendingLaws.{among-numbers, numbers-among, ascending-keep, ascending-numbers}
+use Rattle.lists.specs.AscendingLaws.{ascending-keep, ascending-numbers}
 use Rattle.alphabet.specs.Labels.{character}
+use Rattle.alphabet.specs.LabelsLaws.{labels-exactly}
 use Rattle.regex.specs.Tree.{Set, Count, between, onward, Tree, set, group, times, join, either, member, Allows, Joined, HasLabel, Words}
 use Rattle.regex.specs.OwnCountsLaws.{InRange}
 use Rattle.regex.specs.SenseLaws.{Sensible}
@@ -30,15 +30,7 @@ any-of-in (y ∷ l) x (inr h) = inr (any-of-in l x h)
 
 -- the labels of a set are those that it opens into
 pub labels-in : (A : List ℕ) (c : Set) (x : ℕ) → Among x (labelsIn A c) ↔ HasLabel A c x
-labels-in A c x = (
-  λ h.
-      let k = keep-among (λ y. member c (character A y)) x (numbers 1 (length A)) h in
-      let n = numbers-among 1 (length A) x (k .0) in
-      ((n .0, omega arith), k .1),
-  λ h.
-      let high = h .0 .1 in
-      among-keep (λ y. member c (character A y)) x (numbers 1 (length A)) (among-numbers 1 (length A) x (h .0 .0) (omega arith)) (h .1),
-)
+labels-in A c x = labels-exactly A (member c) x
 
 -- in label order, each once
 pub labels-ascending : (A : List ℕ) (c : Set) → Ascending (labelsIn A c)

@@ -1,16 +1,9 @@
 // Sets of letters as arrays of bools, and the follow relation as an array of such sets, one for each letter. Letter i is at index i - 1.
-ghost use mathlib.Core.Path.{_≡_};
-ghost use mathlib.Core.Bool.{_||_};
+use numbers::either;
 ghost use Prim.Native.Nat.{_≤_};
 ghost use lib.ListN.{length};
 ghost use Rattle.lists.specs.Memory.{old, new};
 ghost use Rattle.positions_follow.specs.Sets.{Union, Linked};
-
-pub fn either(a: bool, b: bool) -> bool
-    ensures { λ r. ⌜ r ≡ (a || b) ⌝ }
-{
-    if a { true } else { b }
-}
 
 // The set a becomes its union with the set b.
 pub fn unite(a: &mut [bool], b: &[bool])

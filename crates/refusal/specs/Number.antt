@@ -2,7 +2,7 @@
 use Prim.Native.Nat.{ℕ}
 use Rattle.refusal.specs.declared.Refusal.{Refusal}
 use Rattle.refusal.specs.declared.Refusal.the-variants.{Alphabet, TextLength, TextByte, MisplacedSign, Depth, Count, Bracket, Foreign, Letters}
-use Rattle.refusal.specs.declared.Refusal.the-variants.{FormMemory, BadForm, Matrix, Cost, OutputMemory, Work, NoReading, Label, Sheet, ClassName}
+use Rattle.refusal.specs.declared.Refusal.the-variants.{FormMemory, BadForm, Matrix, Cost, OutputMemory, Work, NoReading, Label, Sheet, ClassName, WordList}
 
 abbrev pub numberOf : Refusal → ℕ
 numberOf Alphabet = 1
@@ -24,3 +24,4 @@ numberOf NoReading = 16
 numberOf Label = 17
 numberOf Sheet = 18
 numberOf ClassName = 19
+numberOf WordList = 21

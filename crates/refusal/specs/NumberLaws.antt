@@ -2,7 +2,7 @@
 use Prim.Native.Nat.{_≤_, _<_}
 use native.Mathlib.Omega.{arith}
 use Rattle.refusal.specs.declared.Refusal.{Refusal}
-use Rattle.refusal.specs.declared.Refusal.the-variants.{Alphabet, TextLength, TextByte, MisplacedSign, Depth, Count, Bracket, Foreign, Letters, FormMemory, BadForm, Matrix, Cost, OutputMemory, Work, NoReading, Label, Sheet, ClassName}
+use Rattle.refusal.specs.declared.Refusal.the-variants.{Alphabet, TextLength, TextByte, MisplacedSign, Depth, Count, Bracket, Foreign, Letters, FormMemory, BadForm, Matrix, Cost, OutputMemory, Work, NoReading, Label, Sheet, ClassName, WordList}
 use Rattle.refusal.specs.Number.{numberOf}
 
 -- no refusal has the number 0, and none has more than two digits
@@ -26,3 +26,4 @@ number-between NoReading = (omega arith, omega arith)
 number-between Label = (omega arith, omega arith)
 number-between Sheet = (omega arith, omega arith)
 number-between ClassName = (omega arith, omega arith)
+number-between WordList = (omega arith, omega arith)

@@ -28,6 +28,24 @@ module _ {A : Type 0} (a : A) where
   pub unless-neither : (s t : Bool) (m n : Refusal) → s ≡ false → t ≡ false → unless (check s m ∷ (check t n ∷ [])) a ≡ passed a
   unless-neither s t m n e f = unless-fails s m (check t n ∷ []) e ∙ unless-fails t n [] f ∙ unless-none
 
+-- what passed a list of checks passed each
+module _ {A : Type 0} (a b : A) where
+  pub unless-passed : (t : Bool) (n : Refusal) (cs : List Check) → unless (check t n ∷ cs) a ≡ passed b → (t ≡ false) × (unless cs a ≡ passed b)
+  unfolding unless
+  unless-passed true n cs e = let z : _≡_ {A = ℕ} 0 1 = cc in absurd (omega arith)
+  unless-passed false n cs e = (refl, e)
+
+  pub unless-same : unless [] a ≡ passed b → a ≡ b
+  unfolding unless
+  unless-same e = cc
+
+  -- the checks alone
+  pub unless-all : (cs : List Check) → unless cs a ≡ passed b → (first-refusal cs ≡ Passed) × (a ≡ b)
+  unfolding unless first-refusal
+  unless-all [] e = (refl, cc)
+  unless-all (check true n ∷ cs) e = let z : _≡_ {A = ℕ} 0 1 = cc in absurd (omega arith)
+  unless-all (check false n ∷ cs) e = unless-all cs e
+
 pub first-holds : (t : Bool) (n : Refusal) (cs : List Check) → t ≡ true → first-refusal (check t n ∷ cs) ≡ Refused n
 unfolding first-refusal
 first-holds t n cs e = rw e

@@ -23,6 +23,7 @@ pub enum Refusal {
     Label,
     Sheet,
     ClassName,
+    WordList,
 }
 
 // The answer of a call that fills one list: how many elements it wrote, or why it turned the input away.
@@ -61,5 +62,6 @@ pub fn number(r: Refusal) -> u32
         Refusal::Label => 17,
         Refusal::Sheet => 18,
         Refusal::ClassName => 19,
+        Refusal::WordList => 21,
     }
 }

@@ -15,6 +15,7 @@ use Rattle.lists.specs.Lists.{Among}
 use Rattle.lists.specs.AmongLaws.{among-at, among-index}
 use Rattle.refusal.specs.declared.Refusal.the-variants as refusal
 use Rattle.alphabet.specs.Labels.{Label, character, characters}
+use Rattle.alphabet.specs.LabelsLaws.{labels-for}
 use Rattle.regex.specs.Tree.{Set, member, Tree, set, group, times, join, either, Joined, WordsOver, HasLabel, Words}
 use Rattle.regex.specs.Letters.{labelsOf}
 use Rattle.regex.specs.Parsing.{found, fault}
@@ -97,22 +98,12 @@ module _ (A : List ℕ) where
     λ h. (h .1 .0, h .1 .1, words-spelt (h .1 .0) w .1 (h .0, h .1 .2)),
   )
 
-  -- labels of the alphabet for characters that it lists
-  labels-for : (v : List ℕ) → Each (λ b. Among b A) v → (w : List ℕ) × Each (Label A) w × (characters A w ≡ v)
-  labels-for [] h = ([], tt, refl)
-  labels-for (b ∷ v) h =
-      let i = among-index 0 b A (h .0) in
-      let l = i .1 in
-      let e : suc (i .0) - 1 ≡ i .0 = omega arith in
-      let r = labels-for v (h .1) in
-      (suc (i .0) ∷ r .0, ((omega arith, omega arith), r .1), ap₂ _∷_ (ap (λ k. getD A k 0) e ∙ i .2) (r .2))
-
   -- The words over characters are what the words over labels spell, and no others.
   pub all-spelt : (s v : List ℕ) → CharacterWordsOf A s v ↔ ((w : List ℕ) × WordsOf A s w × (characters A w ≡ v))
   all-spelt s v = (
     λ h.
         let listed = each-map (OfSome (HasCharacter A)) (λ b. Among b A) (λ b o. o .1 .0) v (word-symbols (HasCharacter A) (h .0) v (h .2)) in
-        let r = labels-for v listed in
+        let r = labels-for A v listed in
         (r .0, words-of-spelt s (r .0) .1 (r .1, (rw (r .2) h)), r .2),
     λ h. rw (sym (h .2)) (words-of-spelt s (h .0) .0 (h .1) .1),
   )

@@ -23,7 +23,8 @@ use Rattle.positions.specs.Opened.{anyOf, copies, nested, repeated, opened, lab
 use Rattle.positions.specs.Numbered.{numbered, positionAutomaton}
 use Rattle.compile.specs.Call.{compile-call}
 use Rattle.read.specs.Cases.{cases, cases-stated}
-use Rattle.sheet_format.specs.Sheet.{onto, pieces, both, every, closed, numeralOf, costOf, columnOf, laid, sheetFrom, sheetOf}
+use Rattle.text_lines.specs.Lines.{onto, pieces, both, closed}
+use Rattle.sheet_format.specs.Sheet.{every, numeralOf, costOf, columnOf, laid, sheetFrom, sheetOf}
 use Rattle.sheet_decimal.specs.Numerals.{digits, decimal}
 use Rattle.sheet_path.specs.Labels.{following, spaced}
 use Rattle.sheet_read.specs.Promise.{Answers}

@@ -15,7 +15,7 @@ use Rattle.lists.specs.Each.{all}
 use Rattle.lists.specs.OrderLaws.{and-left, and-right, and-both}
 use Rattle.lists.specs.WrittenLaws.{stored-size, stored-then}
 use Rattle.lists.specs.Stored.{Stored}
-use Rattle.sheet_format.specs.Sheet.{both}
+use Rattle.text_lines.specs.Lines.{both}
 use Rattle.sheet_format.specs.ColumnLinesLaws.{columnsIn-end, columnsIn-some, beside, put}
 use Rattle.sheet_format.specs.ColumnLines.{columnsIn}
 use Rattle.sheet_number.specs.Items.{ReadCost}

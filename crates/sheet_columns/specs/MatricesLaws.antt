@@ -13,7 +13,8 @@ use Rattle.lists.specs.EachLaws.{drop-all}
 use Rattle.lists.specs.OrderLaws.{and-left, and-right, and-both}
 use Rattle.lists.specs.WrittenLaws.{written-none, stored-then}
 use Rattle.lists.specs.Memory.{written}
-use Rattle.sheet_format.specs.Sheet.{both, equal-columns, fitting}
+use Rattle.text_lines.specs.Lines.{both}
+use Rattle.sheet_format.specs.Sheet.{equal-columns, fitting}
 use Rattle.sheet_format.specs.ColumnLinesLaws.{columnsIn-end, columnsIn-some}
 use Rattle.sheet_format.specs.ColumnLines.{columnsIn}
 use Rattle.sheet_columns.specs.Storing.{StoredColumn, StoredColumns, wide}

@@ -17,9 +17,10 @@ use Rattle.text.specs.Digits.{digits, digit}
 use Rattle.sheet_format.specs.Sheet.{costOf}
 use Rattle.sheet_format.specs.CostLaws.{cost-exactly}
 use Rattle.sheet_format.specs.ColumnLinesLaws.{FirstCost, columnsIn-back, put, columnsIn-put}
-use Rattle.sheet_format.specs.ColumnLines.{Free, columnsIn}
-use Rattle.sheet_number.specs.Places.{part}
-use Rattle.sheet_number.specs.PlacesLaws.{part-rest}
+use Rattle.text_lines.specs.Lines.{Free}
+use Rattle.sheet_format.specs.ColumnLines.{columnsIn}
+use Rattle.text_lines.specs.Places.{part}
+use Rattle.text_lines.specs.PlacesLaws.{part-rest}
 use Rattle.sheet_number.specs.Items.{separator, CostAt, ReadCost}
 use Rattle.sheet_number.specs.DigitsLaws.{digit-range, numeral-back}
 use Rattle.sheet_number.specs.CostsLaws.{cost-begins}

@@ -9,7 +9,7 @@ use lib.ListN.{length, drop}
 use lib.Dec.{eqb}
 use Rattle.lists.specs.Each.{all}
 use Rattle.lists.specs.Stored.{Stored}
-use Rattle.sheet_format.specs.Sheet.{both}
+use Rattle.text_lines.specs.Lines.{both}
 use Rattle.sheet_format.specs.ColumnLines.{columnsIn}
 use Rattle.sheet_columns.specs.declared.Column.{Column}
 use Rattle.sheet_columns.specs.declared.Column.the-variants as column

@@ -2,138 +2,18 @@
 use mathlib.Core.Path.{_≡_, refl, sym, ap, _∙_}
 use mathlib.Core.Option.{Option, some, none}
 use mathlib.Core.List.{List, [], _∷_, _++_, append-assoc, append-nil}
-use mathlib.Core.Bool.{Bool, true, false, cond}
+use mathlib.Core.Bool.{cond}
 use mathlib.Core.Logic.{_⊎_, inl, inr, ⊎-elim}
 use Prim.Native.Nat.{ℕ, _<_}
 use native.Mathlib.Omega.{arith}
 use lib.ListN.{length}
 use lib.Dec.{eqb}
-use borrow.Author.Tests.{ne-eqb, eq-eqb}
 use Rattle.lists.specs.EachLaws.{each-append}
 use Rattle.lists.specs.OrderLaws.{eq-or-ne}
-use Rattle.sheet_format.specs.Sheet.{onto, pieces, both, every, closed, linesOf, costOf, columnOf}
-use Rattle.sheet_format.specs.ColumnLines.{Free, columnsOf, columnsIn}
-
--- Pieces.
-
--- every text has a first piece
-record Some (c : ℕ) (s : List ℕ) : Type 0 where
-  first : List ℕ
-  others : List (List ℕ)
-  is : pieces c s ≡ first ∷ others
-
-onto-some : (b : ℕ) (ps : List (List ℕ)) → (q : List ℕ) × (qs : List (List ℕ)) × (onto b ps ≡ q ∷ qs)
-unfolding onto
-onto-some b [] = (b ∷ [], [], refl)
-onto-some b (p ∷ ps) = (b ∷ p, ps, refl)
-
-some-piece : (c : ℕ) (s : List ℕ) → Some c s
-unfolding pieces
-some-piece c [] = record { first = []; others = []; is = refl }
-some-piece c (b ∷ s) = by (eqb b c) refl
-  where
-    by : (t : Bool) → eqb b c ≡ t → Some c (b ∷ s)
-    by true e = record { first = []; others = pieces c s; is = rw e }
-    by false e = let o = onto-some b (pieces c s) in record { first = o .0; others = o .1; is = rw e (o .2) }
-
--- a text without separators put before the first piece
-unfoldable ahead : List ℕ → List (List ℕ) → List (List ℕ)
-ahead p [] = p ∷ []
-ahead p (q ∷ qs) = (p ++ q) ∷ qs
-
-ahead-onto : (b : ℕ) (p : List ℕ) (ps : List (List ℕ)) → onto b (ahead p ps) ≡ ahead (b ∷ p) ps
-unfolding ahead onto
-ahead-onto b p [] = refl
-ahead-onto b p (q ∷ qs) = refl
-
-pieces-ahead : (c : ℕ) (p s : List ℕ) → Free c p → pieces c (p ++ s) ≡ ahead p (pieces c s)
-unfolding ahead pieces
-pieces-ahead c [] s f = by (some-piece c s)
-  where
-    by : Some c s → pieces c s ≡ ahead [] (pieces c s)
-    by o = rw (o .is)
-pieces-ahead c (b ∷ p) s f = rw (ne-eqb b c (f .0), pieces-ahead c p s (f .1)) (ahead-onto b p (pieces c s))
-
--- the first piece ends at the first separator
-pieces-end : (c : ℕ) (p s : List ℕ) → Free c p → pieces c (p ++ (c ∷ s)) ≡ p ∷ pieces c s
-unfolding ahead pieces
-pieces-end c p s f = pieces-ahead c p (c ∷ s) f ∙ rw (eq-eqb c c refl, append-nil)
-
--- Lines.
-
-closed-more : (p : List ℕ) (c : ℕ) (s : List ℕ) → closed (p ∷ pieces c s) ≡ both (some p) (closed (pieces c s))
-unfolding closed
-closed-more p c s = let o = some-piece c s in rw (o .is)
-
--- the first line ends at the first newline
-pub lines-end : (p s : List ℕ) → Free 10 p → linesOf (p ++ (10 ∷ s)) ≡ both (some p) (linesOf s)
-lines-end p s f = ap closed (pieces-end 10 p s f) ∙ closed-more p 10 s
-
--- the beginning of a line put before the first line
-unfoldable longer : List ℕ → Option (List (List ℕ)) → Option (List (List ℕ))
-longer p none = none
-longer p (some []) = none
-longer p (some (l ∷ ls)) = some ((p ++ l) ∷ ls)
-
-longer-both : (p q : List ℕ) (o : Option (List (List ℕ))) → both (some (p ++ q)) o ≡ longer p (both (some q) o)
-unfolding longer both
-longer-both p q none = refl
-longer-both p q (some ls) = refl
-
-closed-ahead : (a : ℕ) (p : List ℕ) (ps : List (List ℕ)) → closed (ahead (a ∷ p) ps) ≡ longer (a ∷ p) (closed ps)
-unfolding closed ahead longer
-closed-ahead a p [] = refl
-closed-ahead a p ([] ∷ []) = refl
-closed-ahead a p ((b ∷ q) ∷ []) = refl
-closed-ahead a p (q ∷ (r ∷ ps)) = longer-both (a ∷ p) q (closed (r ∷ ps))
-
-lines-longer : (a : ℕ) (p s : List ℕ) → Free 10 (a ∷ p) → linesOf ((a ∷ p) ++ s) ≡ longer (a ∷ p) (linesOf s)
-lines-longer a p s f = ap closed (pieces-ahead 10 (a ∷ p) s f) ∙ closed-ahead a p (pieces 10 s)
-
--- a line without its newline is not a list of lines
-pub lines-open : (p : List ℕ) → 0 < length p → Free 10 p → linesOf p ≡ none
-unfolding longer closed pieces
-lines-open [] l f = absurd (omega arith)
-lines-open (a ∷ p) l f = ap linesOf (sym (append-nil (a ∷ p))) ∙ lines-longer a p [] f
-
-pub lines-none : linesOf [] ≡ some []
-unfolding closed pieces
-lines-none = refl
-
--- a text whose lines are known begins with the first of them
-pub record FirstLine (s l : List ℕ) (ls : List (List ℕ)) : Type 0 where
-  pub beyond : List ℕ
-  pub splits : s ≡ l ++ (10 ∷ beyond)
-  pub others : linesOf beyond ≡ some ls
-
-pub lines-back : (s l : List ℕ) (ls : List (List ℕ)) → linesOf s ≡ some (l ∷ ls) → FirstLine s l ls
-unfolding longer both
-lines-back [] l ls e = let n = lines-none in let z : _≡_ {A = ℕ} 0 1 = cc in absurd (omega arith)
-lines-back (b ∷ s) l ls e =
-    ⊎-elim (λ q. ends (linesOf s) refl q (sym (ap (λ a. linesOf (a ∷ s)) q ∙ lines-end [] s tt) ∙ e))
-    (λ q. goes-on (linesOf s) (lines-back s) (sym (lines-longer b [] s (q, tt)) ∙ e)) (eq-or-ne b 10)
-  where
-    ends : (o : Option (List (List ℕ))) → linesOf s ≡ o → b ≡ 10 → both (some []) o ≡ some (l ∷ ls) → FirstLine (b ∷ s) l ls
-    ends none p q h = let z : _≡_ {A = ℕ} 0 1 = cc in absurd (omega arith)
-    ends (some ms) p q h =
-        let k : [] ≡ l = cc in
-        let m : ms ≡ ls = cc in
-        record { beyond = s; splits = ap (λ a. a ∷ s) q ∙ ap (λ x. x ++ (10 ∷ s)) k; others = p ∙ ap some m }
-
-    goes-on :
-        (o : Option (List (List ℕ))) → ((m : List ℕ) (ms : List (List ℕ)) → o ≡ some (m ∷ ms) → FirstLine s m ms)
-        → longer (b ∷ []) o ≡ some (l ∷ ls) → FirstLine (b ∷ s) l ls
-    goes-on none ih h = let z : _≡_ {A = ℕ} 0 1 = cc in absurd (omega arith)
-    goes-on (some []) ih h = let z : _≡_ {A = ℕ} 0 1 = cc in absurd (omega arith)
-    goes-on (some (m ∷ ms)) ih h =
-        let k : b ∷ m ≡ l = cc in
-        let n : ms ≡ ls = cc in
-        let f = ih m ms refl in
-        record {
-          beyond = f .beyond;
-          splits = ap (λ x. b ∷ x) (f .splits) ∙ ap (λ x. x ++ (10 ∷ f .beyond)) k;
-          others = f .others ∙ ap some n;
-        }
+use Rattle.text_lines.specs.Lines.{Free, pieces, both, closed, linesOf}
+use Rattle.text_lines.specs.LinesLaws.{Some, some-piece, ahead, pieces-ahead, pieces-end, lines-end, longer, lines-longer, FirstLine, lines-back, piece-back}
+use Rattle.sheet_format.specs.Sheet.{every, costOf, columnOf}
+use Rattle.sheet_format.specs.ColumnLines.{columnsOf, columnsIn}
 
 -- a cost put before the first column
 unfoldable pub beside : Option ℕ → Option (List (List ℕ)) → Option (List (List ℕ))
@@ -207,28 +87,6 @@ columnsIn-space p s f g =
         ap (λ q. both (columnOf q) (every columnOf ls)) (append-assoc p (32 ∷ []) l)
         ∙ ap (λ q. both q (every columnOf ls)) (column-more p l g)
         ∙ beside-both (costOf p) (columnOf l) (every columnOf ls)
-
--- the first piece is the whole text, or a separator follows it
-abbrev Leads : ℕ → List ℕ → List ℕ → Type 0
-Leads c p s = (s ≡ p) ⊎ ((r : List ℕ) × (s ≡ p ++ (c ∷ r)))
-
-piece-back : (c : ℕ) (s p : List ℕ) (ps : List (List ℕ)) → pieces c s ≡ p ∷ ps → Leads c p s
-unfolding pieces onto
-piece-back c [] p ps e = inl cc
-piece-back c (b ∷ s) p ps e =
-    let o = some-piece c s in ⊎-elim ends (λ n. goes-on n o (piece-back c s (o .first) (o .others) (o .is))) (eq-or-ne b c)
-  where
-    ends : b ≡ c → Leads c p (b ∷ s)
-    ends q =
-        let h : [] ∷ pieces c s ≡ p ∷ ps = rw (eq-eqb b c q) at e in
-        let k : [] ≡ p = cc in
-        inr (s, ap (λ a. a ∷ s) q ∙ ap (λ x. x ++ (c ∷ s)) k)
-
-    goes-on : (b ≡ c → ⊥) → (o : Some c s) → Leads c (o .first) s → Leads c p (b ∷ s)
-    goes-on n o l =
-        let h : (b ∷ o .first) ∷ o .others ≡ p ∷ ps = rw (ne-eqb b c n, o .is) at e in
-        let k : b ∷ o .first ≡ p = cc in
-        ⊎-elim (λ q. inl (ap (λ x. b ∷ x) q ∙ k)) (λ r. inr (r .0, ap (λ x. b ∷ x) (r .1) ∙ ap (λ x. x ++ (c ∷ r .0)) k)) l
 
 both-front : {A : Type 0} (x : Option A) (o : Option (List A)) (ys : List A) → both x o ≡ some ys → (y : A) × (x ≡ some y)
 unfolding both

@@ -9,7 +9,8 @@ use Rattle.lists.specs.Each.{all}
 use Rattle.text.specs.Bytes.{bytes}
 use Rattle.lists.specs.Cases.{provided}
 use Rattle.matrix.specs.Matrix.{matrix}
-use Rattle.sheet_format.specs.Sheet.{onto, pieces, both, every, closed, numeralOf, costOf, columnOf, Sheet, laid, sheetFrom, sheetOf, matrixOf}
+use Rattle.text_lines.specs.Lines.{onto, pieces, both, closed}
+use Rattle.sheet_format.specs.Sheet.{every, numeralOf, costOf, columnOf, Sheet, laid, sheetFrom, sheetOf, matrixOf}
 
 three-pieces : pieces 10 (bytes "a\nb\n") ≡ bytes "a" ∷ (bytes "b" ∷ ([] ∷ []))
 unfolding pieces onto

@@ -13,9 +13,11 @@ use borrow.Author.Tests.{lt-leb, le-leb, lt-ltb, le-ltb}
 use Rattle.lists.specs.Each.{all}
 use Rattle.lists.specs.OrderLaws.{lt-or-le}
 use Rattle.lists.specs.Cases.{provided}
-use Rattle.sheet_format.specs.Sheet.{onto, pieces, both, every, linesOf, numeralOf, costOf, columnOf, Sheet, equal-columns, fitting, laid, sheetFrom, sheetOf}
-use Rattle.sheet_format.specs.ColumnLinesLaws.{lines-end, lines-none, columnsIn-end, columnsIn-line}
-use Rattle.sheet_format.specs.ColumnLines.{Free, columnsOf, columnsIn}
+use Rattle.text_lines.specs.Lines.{onto, pieces, both, linesOf, Free}
+use Rattle.sheet_format.specs.Sheet.{every, numeralOf, costOf, columnOf, Sheet, equal-columns, fitting, laid, sheetFrom, sheetOf}
+use Rattle.text_lines.specs.LinesLaws.{lines-end, lines-none}
+use Rattle.sheet_format.specs.ColumnLinesLaws.{columnsIn-end, columnsIn-line}
+use Rattle.sheet_format.specs.ColumnLines.{columnsOf, columnsIn}
 
 -- the text is no sheet
 abbrev none-of : Option Sheet → Bool

@@ -12,8 +12,9 @@ use borrow.Author.Tests.{eqb-true, eq-eqb, leb-true}
 use Rattle.lists.specs.Each.{all}
 use Rattle.lists.specs.OrderLaws.{and-left, and-right, and-both}
 use Rattle.lists.specs.Cases.{provided}
-use Rattle.sheet_format.specs.Sheet.{every, linesOf, columnOf, Sheet, equal-columns, fitting, laid, sheetFrom, most-bytes, sheetOf, widthOr, matrixOf}
-use Rattle.sheet_format.specs.ColumnLinesLaws.{FirstLine, lines-back}
+use Rattle.text_lines.specs.Lines.{linesOf}
+use Rattle.sheet_format.specs.Sheet.{every, columnOf, Sheet, equal-columns, fitting, laid, sheetFrom, most-bytes, sheetOf, widthOr, matrixOf}
+use Rattle.text_lines.specs.LinesLaws.{FirstLine, lines-back}
 
 -- where there is a result, the condition holds and the result was given
 pub provided-back : {X : Type 0} (t : Bool) (x : Option X) (y : X) → provided t x ≡ some y → (t ≡ true) × (x ≡ some y)

@@ -12,39 +12,13 @@ use Rattle.lists.specs.Lists.{same-list}
 use Rattle.lists.specs.Each.{all}
 use Rattle.lists.specs.Cases.{provided}
 use Rattle.text.specs.Digits.{digits, value}
+use Rattle.text_lines.specs.Lines.{pieces, both, linesOf}
 use Rattle.matrix.specs.Matrix.{Matrix, BARRED, matrix}
-
--- a byte put before the first piece
-unfoldable pub onto : ℕ → List (List ℕ) → List (List ℕ)
-onto b [] = (b ∷ []) ∷ []
-onto b (p ∷ ps) = (b ∷ p) ∷ ps
-
--- the parts of a text between its separators c: one part more than there are separators
-unfoldable pub pieces : ℕ → List ℕ → List (List ℕ)
-pieces c [] = [] ∷ []
-pieces c (b ∷ s) = cond (eqb b c) ([] ∷ pieces c s) (onto b (pieces c s))
-
--- one put before the others, if both are there
-unfoldable pub both : {A : Type 0} → Option A → Option (List A) → Option (List A)
-both none ys = none
-both (some y) none = none
-both (some y) (some ys) = some (y ∷ ys)
 
 -- what each element gives, if each gives something
 unfoldable pub every : {A B : Type 0} → (A → Option B) → List A → Option (List B)
 every f [] = some []
 every f (x ∷ xs) = both (f x) (every f xs)
-
--- the pieces except the last, which must be empty
-unfoldable pub closed : List (List ℕ) → Option (List (List ℕ))
-closed [] = none
-closed ([] ∷ []) = some []
-closed ((b ∷ p) ∷ []) = none
-closed (p ∷ (q ∷ ps)) = both (some p) (closed (q ∷ ps))
-
--- the lines of a text that ends with a newline
-abbrev pub linesOf : List ℕ → Option (List (List ℕ))
-linesOf s = closed (pieces 10 s)
 
 -- a 0 before another digit
 abbrev pub extra-zero : List ℕ → Bool

@@ -13,8 +13,8 @@ use Rattle.lists.specs.OrderLaws.{and-left, and-right, and-both, not-both}
 use Rattle.matrix.specs.Matrix.{BARRED}
 use Rattle.sheet_format.specs.Sheet.{numeralOf, costOf}
 use Rattle.sheet_format.specs.CostLaws.{bar, cost-exactly}
-use Rattle.sheet_number.specs.Places.{part}
-use Rattle.sheet_number.specs.PlacesLaws.{part-none, part-more, part-at, part-length}
+use Rattle.text_lines.specs.Places.{part}
+use Rattle.text_lines.specs.PlacesLaws.{part-none, part-more, part-at, part-length}
 use Rattle.sheet_number.specs.Items.{separator, NumberAt, ReadNumber, CostAt, ReadCost, bar-at}
 use Rattle.sheet_number.specs.ItemsLaws.{item-begins, separator-within}
 use Rattle.sheet_number.specs.declared.Cost.{Cost}

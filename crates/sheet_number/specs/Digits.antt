@@ -7,7 +7,7 @@ use Prim.Native.Char.{code}
 use lib.ListN.{length, getD}
 use lib.Dec.{eqb, leb}
 use Rattle.text.specs.Digits.{digits, value, digit}
-use Rattle.sheet_number.specs.Places.{part}
+use Rattle.text_lines.specs.Places.{part}
 
 -- n digits, the first of them b, begin with an extra zero
 abbrev pub padded : ℕ → ℕ → Bool

@@ -15,8 +15,8 @@ use Rattle.lists.specs.Cases.{provided}
 use Rattle.text.specs.Digits.{digits, value, digit}
 use Rattle.sheet_format.specs.Sheet.{extra-zero, numeralOf}
 use Rattle.sheet_format.specs.PartsLaws.{provided-back}
-use Rattle.sheet_number.specs.Places.{part}
-use Rattle.sheet_number.specs.PlacesLaws.{part-none, part-more, part-at, part-length}
+use Rattle.text_lines.specs.Places.{part}
+use Rattle.text_lines.specs.PlacesLaws.{part-none, part-more, part-at, part-length}
 use Rattle.sheet_number.specs.declared.Cost.the-variants.{Is, Not}
 use Rattle.sheet_number.specs.Digits.{padded, Begun, Digits}
 use Rattle.sheet_number.specs.Items.{separator, NumberAt, ReadNumber}

@@ -8,7 +8,7 @@ use Prim.Native.Char.{code}
 use lib.ListN.{length, getD}
 use lib.Dec.{eqb}
 use Rattle.sheet_format.specs.Sheet.{numeralOf, costOf}
-use Rattle.sheet_number.specs.Places.{part}
+use Rattle.text_lines.specs.Places.{part}
 use Rattle.sheet_number.specs.declared.Cost.{Cost}
 use Rattle.sheet_number.specs.declared.Cost.the-variants.{Is, Not}
 

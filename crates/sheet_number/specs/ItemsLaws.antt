@@ -8,7 +8,7 @@ use Prim.Native.Nat.{ℕ, _<_, _≤_}
 use native.Mathlib.Omega.{arith}
 use lib.ListN.{length, getD, List·getD-eq-default}
 use Rattle.lists.specs.OrderLaws.{lt-or-le}
-use Rattle.sheet_number.specs.PlacesLaws.{part-none}
+use Rattle.text_lines.specs.PlacesLaws.{part-none}
 use Rattle.sheet_number.specs.Items.{separator, ItemAt}
 
 pub item-begins : (of : List ℕ → Option ℕ) → of [] ≡ none → (input : List ℕ) (at e v : ℕ) → ItemAt of input at e v → at < e

@@ -1,5 +1,3 @@
-pub mod Places
-pub mod PlacesLaws
 pub mod Items
 pub mod ItemsLaws
 pub mod Digits

@@ -1,12 +1,10 @@
-// One line and one number of a sheet (document 01, "Confidences and the sheet program"): where a line ends, and the cost that is written at
-// a place.
+// One number of a sheet (document 01, "Confidences and the sheet program"): the cost that is written at a place.
 use matrix::BARRED;
 use text::peek;
 ghost use mathlib.Core.Path.{_≡_};
 ghost use Prim.Native.Nat.{_≤_};
 ghost use lib.ListN.{length};
 ghost use Rattle.lists.specs.Memory.{old};
-ghost use Rattle.sheet_number.specs.Places.{LineEnd};
 ghost use Rattle.sheet_number.specs.Items.{separator, ReadNumber, ReadCost, bar-at};
 ghost use Rattle.sheet_number.specs.Digits.{padded, Digits as DigitsOf};
 ghost use Rattle.text.specs.Digits.{digit};
@@ -50,14 +48,6 @@ fn is_padded(count: usize, b: u8) -> bool
         return false;
     }
     b == b'0'
-}
-
-// Where the line that begins at `at` ends: at its newline, or at the input's end.
-pub fn line_end(input: &[u8], at: usize) -> usize
-    requires { ⌜ at ≤ length (now input) ⌝ }
-    ensures { λ r. ⌜ LineEnd (old input) at r ⌝ }
-{
-    text::find(input, at, b'\n')
 }
 
 // The digits from `at` on, at most seven.

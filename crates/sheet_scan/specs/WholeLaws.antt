@@ -12,37 +12,23 @@ use Rattle.lists.specs.EachLaws.{drop-here, drop-all}
 use Rattle.lists.specs.OrderLaws.{eq-or-ne, true-or-false}
 use Rattle.lists.specs.Memory.{written}
 use Rattle.lists.specs.Cases.{provided}
-use Rattle.sheet_format.specs.Sheet.{both, linesOf, Sheet, fitting, laid, sheetFrom, most-bytes, sheetOf, widthOr, matrixOf}
-use Rattle.sheet_format.specs.ColumnLinesLaws.{lines-end, lines-open, lines-none}
+use Rattle.text_lines.specs.Lines.{both, linesOf}
+use Rattle.sheet_format.specs.Sheet.{Sheet, fitting, laid, sheetFrom, most-bytes, sheetOf, widthOr, matrixOf}
 use Rattle.sheet_format.specs.ColumnLines.{columnsOf, columnsIn}
-use Rattle.sheet_number.specs.Places.{part, LineEnd}
-use Rattle.sheet_number.specs.PlacesLaws.{part-length, part-rest}
+use Rattle.text_lines.specs.Places.{part, LineEnd}
+use Rattle.text_lines.specs.PlacesLaws.{part-length, part-rest, lines-at, line-unclosed, lines-past}
 use Rattle.sheet_columns.specs.Matrices.{StoredMatrix}
 use Rattle.sheet_columns.specs.declared.Body.the-variants as body
 use Rattle.sheet_scan.specs.Answers.{answerOf, Scans}
 use Rattle.sheet_scan.specs.declared.Scanned.the-variants as scanned
 
--- The line at a place.
-
-module _ (input : List ℕ) (at e : ℕ) (h : LineEnd input at e) where
-  lines-at : e < length input → linesOf (drop at input) ≡ both (some (part at e input)) (linesOf (drop (e + 1) input))
-  lines-at l =
-      ap linesOf
-      (part-rest input at e (h .from)
-      ∙ ap (λ r. part at e input ++ r) (drop-here 0 input e l ∙ ap (λ b. b ∷ drop (e + 1) input) (h .newline l)))
-      ∙ lines-end (part at e input) (drop (e + 1) input) (h .line)
-
-  -- the input ends, and no line is left
-  lines-short : e ≡ length input → (linesOf (drop at input) ≡ none) ⊎ (linesOf (drop at input) ≡ some [])
-  lines-short l = ⊎-elim (λ q. inr (ap linesOf (drop-all input at (omega arith)) ∙ lines-none)) (λ q. inl (open-line q)) (eq-or-ne at e)
-    where
-      open-line : (at ≡ e → ⊥) → linesOf (drop at input) ≡ none
-      open-line q =
-          let f = h .from in
-          let n = part-length input at e f (h .within) in
-          let d : drop at input ≡ part at e input =
-          part-rest input at e f ∙ ap (λ r. part at e input ++ r) (drop-all input e (omega arith)) ∙ append-nil (part at e input) in
-          ap linesOf d ∙ lines-open (part at e input) (omega arith) (h .line)
+-- the input ends, and no line is left
+lines-short :
+    (input : List ℕ) (at e : ℕ) → LineEnd input at e → e ≡ length input
+    → (linesOf (drop at input) ≡ none) ⊎ (linesOf (drop at input) ≡ some [])
+lines-short input at e h l =
+    let f = h .from in
+    ⊎-elim (λ q. inr (lines-past input at (omega arith))) (λ q. inl (line-unclosed input at e h (omega arith) (omega arith))) (eq-or-ne at e)
 
 -- No sheet.
 

@@ -1,7 +1,9 @@
-// The bytes of a text: the byte at a place, whether a byte is one of some signs, where a sign occurs next. A text may have any bytes.
+// The bytes of a text: the byte at a place, whether a byte is one of some signs, where a sign occurs next, whether two texts are the same. A
+// text may have any bytes.
 ghost use mathlib.Core.Path.{_≡_};
 ghost use Prim.Native.Nat.{_+_};
 ghost use lib.ListN.{getD, drop};
+ghost use Rattle.lists.specs.Lists.{same-list};
 ghost use Rattle.lists.specs.Memory.{old};
 ghost use Rattle.text.specs.Text.{one-of};
 ghost use Rattle.text.specs.Places.{until};
@@ -39,4 +41,21 @@ pub fn find(text: &[u8], from: usize, sign: u8) -> usize
         i += 1;
     }
     i
+}
+
+// Are the two texts the same?
+pub fn same(a: &[u8], b: &[u8]) -> bool
+    ensures { λ r. ⌜ r ≡ same-list (old a) (old b) ⌝ }
+{
+    if a.len() != b.len() {
+        return false;
+    }
+    let mut i = 0;
+    while i < a.len() {
+        if a[i] != b[i] {
+            return false;
+        }
+        i += 1;
+    }
+    true
 }

@@ -9,7 +9,7 @@ use lib.Dec.{eqb}
 use lib.Seq.{drop-drop}
 use Rattle.lists.specs.EachLaws.{drop-all}
 use Rattle.text.specs.Places.{until}
-use Rattle.sheet_format.specs.Sheet.{pieces, onto}
+use Rattle.text_lines.specs.Lines.{pieces, onto}
 
 pub until-within : (c : ℕ) (s : List ℕ) → until c s ≤ length s
 unfolding until

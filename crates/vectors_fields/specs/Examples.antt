@@ -3,7 +3,7 @@ use mathlib.Core.Path.{_≡_, refl}
 use mathlib.Core.List.{[], _∷_}
 use mathlib.Core.Bool.{true, false}
 use Rattle.text.specs.Bytes.{bytes}
-use Rattle.sheet_format.specs.Sheet.{onto, pieces}
+use Rattle.text_lines.specs.Lines.{onto, pieces}
 use Rattle.vectors_fields.specs.Fields.{fieldOf, value, numbersOf, sizeOf, labelsOf}
 
 second : fieldOf (bytes "C\t95\t95 0\t4") 2 ≡ bytes "95 0"

@@ -7,7 +7,7 @@ use Prim.Native.Char.{code}
 use lib.ListN.{length, getD, take}
 use lib.Dec.{eqb, ltb}
 use Rattle.matrix.specs.Matrix.{BARRED}
-use Rattle.sheet_format.specs.Sheet.{pieces}
+use Rattle.text_lines.specs.Lines.{pieces}
 
 -- field k of a line; empty where the line has fewer fields
 abbrev pub fieldOf : List ℕ → ℕ → List ℕ

@@ -12,7 +12,7 @@ use Rattle.lists.specs.EachLaws.{drop-here, drop-all}
 use Rattle.lists.specs.FillingLoops.{Filling, filling-none, filling-stored, filling-length, filling-all}
 use Rattle.lists.specs.Memory.{written, Wrote}
 use Rattle.lists.specs.Stored.{Stored}
-use Rattle.sheet_format.specs.Sheet.{pieces, onto}
+use Rattle.text_lines.specs.Lines.{pieces, onto}
 use Rattle.vectors_fields.specs.Fields.{more, value, numbersOf, ended, onward}
 
 -- the numbers that are still to come, where v is the number so far

@@ -1,0 +1,6 @@
+pub mod Call
+pub mod Means
+pub mod Meaning
+pub mod Rows
+pub mod WrittenLaws
+pub mod CallLaws

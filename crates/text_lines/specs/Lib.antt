@@ -1,0 +1,5 @@
+pub mod Lines
+pub mod LinesLaws
+pub mod Places
+pub mod PlacesLaws
+pub mod LinesLoops

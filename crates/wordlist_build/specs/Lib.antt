@@ -1,0 +1,9 @@
+pub mod Heads
+pub mod HeadsLaws
+pub mod Arrays
+pub mod Rows
+pub mod ArraysLaws
+pub mod Loops
+pub mod State
+pub mod StateLaws
+pub mod ReachedLoops
