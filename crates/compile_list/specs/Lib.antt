@@ -4,3 +4,4 @@ pub mod Meaning
 pub mod Rows
 pub mod WrittenLaws
 pub mod CallLaws
+pub mod Examples

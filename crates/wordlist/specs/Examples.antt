@@ -1,0 +1,46 @@
+-- Words of lists, prefixes and letters, computed.
+use Prim.Native.Nat.{ℕ}
+use Prim.Native.String.{String}
+use mathlib.Core.Path.{_≡_, refl}
+use mathlib.Core.Bool.{true, false}
+use mathlib.Core.List.{List, [], _∷_, map, flatMap}
+use Rattle.lists.specs.Lists.{any, keep, numbers}
+use Rattle.text.specs.Bytes.{bytes}
+use Rattle.text_lines.specs.Lines.{onto, pieces, both, closed}
+use Rattle.wordlist.specs.Words.{words, repeated, list-fault, foreign}
+use Rattle.wordlist.specs.PrefixTree.{Prefix, whole, prefixesFrom, prefixes, once, prefixesOf, Letter, lettersOf}
+
+-- a letter by its prefix and its label
+shown : Letter → List ℕ
+shown z = z .label ∷ whole (z .prefix)
+
+record Examples : Type 0 where
+  lines : words (bytes "ab\na\n") ≡ bytes "ab" ∷ bytes "a" ∷ []
+  -- no lines without a final newline
+  unclosed : words (bytes "ab\na") ≡ []
+  -- no final newline, an empty line first, between and last, a line again at once and later; a word that begins another is no fault
+  faults :
+      map (λ s. list-fault (bytes s)) ("a" ∷ "\na\n" ∷ "a\n\nb\n" ∷ "a\n\n" ∷ "\n" ∷ "a\na\n" ∷ "a\nb\na\n" ∷ "a\nab\n" ∷ "ab\na\n" ∷ "a\nA\n" ∷ [])
+      ≡ true ∷ true ∷ true ∷ true ∷ true ∷ true ∷ true ∷ false ∷ false ∷ false ∷ []
+  -- over `aba`: c has no label, wherever it is
+  strangers : map (λ s. foreign (bytes "aba") (words (bytes s))) ("ab\nb\n" ∷ "c\n" ∷ "ac\n" ∷ "a\nbc\n" ∷ []) ≡ false ∷ true ∷ true ∷ true ∷ []
+  -- the prefixes of a word, the shortest first
+  of-a-word : map whole (prefixes (bytes "aba")) ≡ bytes "a" ∷ bytes "ab" ∷ bytes "aba" ∷ []
+  -- of three words, each where it first occurs
+  of-words : map whole (prefixesOf (bytes "ba" ∷ bytes "bb" ∷ bytes "a" ∷ bytes "bab" ∷ [])) ≡ bytes "b" ∷ bytes "ba" ∷ bytes "bb" ∷ bytes "a" ∷ bytes "bab" ∷ []
+  -- over `7a7`: the labels of 7 are 1 and 3
+  letters :
+      map shown (lettersOf (bytes "7a7") (bytes "a7" ∷ bytes "aa" ∷ []))
+      ≡ (2 ∷ bytes "a") ∷ (1 ∷ bytes "a7") ∷ (3 ∷ bytes "a7") ∷ (2 ∷ bytes "aa") ∷ []
+
+examples : Examples
+unfolding shown onto pieces both closed repeated list-fault foreign any keep numbers flatMap prefixesFrom once lettersOf
+examples = record {
+  lines = refl;
+  unclosed = refl;
+  faults = refl;
+  strangers = refl;
+  of-a-word = refl;
+  of-words = refl;
+  letters = refl;
+}
