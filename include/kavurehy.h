@@ -12,8 +12,8 @@
    - Each pointer to uint32_t must be aligned to 4 bytes.
    - Lent memory must not overlap any other list of the call, lent or const.
    - While a call runs, nothing else may write its lists, and nothing else may read its lent memory.
-   - The stack must be large enough. The proofs do not count it: compile and read were seen to use up to 269 kB, decode 20 kB, the other
-     calls less than 4 kB.
+   - The stack must be large enough. The proofs do not count it: compile and read were seen to use up to 269 kB, compile_list XX kB, decode
+     20 kB, the other calls less than 4 kB.
 
    A call keeps no pointer and no state. Calls from several threads at once are safe if they share no lent memory: the lent memory of one
    call must not overlap any list of another. Const lists may be shared.
@@ -27,8 +27,8 @@
 
    Each call returns 0, or the number of the refusal that applies:
       1 alphabet       not 1 to 95 bytes, each 32 to 126
-      2 text length    0 or over 255
-      3 text byte      a byte outside 32 to 126
+      2 text length    0 or over 255; compile_list: 0 or over 4,096
+      3 text byte      a byte outside 32 to 126; compile_list: such a byte other than a newline
       4 misplaced sign a repetition with nothing to repeat, or after another repetition, except one ?; an empty branch or group; a stray or
                        missing ); ^ or $ outside brackets without \ before it; \ not before a sign that it makes ordinary
       5 depth          a 17th open group
@@ -49,10 +49,12 @@
      17 label          K not 1 to 95, a label over K, 0 in a word, or a list longer than 255
      19 class name     a class [:name:] in a bracket whose name is not one of alnum alpha blank cntrl digit graph lower print punct space
                        upper xdigit
-   If several apply, the first in this order is returned: 1, 2, 3; then that of the leftmost fault in the text among 4 to 8 and 19, where 7,
-   19 and 8 of a bracket are at its [, and of faults at one byte the first in the order 4, 5, 6, 7, 19, 8; then the lowest of 9 to 17. At a
-   refusal each count is 0 and all other lent memory is as it was, with two exceptions: after 16 the needed work words may hold anything, and
-   after 12 to 16 the form memory of read is as compile leaves it. On success the memory after what is counted is as it was too. */
+     21 word list      an empty line, a repeated line, or no newline at the end
+   If several apply, the first in this order is returned: 1, 2, 3; then for a list 21, 8, and for an expression that of the leftmost fault
+   in the text among 4 to 8 and 19, where 7, 19 and 8 of a bracket are at its [, and of faults at one byte the first in the order 4, 5, 6,
+   7, 19, 8; then the lowest of 9 to 17. At a refusal each count is 0 and all other lent memory is as it was, with two exceptions: after 16
+   the needed work words may hold anything, and after 12 to 16 the form memory of read is as compile leaves it. On success the memory after
+   what is counted is as it was too. */
 #ifndef KAVUREHY_H
 #define KAVUREHY_H
 
@@ -73,6 +75,14 @@ extern "C" {
    Returns 0, or a refusal: 1 to 10, 19. */
 uint32_t kavurehy_compile(const uint8_t *alphabet, size_t alphabet_length, const uint8_t *text, size_t text_length, uint32_t *form,
                           size_t form_memory, uint32_t counts[1]);
+
+/* Writes the form of a list of words over an alphabet to form, and its length to counts[0]. In the list each word is closed by one newline,
+   byte 10. The form accepts a list of labels exactly if each is 1 to K and their characters are a word of the list; so it never accepts the
+   empty word. Its letters are those of the beginnings of the words, up to the whole words, in the order in which reading the list from its
+   first byte first completes them; a beginning has one letter for each label of its last character, ascending. Words with the same
+   beginning share its letters. No form is longer than 16,257 words, as for compile. Returns 0, or a refusal: 1 to 3, 8 to 10, 21. */
+uint32_t kavurehy_compile_list(const uint8_t *alphabet, size_t alphabet_length, const uint8_t *list, size_t list_length, uint32_t *form,
+                               size_t form_memory, uint32_t counts[1]);
 
 /* Writes 1 to accepted[0] if the form accepts the word of labels 1 to K, and 0 otherwise, also at a refusal. Returns 0, or a refusal:
    11, 17. */
