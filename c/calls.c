@@ -10,6 +10,8 @@ int main(void)
     for (guarded = 1; guarded >= 0; guarded--) {
         lines();
         refusals();
+        word_lists();
+        list_limits();
         labels();
         small_matrices();
     }

@@ -3,20 +3,21 @@
 
 #include "kavurehy.h"
 
-enum call { COMPILE, JUDGE, COLLAPSE, SPREAD, DECODE, READ, COSTS, CALLS };
+enum call { COMPILE, COMPILE_LIST, JUDGE, COLLAPSE, SPREAD, DECODE, READ, COSTS, CALLS };
 
 /* A call's name, and a bit for each number that it returns according to the header. */
 static const struct {
     const char *name;
     uint32_t numbers;
 } CALL[CALLS] = {
-    {"compile", 0x807ff},  /* 0 to 10, 19 */
-    {"judge", 0x20801},    /* 0, 11, 17 */
-    {"collapse", 0x24001}, /* 0, 14, 17 */
-    {"spread", 0x24001},   /* 0, 14, 17 */
-    {"decode", 0x1f801},   /* 0, 11 to 16 */
-    {"read", 0x9f7ff},     /* 0 to 10, 12 to 16, 19 */
-    {"costs", 0x04001},    /* 0, 14 */
+    {"compile", 0x0807ff},      /* 0 to 10, 19 */
+    {"compile_list", 0x20070f}, /* 0 to 3, 8 to 10, 21 */
+    {"judge", 0x020801},        /* 0, 11, 17 */
+    {"collapse", 0x024001},     /* 0, 14, 17 */
+    {"spread", 0x024001},       /* 0, 14, 17 */
+    {"decode", 0x01f801},       /* 0, 11 to 16 */
+    {"read", 0x09f7ff},         /* 0 to 10, 12 to 16, 19 */
+    {"costs", 0x004001},        /* 0, 14 */
 };
 
 static uint32_t seen[CALLS];
@@ -50,6 +51,20 @@ void hold_compile(struct bytes alphabet, struct bytes text, size_t memory, uint3
     answered(COMPILE, kavurehy_compile(a.first, a.length, t.first, t.length, f.first, f.length, counts.first), number);
     kept("alphabet", &a);
     kept("text", &t);
+    wrote("form", &f, form.first, form.length);
+    wrote("counts", &counts, &count, 1);
+}
+
+void hold_compile_list(struct bytes alphabet, struct bytes list, size_t memory, uint32_t number, struct words form)
+{
+    struct list a = given_bytes(alphabet), l = given_bytes(list);
+    struct list f = lent_words(memory), counts = lent_words(1);
+    uint32_t count = (uint32_t)form.length;
+    calling("compile_list over %.*s in %zu words of %.*s", (int)alphabet.length, (const char *)alphabet.first, memory, (int)list.length,
+            (const char *)list.first);
+    answered(COMPILE_LIST, kavurehy_compile_list(a.first, a.length, l.first, l.length, f.first, f.length, counts.first), number);
+    kept("alphabet", &a);
+    kept("list", &l);
     wrote("form", &f, form.first, form.length);
     wrote("counts", &counts, &count, 1);
 }

@@ -1,4 +1,4 @@
-/* Each function here makes one of the seven calls on lists of its own, and compares it with what is expected: the number, the counts, what
+/* Each function here makes one of the eight calls on lists of its own, and compares it with what is expected: the number, the counts, what
    is written, and all other memory as it was. */
 #ifndef HELD_H
 #define HELD_H
@@ -22,6 +22,7 @@ struct answer {
 
 /* With lent memory of this length the call must return this number and write these elements: none at a refusal. */
 void hold_compile(struct bytes alphabet, struct bytes text, size_t memory, uint32_t number, struct words form);
+void hold_compile_list(struct bytes alphabet, struct bytes list, size_t memory, uint32_t number, struct words form);
 void hold_collapse(size_t k, struct bytes path, size_t memory, uint32_t number, struct bytes word);
 void hold_spread(size_t k, struct bytes word, size_t memory, uint32_t number, struct bytes path);
 void hold_costs(struct bytes confidences, size_t memory, uint32_t number, struct words costs);

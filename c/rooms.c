@@ -11,6 +11,14 @@ void compiles(struct bytes alphabet, struct bytes text, struct words form)
     hold_compile(alphabet, text, 0, 10, NO_WORDS);
 }
 
+void compiles_list(struct bytes alphabet, struct bytes list, struct words form)
+{
+    hold_compile_list(alphabet, list, form.length, 0, form);
+    hold_compile_list(alphabet, list, form.length + MORE, 0, form);
+    hold_compile_list(alphabet, list, form.length - 1, 10, NO_WORDS);
+    hold_compile_list(alphabet, list, 0, 10, NO_WORDS);
+}
+
 void collapses(size_t k, struct bytes path, struct bytes word)
 {
     hold_collapse(k, path, path.length, 0, word);

@@ -6,6 +6,7 @@
 #include "held.h"
 
 void compiles(struct bytes alphabet, struct bytes text, struct words form);
+void compiles_list(struct bytes alphabet, struct bytes list, struct words form);
 void collapses(size_t k, struct bytes path, struct bytes word);
 void spreads(size_t k, struct bytes word, struct bytes path);
 void has_costs(struct bytes confidences, struct words costs);

@@ -1,5 +1,5 @@
 /* Decode and read against the search over all lists of labels; judge and compile against the words that a walk or POSIX's own matcher
-   accepts. */
+   accepts, compile_list against the lines of its list. */
 #define _POSIX_C_SOURCE 200809L
 #include "tests.h"
 
@@ -7,17 +7,11 @@
 #include <stdio.h>
 #include <string.h>
 
+#include "beginnings.h"
 #include "kavurehy.h"
+#include "random.h"
 #include "rooms.h"
 #include "search.h"
-
-/* The same numbers in every run. */
-static uint32_t below(uint32_t n)
-{
-    static uint64_t state = 20261115;
-    state = state * UINT64_C(6364136223846793005) + UINT64_C(1442695040888963407);
-    return (uint32_t)(state >> 33) % n;
-}
 
 /* How many lines have several best lists, a best word that needs a blank between equal labels, a best list with two labels of one character
    side by side, no reading; and how many have another best list, or none, only because of barred labels. */
@@ -44,7 +38,7 @@ static struct best hold_matrix(struct words form, const struct language *languag
     for (size_t n = 1; n < best.length; n++)
         pair |= best.word[n] == best.word[n - 1];
     for (size_t n = 1; n < columns; n++)
-        twins |= text != NULL && are_twins(alphabet, best.path[n - 1], best.path[n]);
+        twins |= alphabet != NULL && are_twins(alphabet, best.path[n - 1], best.path[n]);
     tied += best.tied != 0;
     parted += pair != 0;
     beside += twins != 0;
@@ -195,14 +189,64 @@ static void texts(void)
     }
 }
 
-void small_matrices(void)
+/* A list of words and its alphabet: a word of labels is accepted if its characters are a line. */
+struct listed {
+    const char *alphabet, *list;
+};
+
+static int accepted_by_list(const void *what, const uint8_t *word, size_t length)
 {
-    tied = parted = beside = unread = changed = barred = 0;
-    made_forms();
-    texts();
-    calling("small matrices");
+    const struct listed *listed = what;
+    char line[COLUMNS + 1];
+    for (size_t n = 0; n < length; n++)
+        line[n] = listed->alphabet[word[n] - 1];
+    line[length] = '\n';
+    for (const char *start = listed->list; *start != 0; start = strchr(start, '\n') + 1)
+        if (strncmp(start, line, length + 1) == 0)
+            return 1;
+    return 0;
+}
+
+/* Lists of at most 6 words, many over alphabets with repeated characters; one with a repeated line is refused, and not counted. */
+static void made_lists(void)
+{
+    for (int n = 0; n < 500;) {
+        char alphabet[CHARACTERS + 1] = {0}, list[6 * (COLUMNS + 1) + 1] = {0};
+        size_t length = 0;
+        struct words form;
+        for (uint32_t k = 1 + below(CHARACTERS); k > 0; k--)
+            alphabet[k - 1] = "abc"[below(3)];
+        for (uint32_t words = 1 + below(6); words > 0; words--) {
+            for (uint32_t letters = 1 + below(COLUMNS); letters > 0; letters--)
+                list[length++] = alphabet[below((uint32_t)strlen(alphabet))];
+            list[length++] = '\n';
+        }
+        if (hold_list(TEXT(alphabet), TEXT(list), &form) != 0)
+            continue;
+        struct listed listed = {alphabet, list};
+        struct language language = language_of(strlen(alphabet), accepted_by_list, &listed);
+        hold_words(form, &language);
+        hold_matrices(form, &language, alphabet, NULL, 6);
+        n++;
+    }
+}
+
+/* There were enough lines of each kind. */
+static void hold_kinds(const char *name)
+{
+    calling("%s", name);
     if (tied < 5000 || parted < 1000 || beside < 1000 || unread < 1000 || changed < 1000 || barred < 1000)
         fail("%lu lines are tied, %lu parted, %lu with a character beside itself, %lu without a reading; by barred labels %lu changed, "
              "%lu without a reading",
              tied, parted, beside, unread, changed, barred);
+    tied = parted = beside = unread = changed = barred = 0;
+}
+
+void small_matrices(void)
+{
+    made_forms();
+    texts();
+    hold_kinds("small matrices");
+    made_lists();
+    hold_kinds("small matrices by word lists");
 }

@@ -5,13 +5,17 @@
 /* Document 01's lines, some with classes, barred labels or repeated characters, and the largest input. */
 void lines(void);
 
-/* Every refusal of every call, by itself and with later ones. */
+/* Every refusal of every call but compile_list, by itself and with later ones. */
 void refusals(void);
+
+/* Lists of words: forms written by hand, lines, every refusal by itself and with later ones, lists made at random; and up to the limits. */
+void word_lists(void);
+void list_limits(void);
 
 /* Lists of labels collapsed and spread, all 256 confidences, and words judged. */
 void labels(void);
 
-/* Decode and read against a search over all lists of labels. */
+/* Decode and read against a search over all lists of labels, by expressions and by lists of words. */
 void small_matrices(void);
 
 #endif
