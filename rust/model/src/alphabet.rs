@@ -1,5 +1,15 @@
 //! Labels and characters: label x has the character at place x of the alphabet, and a character may be at several places.
 
+/// A byte that a character may be.
+pub fn is_character(byte: u8) -> bool {
+    (32..=126).contains(&byte)
+}
+
+/// 1 to 95 characters; anything else is refusal 1.
+pub fn is_alphabet(bytes: &[u8]) -> bool {
+    (1..=95).contains(&bytes.len()) && bytes.iter().all(|&b| is_character(b))
+}
+
 /// The labels of these characters, ascending.
 pub fn labels_of(alphabet: &[u8], characters: &[u8]) -> Vec<u8> {
     let places = (1..).zip(alphabet);

@@ -1,6 +1,6 @@
 //! From the text of an expression to its tree or its refusal: first the signs one by one, then every fault with its place, where
 //! the leftmost counts, then the tree by a stack of open groups.
-use super::alphabet::labelled;
+use super::alphabet::{is_alphabet, is_character, labelled};
 use super::bracket::{braces, bracket};
 use std::rc::Rc;
 
@@ -44,14 +44,13 @@ type Token = (usize, Result<(Sign, usize), u32>);
 /// The tree of a text, or the first of refusals 1 to 8 and 19 that applies. The leftmost fault is taken, at one place that of the
 /// lowest number; 19 is the only fault at its place, since a bracket has one fault at most.
 pub fn parse(alphabet: &[u8], text: &[u8]) -> Result<Rc<Tree>, u32> {
-    let printable = |b: &u8| (32..=126).contains(b);
-    if !(1..=95).contains(&alphabet.len()) || !alphabet.iter().all(printable) {
+    if !is_alphabet(alphabet) {
         return Err(1);
     }
     if !(1..=255).contains(&text.len()) {
         return Err(2);
     }
-    if !text.iter().all(printable) {
+    if !text.iter().all(|&b| is_character(b)) {
         return Err(3);
     }
     let tokens = tokens(alphabet, text);

@@ -18,6 +18,24 @@ pub struct Form {
 }
 
 impl Form {
+    /// A form over this alphabet without letters.
+    pub fn new(alphabet: &[u8]) -> Form {
+        Form {
+            k: alphabet.len() as u8,
+            empty: false,
+            letters: Vec::new(),
+            arcs: BTreeSet::new(),
+        }
+    }
+
+    /// Adds an arc from each source to each target.
+    pub fn add_arcs(&mut self, sources: &BTreeSet<u8>, targets: &BTreeSet<u8>) {
+        for &source in sources {
+            self.arcs
+                .extend(targets.iter().map(|&target| (source, target)));
+        }
+    }
+
     /// The list of 32-bit words.
     pub fn words(&self) -> Vec<u32> {
         let bit = |b: bool, n: u32| u32::from(b) << n;

@@ -1,7 +1,7 @@
-//! Document 01 in plain Rust, as close to its sentences as possible, with three requests of document 02: classes of characters
-//! (T-01), barred labels (T-06) and characters with several labels (T-07). Nothing here is taken from the Rattle code; parser,
-//! matcher and search use other methods, and `ranked` breaks ties in another way. `input` makes random input, `tally` counts
-//! answers.
+//! Document 01 in plain Rust, as close to its sentences as possible, with four requests of document 02: classes of characters
+//! (T-01), word lists (T-05), barred labels (T-06) and characters with several labels (T-07). Nothing here is taken from the
+//! Rattle code; parser, matcher and search use other methods, and `ranked` breaks ties in another way. `input` makes random
+//! input, `tally` counts answers.
 
 pub mod alphabet;
 pub mod bracket;
@@ -17,6 +17,7 @@ pub mod ranked;
 pub mod search;
 pub mod sheet;
 pub mod tally;
+pub mod wordlist;
 pub mod words;
 
 use matrix::BARRED;

@@ -11,12 +11,7 @@ pub fn compile(alphabet: &[u8], text: &[u8]) -> Result<(Rc<Tree>, Form), u32> {
     if letters(alphabet, &tree) > 127 {
         return Err(9);
     }
-    let mut form = Form {
-        k: alphabet.len() as u8,
-        empty: false,
-        letters: Vec::new(),
-        arcs: BTreeSet::new(),
-    };
+    let mut form = Form::new(alphabet);
     let part = number(&open(alphabet, &tree), &mut form);
     form.empty = part.empty;
     for i in part.first {
@@ -142,7 +137,7 @@ fn number_joined(parts: &[Opened], form: &mut Form) -> Part {
     };
     for part in parts {
         let next = number(part, form);
-        arcs(form, &whole.last, &next.first);
+        form.add_arcs(&whole.last, &next.first);
         if whole.empty {
             whole.first.extend(next.first);
         }
@@ -173,13 +168,6 @@ fn number_either(branches: &[Opened], form: &mut Form) -> Part {
 /// An arc from each last letter of the repeated part to each first.
 fn number_repeated(part: &Opened, form: &mut Form) -> Part {
     let part = number(part, form);
-    arcs(form, &part.last, &part.first);
+    form.add_arcs(&part.last, &part.first);
     part
-}
-
-fn arcs(form: &mut Form, sources: &BTreeSet<u8>, targets: &BTreeSet<u8>) {
-    for &source in sources {
-        form.arcs
-            .extend(targets.iter().map(|&target| (source, target)));
-    }
 }

@@ -2,7 +2,7 @@
 use std::io::Write;
 
 /// The highest number that is answered.
-const HIGHEST: usize = 19;
+const HIGHEST: usize = 21;
 
 /// How often each number was answered.
 #[derive(Default)]

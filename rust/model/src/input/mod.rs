@@ -2,6 +2,7 @@
 
 pub mod calls;
 mod generator;
+pub mod lists;
 pub mod matrix;
 pub mod sheets;
 pub mod texts;

@@ -45,6 +45,14 @@ pub fn set(r: &mut Random, alphabet: &[u8]) -> (String, usize) {
     }
 }
 
+/// An ordinary character, escaped where it must be.
+pub fn ordinary(c: u8) -> Vec<u8> {
+    match b"^.[$()|*+?{\\".contains(&c) {
+        true => vec![b'\\', c],
+        false => vec![c],
+    }
+}
+
 /// Writes a text, and says of each part which tree it should give.
 struct Writer<'a> {
     r: &'a mut Random,
@@ -98,13 +106,9 @@ impl<'a> Writer<'a> {
         content
     }
 
-    /// An ordinary character, escaped where it must be.
     fn character(&mut self) -> Rc<Tree> {
         let c = *self.r.pick(self.alphabet);
-        if b"^.[$()|*+?{\\".contains(&c) {
-            self.text.push(b'\\');
-        }
-        self.text.push(c);
+        self.text.extend(ordinary(c));
         Rc::new(Tree::Set(vec![c]))
     }
 
