@@ -66,6 +66,9 @@ impl TextReading {
 /// The length of the longest form: the head, 127 letters and an arc from each to each.
 pub const FORM_WORDS: usize = 1 + 127 + 127 * 127;
 
+/// The most bytes that a word list may have.
+pub const LIST_BYTES: usize = 4096;
+
 /// How many work words [`decode`] and [`read`] need for this number of columns and of letters.
 pub const fn work_words(columns: usize, letters: usize) -> usize {
     (columns + 1) * (2 * letters + 1)
@@ -106,6 +109,65 @@ pub fn compile(alphabet: &[u8], text: &[u8], form: &mut [u32]) -> Result<usize, 
             alphabet.len(),
             text.as_ptr(),
             text.len(),
+            form.as_mut_ptr(),
+            form.len(),
+            &mut counts,
+        )
+    };
+    Refusal::check(number)?;
+    Ok(counts[0] as usize)
+}
+
+/// Writes the form of a list of words over an alphabet and returns its length. Each word is closed by one newline. The form accepts
+/// a list of labels exactly if their characters are one of the words. Words that begin alike share the letters of what they begin
+/// with.
+///
+/// ```
+/// use kavurehy::{compile_list, decode, work_words, Matrix, FORM_WORDS};
+///
+/// // Two levels and a collar: 14 letters, of which the levels share six.
+/// let (alphabet, list) = (b"acelorv 12", b"level 1\nlevel 2\ncollar\n");
+/// let mut form = [0; FORM_WORDS];
+/// let length = compile_list(alphabet, list, &mut form).unwrap();
+/// let letters = (form[0] & 0xff) as usize;
+/// assert_eq!((length, letters), (27, 14));
+///
+/// // Seven columns, in each of which one label costs nothing. The fourth was taken for a c.
+/// let mut costs = [9; 7 * 11];
+/// for (column, c) in b"levcl 2".iter().enumerate() {
+///     costs[column * 11 + 1 + alphabet.iter().position(|a| a == c).unwrap()] = 0;
+/// }
+/// let matrix = Matrix { costs: &costs, width: 11, columns: 7 };
+/// let (mut path, mut word) = ([0; 7], [0; 7]);
+/// let mut work = vec![0; work_words(7, letters)];
+/// let reading = decode(&form[..length], matrix, &mut path, &mut word, &mut work).unwrap();
+/// assert_eq!((reading.price, reading.length), (9, 7));
+/// assert_eq!(word.map(|x| alphabet[x as usize - 1]), *b"level 2");
+/// ```
+///
+/// ```
+/// use kavurehy::{compile_list, judge, Refusal};
+///
+/// // Two shapes of 7, the labels 1 and 3: a letter for each, and what follows is shared by them.
+/// let mut form = [0; 6];
+/// assert_eq!(compile_list(b"7a7", b"7a\n7\n", &mut form), Ok(6));
+/// assert_eq!(form, [0x10030003, 0x20000301, 0x20000303, 0x20000202, 0x30000103, 0x30000203]);
+/// assert_eq!(judge(&form, &[3, 2]), Ok(true));
+/// assert_eq!(compile_list(b"7a7", b"7\na\n7\n", &mut form), Err(Refusal::WordList));
+/// ```
+///
+/// Refusals, the first that applies: [`Refusal::Alphabet`]; [`Refusal::TextLength`] for a list without bytes or with more than
+/// [`LIST_BYTES`]; [`Refusal::TextByte`], from which newlines are exempt; [`Refusal::WordList`] for an empty or repeated line or
+/// no final newline; [`Refusal::Foreign`]; [`Refusal::Letters`]; [`Refusal::FormMemory`].
+pub fn compile_list(alphabet: &[u8], list: &[u8], form: &mut [u32]) -> Result<usize, Refusal> {
+    let mut counts = [0];
+    // SAFETY: as in `compile`.
+    let number = unsafe {
+        raw::kavurehy_compile_list(
+            alphabet.as_ptr(),
+            alphabet.len(),
+            list.as_ptr(),
+            list.len(),
             form.as_mut_ptr(),
             form.len(),
             &mut counts,

@@ -12,6 +12,16 @@ extern "C" {
         counts: &mut [u32; 1],
     ) -> u32;
 
+    pub fn kavurehy_compile_list(
+        alphabet: *const u8,
+        alphabet_length: usize,
+        list: *const u8,
+        list_length: usize,
+        form: *mut u32,
+        form_memory: usize,
+        counts: &mut [u32; 1],
+    ) -> u32;
+
     pub fn kavurehy_judge(
         form: *const u32,
         form_length: usize,

@@ -28,13 +28,15 @@ pub enum Refusal {
     /// Given by the sheet program alone.
     Sheet,
     ClassName,
+    /// An empty or a repeated line, or no final newline.
+    WordList,
     /// A refusal of a newer library, by its number, which none of [`Refusal::ALL`] has.
     Other(u32),
 }
 
 impl Refusal {
     /// All refusals, in the order of their numbers.
-    pub const ALL: [Refusal; 19] = [
+    pub const ALL: [Refusal; 20] = [
         Refusal::Alphabet,
         Refusal::TextLength,
         Refusal::TextByte,
@@ -54,6 +56,7 @@ impl Refusal {
         Refusal::Label,
         Refusal::Sheet,
         Refusal::ClassName,
+        Refusal::WordList,
     ];
 
     /// The refusal's number.
@@ -78,6 +81,7 @@ impl Refusal {
             Refusal::Label => 17,
             Refusal::Sheet => 18,
             Refusal::ClassName => 19,
+            Refusal::WordList => 21,
             Refusal::Other(number) => number,
         }
     }
@@ -127,6 +131,7 @@ impl fmt::Display for Refusal {
             Refusal::Label => "label",
             Refusal::Sheet => "sheet",
             Refusal::ClassName => "class name",
+            Refusal::WordList => "word list",
             Refusal::Other(_) => "a refusal of a newer library",
         };
         write!(f, "refused {}: {name}", self.number())
@@ -143,17 +148,22 @@ mod tests {
     fn numbers() {
         assert_eq!(Refusal::from_number(0), None);
         assert_eq!(Refusal::check(0), Ok(()));
-        for (refusal, number) in Refusal::ALL.into_iter().zip(1..) {
-            assert_eq!(refusal.number(), number);
-            assert_eq!(Refusal::from_number(number), Some(refusal));
-            assert_eq!(Refusal::check(number), Err(refusal));
+        let numbers: Vec<u32> = (1..=19).chain([21]).collect();
+        assert_eq!(Refusal::ALL.map(Refusal::number)[..], numbers);
+        for refusal in Refusal::ALL {
+            checked(refusal);
         }
-        for number in [99, u32::MAX] {
-            let other = Refusal::Other(number);
-            assert_eq!(other.number(), number);
-            assert_eq!(Refusal::from_number(number), Some(other));
-            assert_eq!(Refusal::check(number), Err(other));
+        for number in [20, 22, 99, u32::MAX] {
+            assert_eq!(Refusal::Other(number).number(), number);
+            checked(Refusal::Other(number));
         }
+    }
+
+    /// Its number means this refusal.
+    fn checked(refusal: Refusal) {
+        let number = refusal.number();
+        assert_eq!(Refusal::from_number(number), Some(refusal));
+        assert_eq!(Refusal::check(number), Err(refusal));
     }
 
     #[test]
@@ -161,6 +171,7 @@ mod tests {
         assert_eq!(Refusal::Alphabet.to_string(), "refused 1: alphabet");
         assert_eq!(Refusal::Sheet.to_string(), "refused 18: sheet");
         assert_eq!(Refusal::ClassName.to_string(), "refused 19: class name");
+        assert_eq!(Refusal::WordList.to_string(), "refused 21: word list");
         let other = Refusal::Other(99).to_string();
         assert_eq!(other, "refused 99: a refusal of a newer library");
     }
