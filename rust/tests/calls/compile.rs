@@ -5,6 +5,7 @@ use kavurehy::{raw, Refusal, FORM_WORDS};
 use model::alphabet::{characters_of, labels_of};
 use model::derivatives::Machine;
 use model::expression::{parse, Tree};
+use model::form::Form;
 use model::input::texts::{alphabet, bad_alphabet, text};
 use model::input::writer::expression;
 use model::input::{random, Random};
@@ -14,38 +15,64 @@ use model::words::is_word;
 
 const CASES: usize = 200_000;
 
-/// Compiles, and compares the answer and the form memory with the model; returns the number of the refusal, or 0.
-pub fn hold(alphabet: &[u8], text: &[u8], memory: usize) -> u32 {
-    let expected = compile_within(alphabet, text, memory).map(|(_, form)| form.words());
-    let refusal = *expected.as_ref().err().unwrap_or(&0);
-    let written = expected.unwrap_or_default();
-    let said = format!("{} {}", alphabet.escape_ascii(), text.escape_ascii());
-    let mut form = Lent::new(memory);
-    let mut counts = [u32::MAX];
-    let answered = unsafe {
-        raw::kavurehy_compile(
-            alphabet.as_ptr(),
-            alphabet.len(),
-            text.as_ptr(),
-            text.len(),
-            form.memory().as_mut_ptr(),
-            memory,
-            &mut counts,
-        )
-    };
-    assert_eq!(
-        (answered, counts),
-        (refusal, [written.len() as u32]),
-        "{said}"
-    );
-    form.wrote(&written);
+/// A call that writes a form, given an alphabet and a text or a word list: as it is exported, and as a safe function.
+pub struct Compiler {
+    pub raw: Raw,
+    pub safe: Safe,
+}
 
-    let mut form = Lent::new(memory);
-    let answer = kavurehy::compile(alphabet, text, form.memory());
-    assert_eq!(number(&answer), refusal, "{said}");
-    assert_eq!(answer.unwrap_or(0), written.len(), "{said}");
-    form.wrote(&written);
-    refusal
+type Raw =
+    unsafe extern "C" fn(*const u8, usize, *const u8, usize, *mut u32, usize, &mut [u32; 1]) -> u32;
+
+pub type Safe = fn(&[u8], &[u8], &mut [u32]) -> Result<usize, Refusal>;
+
+impl Compiler {
+    /// Compiles both ways, and compares the answer and the form memory with what is expected; returns the number of the refusal,
+    /// or 0.
+    pub fn hold(
+        &self,
+        alphabet: &[u8],
+        text: &[u8],
+        memory: usize,
+        expected: Result<Form, u32>,
+    ) -> u32 {
+        let refusal = *expected.as_ref().err().unwrap_or(&0);
+        let written = expected.map_or(Vec::new(), |form| form.words());
+        let said = || format!("{} {}", alphabet.escape_ascii(), text.escape_ascii());
+        let mut form = Lent::new(memory);
+        let mut counts = [u32::MAX];
+        let answered = unsafe {
+            (self.raw)(
+                alphabet.as_ptr(),
+                alphabet.len(),
+                text.as_ptr(),
+                text.len(),
+                form.memory().as_mut_ptr(),
+                memory,
+                &mut counts,
+            )
+        };
+        let length = written.len() as u32;
+        assert_eq!((answered, counts), (refusal, [length]), "{}", said());
+        form.wrote(&written);
+
+        let mut form = Lent::new(memory);
+        let answer = (self.safe)(alphabet, text, form.memory());
+        assert_eq!(number(&answer), refusal, "{}", said());
+        assert_eq!(answer.unwrap_or(0), written.len(), "{}", said());
+        form.wrote(&written);
+        refusal
+    }
+}
+
+/// Compiles a text, and compares with the model.
+pub fn hold(alphabet: &[u8], text: &[u8], memory: usize) -> u32 {
+    let compiler = Compiler {
+        raw: raw::kavurehy_compile,
+        safe: kavurehy::compile,
+    };
+    let expected = compile_within(alphabet, text, memory).map(|(_, form)| form);
+    compiler.hold(alphabet, text, memory, expected)
 }
 
 #[test]
@@ -98,10 +125,16 @@ fn words_of_texts() {
 
 /// Does Judge of the compiled text accept each of these words? The refusal if the text does not compile.
 pub fn accepted(alphabet: &[u8], text: &[u8], words: &[Vec<u8>]) -> Result<Vec<bool>, Refusal> {
+    let form = compiled(kavurehy::compile, alphabet, text)?;
+    words.iter().map(|w| kavurehy::judge(&form, w)).collect()
+}
+
+/// The form that a safe function writes.
+pub fn compiled(compile: Safe, alphabet: &[u8], text: &[u8]) -> Result<Vec<u32>, Refusal> {
     let mut form = vec![0; FORM_WORDS];
-    let length = kavurehy::compile(alphabet, text, &mut form)?;
-    let form = &form[..length];
-    words.iter().map(|w| kavurehy::judge(form, w)).collect()
+    let length = compile(alphabet, text, &mut form)?;
+    form.truncate(length);
+    Ok(form)
 }
 
 /// The text for which Compile was seen to use the most stack, on a thread with less than 1.5 times that (FIGURES.md).

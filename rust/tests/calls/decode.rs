@@ -109,7 +109,11 @@ impl Call {
 
     /// Decodes, and compares the answer and all lent memory with the document; `search` finds the best path of a form. Returns
     /// that path, or the number of the refusal.
-    fn hold(&self, tally: &mut Tally, search: impl Fn(&Form) -> Option<Best>) -> Result<Best, u32> {
+    pub fn hold(
+        &self,
+        tally: &mut Tally,
+        search: impl Fn(&Form) -> Option<Best>,
+    ) -> Result<Best, u32> {
         let (expected, touched) = match self.check() {
             Err(refusal) => (Err(refusal), 0),
             Ok((form, need)) => (search(&form).ok_or(16), need),
