@@ -4,13 +4,13 @@ use mathlib.Core.Path.{_≡_, refl}
 use mathlib.Core.Bool.{true, false}
 use mathlib.Core.List.{List, [], _∷_, map}
 use lib.ListN.{replicate}
-use Rattle.lists.specs.Lists.{numbers}
+use Rattle.lists.specs.Lists.{keep, numbers}
 use Rattle.lists.specs.Each.{all}
 use Rattle.refusal.specs.declared.Refusal.the-variants.{Alphabet, TextLength, TextByte}
 use Rattle.refusal.specs.declared.Checked.{Checked}
 use Rattle.refusal.specs.declared.Checked.the-variants.{Passed, Refused}
 use Rattle.refusal.specs.Verdict.{first-refusal}
-use Rattle.alphabet.specs.Labels.{characters}
+use Rattle.alphabet.specs.Labels.{characters, labels-of}
 use Rattle.alphabet.specs.Alphabet.{is-alphabet, text-checks}
 
 -- a and b
@@ -25,6 +25,8 @@ record Examples : Type 0 where
   -- over the alphabet `xyz` label 1 is x; over `yxy` labels 1 and 3 are y
   spelt : characters (120 ∷ 121 ∷ 122 ∷ []) (1 ∷ 3 ∷ 3 ∷ 2 ∷ []) ≡ 120 ∷ 122 ∷ 122 ∷ 121 ∷ []
   two-labels : characters (121 ∷ 120 ∷ 121 ∷ []) (3 ∷ 2 ∷ 1 ∷ []) ≡ 121 ∷ 120 ∷ 121 ∷ []
+  -- over `yxy`: the labels of y, x and z
+  labels : map (labels-of (121 ∷ 120 ∷ 121 ∷ [])) (121 ∷ 120 ∷ 122 ∷ []) ≡ (1 ∷ 3 ∷ []) ∷ (2 ∷ []) ∷ [] ∷ []
   -- no byte, one, all 95, one more (a byte too high, or one twice)
   sizes : map is-alphabet ([] ∷ (97 ∷ []) ∷ numbers 32 95 ∷ numbers 32 96 ∷ (32 ∷ numbers 32 95) ∷ []) ≡ false ∷ true ∷ true ∷ false ∷ false ∷ []
   -- a character twice, side by side or not; 95 and 96 times
@@ -42,10 +44,11 @@ record Examples : Type 0 where
   length-and-byte : said ab (replicate 256 9) ≡ Refused TextLength
 
 examples : Examples
-unfolding first-refusal all numbers
+unfolding first-refusal all keep numbers
 examples = record {
   spelt = refl;
   two-labels = refl;
+  labels = refl;
   sizes = refl;
   repeats = refl;
   alphabet-bytes = refl;

@@ -5,10 +5,15 @@ use mathlib.Core.Path.{_≡_, refl}
 use mathlib.Core.Bool.{true, false}
 use mathlib.Core.List.{List, [], _∷_, map, flatMap}
 use Rattle.lists.specs.Lists.{any, keep, numbers}
+use Rattle.automaton.specs.Automaton.{Automaton}
 use Rattle.text.specs.Bytes.{bytes}
 use Rattle.text_lines.specs.Lines.{onto, pieces, both, closed}
 use Rattle.wordlist.specs.Words.{words, repeated, list-fault, foreign}
-use Rattle.wordlist.specs.PrefixTree.{Prefix, whole, prefixesFrom, prefixes, once, prefixesOf, Letter, lettersOf}
+use Rattle.wordlist.specs.PrefixTree.{Prefix, whole, prefixesFrom, prefixes, once, prefixesOf, Letter, lettersOf, readAt, prefixTree}
+
+-- over `7a7`: 7a, and 7, which begins it; letters 1 and 2 are those of 7, letter 3 is that of 7a
+sevens : Automaton
+sevens = prefixTree (bytes "7a7") (bytes "7a" ∷ bytes "7" ∷ [])
 
 -- a letter by its prefix and its label
 shown : Letter → List ℕ
@@ -32,9 +37,13 @@ record Examples : Type 0 where
   letters :
       map shown (lettersOf (bytes "7a7") (bytes "a7" ∷ bytes "aa" ∷ []))
       ≡ (2 ∷ bytes "a") ∷ (1 ∷ bytes "a7") ∷ (3 ∷ bytes "a7") ∷ (2 ∷ bytes "aa") ∷ []
+  -- after no letter, and after letters 1 to 3: which letters follow, and whether a word may end
+  labels : map (sevens .label) (1 ∷ 2 ∷ 3 ∷ []) ≡ 1 ∷ 3 ∷ 2 ∷ []
+  followers : map (λ i. keep (sevens .follow i) (numbers 0 5)) (0 ∷ 1 ∷ 2 ∷ 3 ∷ []) ≡ (1 ∷ 2 ∷ []) ∷ (3 ∷ []) ∷ (3 ∷ []) ∷ [] ∷ []
+  ends : map (sevens .ends) (0 ∷ 1 ∷ 2 ∷ 3 ∷ []) ≡ false ∷ true ∷ true ∷ true ∷ []
 
 examples : Examples
-unfolding shown onto pieces both closed repeated list-fault foreign any keep numbers flatMap prefixesFrom once lettersOf
+unfolding shown sevens prefixTree readAt onto pieces both closed repeated list-fault foreign any keep numbers flatMap prefixesFrom once lettersOf
 examples = record {
   lines = refl;
   unclosed = refl;
@@ -43,4 +52,7 @@ examples = record {
   of-a-word = refl;
   of-words = refl;
   letters = refl;
+  labels = refl;
+  followers = refl;
+  ends = refl;
 }
