@@ -1,32 +1,54 @@
-// Compile and Judge, Collapse and Spread, the costs of confidences.
+// Compile, CompileList and Judge, Collapse and Spread, the costs of confidences.
 use super::parts;
 use super::show;
 use numbers::wide_word;
 
-// Compiles with this memory and returns the form's length.
-fn compiled(line: &[u8], form: &mut [u32]) -> usize {
+// Compiles a text, or a list of words.
+fn compile_kind(
+    kind: u8,
+    alphabet: &[u8],
+    text: &[u8],
+    form: &mut [u32],
+    counts: &mut [u32; 1],
+) -> u32 {
+    if kind == b'L' {
+        return kavurehy::kavurehy_compile_list(alphabet, text, form, counts);
+    }
+    kavurehy::kavurehy_compile(alphabet, text, form, counts)
+}
+
+// The same with this memory; returns the form's length.
+fn compiled(kind: u8, alphabet: &[u8], text: &[u8], form: &mut [u32]) -> usize {
     let mut counts = [0u32; 1];
-    let refused = kavurehy::kavurehy_compile(
-        vectors_fields::field(line, 1),
-        vectors_fields::field(line, 2),
-        form,
-        &mut counts,
-    );
+    let refused = compile_kind(kind, alphabet, text, form, &mut counts);
     let words = wide_word(counts[0]);
     show::filled(refused, words);
     words
 }
 
-// Compiles with memory for ten words, then with all, and returns the form's length.
-pub fn compile(line: &[u8], form: &mut [u32; 16258]) -> usize {
+// With memory for ten words, then with all; returns the form's length.
+fn compiled_twice(kind: u8, alphabet: &[u8], text: &[u8], form: &mut [u32; 16258]) -> usize {
     let mut small = [9u32; 10];
-    show::field(line, 2);
-    compiled(line, &mut small);
+    compiled(kind, alphabet, text, &mut small);
     show::words(&small, 0, 10);
     show::say(show::BAR);
-    let words = compiled(line, form);
+    let words = compiled(kind, alphabet, text, form);
     show::say(show::END);
     words
+}
+
+pub fn compile(line: &[u8], form: &mut [u32; 16258]) -> usize {
+    let text = vectors_fields::field(line, 2);
+    show::field(line, 2);
+    compiled_twice(b'E', vectors_fields::field(line, 1), text, form)
+}
+
+pub fn compile_list(line: &[u8], form: &mut [u32; 16258]) -> usize {
+    let mut list = [0u8; 256];
+    let n = vectors_fields::labels(vectors_fields::field(line, 3), &mut list);
+    show::field(line, 1);
+    show::say(show::COLON);
+    compiled_twice(b'L', vectors_fields::field(line, 2), &list[..n], form)
 }
 
 pub fn judge(line: &[u8], word: &[u8], form: &[u32]) {

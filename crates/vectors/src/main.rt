@@ -1,10 +1,11 @@
 // Runs the exported calls on the lines of standard input: document 01's examples, edges, damaged forms, each refusal. A line has a
 // letter that says what to do, and fields, each after a tab; lists are numbers with a space between, and `-` is the cost of a barred label.
-// Path, word, work and cost memory, and the ten words of E, are filled with 9 before a call and printed after it.
+// Path, word, work and cost memory, and the ten words of E and L, are filled with 9 before a call and printed after it.
 //
 //   C K PATH ROOM           Collapse                       S K WORD ROOM   Spread
 //   P CONFIDENCES ROOM      the costs of confidences
 //   E ALPHABET TEXT         Compile, with memory for ten words and then for every form; the lines after it use that form
+//   L NAME ALPHABET BYTES   CompileList of the list with these bytes, in the same way
 //   F WORDS                 the lines after it use these words, in hexadecimal, as the form
 //   N COUNT                 the form ends after COUNT words
 //   J NAME WORD             Judge
@@ -59,6 +60,7 @@ fn run(kind: u8, line: &[u8], form: &[u32], words: usize) {
 fn one(line: &[u8], form: &mut [u32; 16258], words: usize) -> usize {
     match text::peek(line, 0) {
         b'E' => calls::compile(line, form),
+        b'L' => calls::compile_list(line, form),
         b'F' => vectors_fields::numbers(vectors_fields::field(line, 1), true, form),
         b'N' => parts::size(line, 1),
         kind => {
