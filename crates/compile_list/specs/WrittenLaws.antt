@@ -19,7 +19,7 @@ use Rattle.automaton.specs.Arrays.{has, arrayed, Tells}
 use Rattle.form_encode.specs.Call.{form-call}
 use Rattle.form_encode.specs.PartsLaws.{told-form}
 use Rattle.wordlist.specs.Words.{words}
-use Rattle.wordlist.specs.WordsLaws.{fault-exactly, none-empty}
+use Rattle.wordlist.specs.WordsLaws.{none-empty}
 use Rattle.wordlist.specs.PrefixTree.{whole, prefixes, prefixesFrom, Letter, lettersOf, noLetter, letterAt, readAt, prefixTree, listForm}
 use Rattle.wordlist.specs.LettersLaws.{lettersBy, read-at, letter-among}
 use Rattle.wordlist_build.specs.declared.Trie.{Trie}

@@ -3,7 +3,6 @@ use mathlib.Core.Path.{_≡_, refl}
 use mathlib.Core.Bool.{Bool, true, false}
 use mathlib.Core.Logic.{inl, inr}
 use mathlib.Core.List.{List, [], _∷_, _++_}
-use Rattle.lists.specs.Each.{Each}
 use Rattle.lists.specs.EachLaws.{each-append}
 use Rattle.lists.specs.Lists.{Among, keep, keeping, Distinct}
 use Rattle.lists.specs.AmongLaws.{among-each, each-among, keep-among}

@@ -1,12 +1,11 @@
 -- Laws of the lowest number that passes a test, and of the loop that looks for it.
 use Prim.Native.Nat.{ℕ, _+_, _<_, _≤_}
-use mathlib.Core.Path.{_≡_, refl, sym, ap, ap₂, subst, _∙_}
+use mathlib.Core.Path.{_≡_, refl, sym, ap, subst, _∙_}
 use mathlib.Core.Bool.{Bool, true, false}
-use mathlib.Core.Logic.{_⊎_, inl, inr, ⊎-elim}
+use mathlib.Core.Logic.{_⊎_, inl, ⊎-elim}
 use mathlib.Core.List.{List, [], _∷_}
 use native.Mathlib.Omega.{arith}
 use lib.ListN.{getD}
-use Rattle.lists.specs.Each.{Each}
 use Rattle.lists.specs.Lists.{Among, keep, keeping, numbers, lowest, Ascending}
 use Rattle.lists.specs.AmongLaws.{keep-among, among-keep, keep-same, each-among}
 use Rattle.lists.specs.AscendingLaws.{among-numbers, numbers-among, ascending-keep, ascending-numbers}

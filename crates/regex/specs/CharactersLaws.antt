@@ -1,18 +1,17 @@
 -- A list of labels is a word exactly if each is a label of the alphabet and their characters spell a word, and each word over characters is
 -- spelt by some labels. So the words over characters do not depend on how often or in which order the alphabet lists its characters.
-use mathlib.Core.Path.{_≡_, refl, sym, ap, ap₂, _∙_}
+use mathlib.Core.Path.{_≡_, refl, sym, ap, _∙_}
 use mathlib.Core.Logic.{_↔_, inl, inr}
 use mathlib.Core.List.{List, [], _∷_, _++_}
 use mathlib.Core.Bool.{Bool, true, false}
 use Prim.Native.Nat.{ℕ, zero, suc, _-_, _≤_}
 use native.Mathlib.Omega.{arith}
-use lib.ListN.{getD}
 use lib.Dec.{eqb}
 use borrow.Author.Tests.{eqb-false}
 use Rattle.lists.specs.Each.{Each}
 use Rattle.lists.specs.EachLaws.{each-map}
 use Rattle.lists.specs.Lists.{Among}
-use Rattle.lists.specs.AmongLaws.{among-at, among-index}
+use Rattle.lists.specs.AmongLaws.{among-at}
 use Rattle.refusal.specs.declared.Refusal.the-variants as refusal
 use Rattle.alphabet.specs.Labels.{Label, character, characters}
 use Rattle.alphabet.specs.LabelsLaws.{labels-for}

@@ -1,14 +1,13 @@
 -- The sheet that an input is, by the ends of its first two lines and the columns after them: a lemma for each return of `scan`.
 use mathlib.Core.Path.{_≡_, refl, sym, ap, _∙_}
 use mathlib.Core.Option.{Option, some, none}
-use mathlib.Core.List.{List, [], _∷_, _++_, append-nil}
+use mathlib.Core.List.{List, []}
 use mathlib.Core.Bool.{true}
 use mathlib.Core.Logic.{_⊎_, inl, inr, ⊎-elim}
 use Prim.Native.Nat.{ℕ, _+_, _-_, _<_, _≤_}
 use native.Mathlib.Omega.{arith}
 use lib.ListN.{length, drop}
 use borrow.Author.Tests.{le-leb, lt-leb}
-use Rattle.lists.specs.EachLaws.{drop-here, drop-all}
 use Rattle.lists.specs.OrderLaws.{eq-or-ne, true-or-false}
 use Rattle.lists.specs.Memory.{written}
 use Rattle.lists.specs.Cases.{provided}
@@ -16,7 +15,7 @@ use Rattle.text_lines.specs.Lines.{both, linesOf}
 use Rattle.sheet_format.specs.Sheet.{Sheet, fitting, laid, sheetFrom, most-bytes, sheetOf, widthOr, matrixOf}
 use Rattle.sheet_format.specs.ColumnLines.{columnsOf, columnsIn}
 use Rattle.text_lines.specs.Places.{part, LineEnd}
-use Rattle.text_lines.specs.PlacesLaws.{part-length, part-rest, lines-at, line-unclosed, lines-past}
+use Rattle.text_lines.specs.PlacesLaws.{part-length, lines-at, line-unclosed, lines-past}
 use Rattle.sheet_columns.specs.Matrices.{StoredMatrix}
 use Rattle.sheet_columns.specs.declared.Body.the-variants as body
 use Rattle.sheet_scan.specs.Answers.{answerOf, Scans}

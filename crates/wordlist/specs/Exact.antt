@@ -1,5 +1,5 @@
 -- The prefix tree of a list of words accepts exactly the listed words.
-use Prim.Native.Nat.{ℕ, suc, _-_, _<_, _≤_}
+use Prim.Native.Nat.{ℕ, suc, _-_, _≤_}
 use mathlib.Core.Path.{_≡_, refl, sym, ap, ap₂, subst, _∙_}
 use mathlib.Core.Bool.{true}
 use mathlib.Core.Logic.{_↔_}
@@ -7,7 +7,7 @@ use mathlib.Core.List.{List, [], _∷_, _++_, append-assoc, append-nil}
 use native.Mathlib.Omega.{arith}
 use lib.ListN.{length, getD}
 use Rattle.lists.specs.Each.{Each}
-use Rattle.lists.specs.Lists.{Among, any, same-list, in-range}
+use Rattle.lists.specs.Lists.{Among, same-list, in-range}
 use Rattle.lists.specs.AmongLaws.{any-among, among-any, among-index}
 use Rattle.lists.specs.OrderLaws.{and-left, and-right, and-both}
 use Rattle.lists.specs.RangeLaws.{range-inside, range-true}
@@ -15,7 +15,7 @@ use Rattle.lists.specs.SameLaws.{same-list-true, same-list-self}
 use Rattle.alphabet.specs.Labels.{Label, character, characters}
 use Rattle.automaton.specs.Automaton.{Walk, spelt, Accepts}
 use Rattle.automaton.specs.Proper.{Proper}
-use Rattle.wordlist.specs.PrefixTree.{Prefix, whole, Letter, letterWith, lettersOf, noLetter, letterAt, readAt, prefixTree}
+use Rattle.wordlist.specs.PrefixTree.{whole, Letter, letterWith, lettersOf, noLetter, letterAt, readAt, prefixTree}
 use Rattle.wordlist.specs.Listed.{Listed}
 use Rattle.wordlist.specs.LettersLaws.{letters-exactly, read-at, letter-among}
 

@@ -1,6 +1,5 @@
 -- Words of lists, prefixes and letters, computed.
 use Prim.Native.Nat.{ℕ}
-use Prim.Native.String.{String}
 use mathlib.Core.Path.{_≡_, refl}
 use mathlib.Core.Bool.{true, false}
 use mathlib.Core.List.{List, [], _∷_, map, flatMap}
@@ -9,7 +8,7 @@ use Rattle.automaton.specs.Automaton.{Automaton}
 use Rattle.text.specs.Bytes.{bytes}
 use Rattle.text_lines.specs.Lines.{onto, pieces, both, closed}
 use Rattle.wordlist.specs.Words.{words, repeated, list-fault, foreign}
-use Rattle.wordlist.specs.PrefixTree.{Prefix, whole, prefixesFrom, prefixes, once, prefixesOf, Letter, lettersOf, readAt, prefixTree}
+use Rattle.wordlist.specs.PrefixTree.{whole, prefixesFrom, prefixes, once, prefixesOf, Letter, lettersOf, readAt, prefixTree}
 
 -- over `7a7`: 7a, and 7, which begins it; letters 1 and 2 are those of 7, letter 3 is that of 7a
 sevens : Automaton

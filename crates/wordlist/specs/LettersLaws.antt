@@ -1,13 +1,13 @@
 -- Laws of the letters of a word list: which there are, that no two are the same, and how they are numbered.
 use Prim.Native.Nat.{ℕ, zero, suc, _-_, _≤_, _<_}
-use mathlib.Core.Path.{_≡_, refl, sym, ap, ap₂, subst, _∙_}
+use mathlib.Core.Path.{_≡_, refl, sym, ap, subst, _∙_}
 use mathlib.Core.Bool.{Bool, true, false, cond}
-use mathlib.Core.Logic.{_⊎_, inl, inr, _↔_, ⊎-elim}
+use mathlib.Core.Logic.{_↔_}
 use mathlib.Core.List.{List, [], _∷_, _++_, map, flatMap}
 use native.Mathlib.Omega.{arith}
 use lib.ListN.{length, getD}
 use Rattle.lists.specs.Lists.{Among, numbers, Ascending, Distinct}
-use Rattle.lists.specs.AmongLaws.{among-at, among-each, each-among, among-append, among-map, map-among, among-flat, flat-among, flat-append, flat-one}
+use Rattle.lists.specs.AmongLaws.{among-at, among-each, each-among, among-map, map-among, among-flat, flat-among, flat-append, flat-one}
 use Rattle.lists.specs.AscendingLaws.{ascending-keep, ascending-numbers}
 use Rattle.lists.specs.DistinctLaws.{distinct-append}
 use Rattle.alphabet.specs.Labels.{Label, character, labels-of}

@@ -1,19 +1,19 @@
 -- Laws of refusals 21 and 8: what a list that passes them is.
 use Prim.Native.Nat.{ℕ, _≤_}
-use mathlib.Core.Path.{_≡_, refl, sym, ap, ap₂, _∙_}
+use mathlib.Core.Path.{_≡_, refl, ap, ap₂}
 use mathlib.Core.Option.{Option, some, none}
-use mathlib.Core.Bool.{Bool, true, false, not, _&&_, _||_}
-use mathlib.Core.Logic.{_↔_, inl, inr, ⊎-elim}
+use mathlib.Core.Bool.{Bool, false, not, _&&_, _||_}
+use mathlib.Core.Logic.{_↔_, ⊎-elim}
 use mathlib.Core.List.{List, [], _∷_}
 use native.Mathlib.Omega.{arith}
 use lib.ListN.{length}
 use lib.Dec.{eqb}
-use borrow.Author.Tests.{eqb-true, eq-eqb, not-true, not-false}
+use borrow.Author.Tests.{eqb-true, eq-eqb}
 use Rattle.lists.specs.Each.{Each}
 use Rattle.lists.specs.Lists.{Among, any, same-list, Distinct}
 use Rattle.lists.specs.AmongLaws.{any-among, among-any, among-each, each-among}
 use Rattle.lists.specs.Options.{is-some, listed}
-use Rattle.lists.specs.OrderLaws.{not-both, never-true, same-truth, or-either, or-left, or-right, or-neither, lt-or-le}
+use Rattle.lists.specs.OrderLaws.{not-both, never-true, or-neither, lt-or-le}
 use Rattle.lists.specs.SameLaws.{same-list-true, same-list-self}
 use Rattle.alphabet.specs.Labels.{labels-of}
 use Rattle.alphabet.specs.LabelsLaws.{labelled-exactly}

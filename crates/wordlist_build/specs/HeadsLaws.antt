@@ -1,7 +1,7 @@
 -- Laws of heads: equal heads are equal prefixes, so the letter that goes on is found by two numbers; new letters leave the heads of the others.
 use Prim.Native.Nat.{ℕ, suc, _+_, _-_, _<_, _≤_}
-use mathlib.Core.Path.{_≡_, refl, sym, ap, ap₂, subst, _∙_}
-use mathlib.Core.Bool.{Bool, true, false, _&&_, and-true, and-false, and-assoc}
+use mathlib.Core.Path.{_≡_, refl, sym, ap, ap₂, _∙_}
+use mathlib.Core.Bool.{true, false, _&&_, and-true, and-false, and-assoc}
 use mathlib.Core.Logic.{_⊎_, inl, inr, ⊎-elim}
 use mathlib.Core.List.{List, [], _∷_, _++_}
 use native.Mathlib.Omega.{arith}
@@ -10,10 +10,10 @@ use lib.Seq.{getD-append-add}
 use lib.Dec.{eqb}
 use borrow.Author.Tests.{eqb-true, eq-eqb}
 use Rattle.lists.specs.Lists.{Among, same-list, lowest}
-use Rattle.lists.specs.AmongLaws.{among-at, among-index, among-append}
+use Rattle.lists.specs.AmongLaws.{among-at, among-index}
 use Rattle.lists.specs.LowestLaws.{lowest-found, lowest-some, lowest-is, lowest-most, lowest-same}
 use Rattle.lists.specs.OrderLaws.{never-true, same-truth, lt-or-le, not-both}
-use Rattle.lists.specs.SameLaws.{same-list-self, same-list-true, same-list-length}
+use Rattle.lists.specs.SameLaws.{same-list-self, same-list-true}
 use Rattle.wordlist.specs.PrefixTree.{Letter, whole, noLetter, letterAt, readAt}
 use Rattle.wordlist.specs.LettersLaws.{read-at, read-next, letter-among}
 use Rattle.wordlist_build.specs.Heads.{headOf, Present, Rooted, goesOn}

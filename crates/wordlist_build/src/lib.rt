@@ -3,7 +3,7 @@ use alphabet::count_labels;
 use numbers::either;
 use numbers::narrow_byte;
 ghost use mathlib.Core.Path.{_≡_};
-ghost use mathlib.Core.Bool.{_&&_, true, false};
+ghost use mathlib.Core.Bool.{_&&_, false};
 ghost use Prim.Native.Nat.{_+_, _<_, _≤_};
 ghost use lib.ListN.{length};
 ghost use lib.Dec.{eqb};

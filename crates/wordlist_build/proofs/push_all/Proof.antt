@@ -1,6 +1,6 @@
 -- `wordlist_build::push_all` meets its contract: the letters of the labels before x are there.
 use Prim.Native.Nat.{_≤_, _+_, _-_}
-use mathlib.Core.Path.{ap, ap₂, _∙_}
+use mathlib.Core.Path.{ap, _∙_}
 use native.Mathlib.Omega.{arith}
 use lib.ListN.{length}
 use denote.Ref.{now}

@@ -10,7 +10,7 @@ use Rattle.lists.specs.Lists.{lowest}
 use Rattle.lists.specs.LowestLaws.{lowest-most}
 use Rattle.alphabet.specs.Labels.{labels-of}
 use Rattle.alphabet.specs.LabelsLaws.{labels-few}
-use Rattle.wordlist_build.specs.Arrays.{Roomy, leadsOn, pushes, moved}
+use Rattle.wordlist_build.specs.Arrays.{Roomy, leadsOn, pushes}
 use Rattle.wordlist_build.specs.ArraysLaws.{roomy-pushes, roomy-moved}
 use Rattle.wordlist_build.specs.State.{State}
 use Rattle.wordlist_build.specs.StateLaws.{character-over, character-known, character-full, character-new}
