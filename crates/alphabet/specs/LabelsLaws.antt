@@ -39,11 +39,6 @@ module _ (A : List ℕ) where
       let r = labels-for v (h .1) in
       (suc (i .0) ∷ r .0, ((omega arith, omega arith), r .1), ap₂ _∷_ (ap (λ k. getD A k 0) e ∙ i .2) (r .2))
 
-  -- and what labels spell, the alphabet lists
-  pub spelt-listed : (w : List ℕ) → Each (Label A) w → Each (λ b. Among b A) (characters A w)
-  spelt-listed [] h = tt
-  spelt-listed (x ∷ w) h = let low = h .0 .0 in let high = h .0 .1 in (among-at 0 A (x - 1) (omega arith), spelt-listed w (h .1))
-
   module _ (c : ℕ) where
     -- the labels of a character are those that mean it
     pub label-of : (x : ℕ) → Among x (labels-of A c) ↔ (Label A x × (character A x ≡ c))

@@ -11,7 +11,7 @@ use Rattle.refusal.specs.declared.Refusal.the-variants.{Alphabet, TextLength, T
 use Rattle.refusal.specs.Verdict.{Verdict, Check, check, unless, if-passed}
 use Rattle.alphabet.specs.Alphabet.{is-alphabet}
 use Rattle.wordlist.specs.Words.{list-byte, words, list-fault, foreign}
-use Rattle.wordlist.specs.PrefixTree.{lettersOf, listForm}
+use Rattle.wordlist.specs.PrefixTree.{lettersIn, listForm}
 
 -- refusals 1, 2, 3, 21 and 8, in this order: "1 to 4,096 bytes in all and otherwise 2"
 abbrev pub list-checks : (A s : List ℕ) → List Check
@@ -25,7 +25,7 @@ list-checks A s =
 -- the form of the words, in this much memory, or refusals 9 and 10
 abbrev pub formed : (A : List ℕ) (room : ℕ) (ws : List (List ℕ)) → Verdict (List ℕ)
 formed A room ws =
-    unless (check (ltb 127 (length (lettersOf A ws))) Letters ∷ (check (ltb room (length (listForm A ws))) FormMemory ∷ [])) (listForm A ws)
+    unless (check (ltb 127 (length (lettersIn A ws))) Letters ∷ (check (ltb room (length (listForm A ws))) FormMemory ∷ [])) (listForm A ws)
 
 -- what CompileList fills, with this much room for the form
 unfoldable pub compile-list-call : (A s : List ℕ) (room : ℕ) → Verdict (List ℕ)

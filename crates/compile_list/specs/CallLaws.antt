@@ -15,8 +15,8 @@ use Rattle.refusal.specs.Verdict.{refused, Check, check, if-passed, first-refus
 use Rattle.refusal.specs.VerdictLaws.{first-holds, first-fails, first-passed, first-refused, first-all}
 use Rattle.alphabet.specs.Alphabet.{is-alphabet}
 use Rattle.alphabet.specs.AlphabetLaws.{alphabet-exactly}
-use Rattle.wordlist.specs.Words.{list-byte, words, list-fault, foreign}
-use Rattle.wordlist.specs.WordsLaws.{strange, fault-exactly, foreign-bytes}
+use Rattle.wordlist.specs.Words.{list-byte, words, list-fault, foreign, strange}
+use Rattle.wordlist.specs.WordsLaws.{fault-exactly, foreign-bytes}
 use Rattle.wordlist_build.specs.State.{Readable}
 use Rattle.compile_list.specs.Call.{list-checks, formed, compile-list-call}
 
@@ -91,7 +91,7 @@ module _ (A s : List ℕ) where
       record {
         alphabet = (size .0, size .1);
         bytes = range-true 1 4096 (length s) (not-false (in-range 1 4096 (length s)) (b .0));
-        readable = record { closed = d .0; known = f .0 };
+        readable = record { no-fault = d .0; no-foreign = f .0 };
       }
 
   module _ (room : ℕ) where

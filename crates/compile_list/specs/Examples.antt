@@ -14,7 +14,7 @@ use Rattle.automaton.specs.Form.{encode}
 use Rattle.text.specs.Bytes.{bytes}
 use Rattle.text_lines.specs.Lines.{onto, pieces, both, closed}
 use Rattle.wordlist.specs.Words.{repeated, list-fault, foreign}
-use Rattle.wordlist.specs.PrefixTree.{prefixesFrom, once, lettersOf, readAt, prefixTree}
+use Rattle.wordlist.specs.PrefixTree.{prefixesFrom, once, lettersIn, readAt, prefixTree}
 use Rattle.compile_list.specs.Call.{compile-list-call}
 
 -- an alphabet, a list, room for the form, the refusal (0: none) and the length of what is filled
@@ -48,7 +48,7 @@ cases =
     ∷ []
 
 computed : failing cases ≡ []
-unfolding failing meets said cases compile-list-call if-passed unless all any keep numbers flatMap encode onto pieces both closed repeated list-fault foreign prefixesFrom once lettersOf readAt prefixTree
+unfolding failing meets said cases compile-list-call if-passed unless all any keep numbers flatMap encode onto pieces both closed repeated list-fault foreign prefixesFrom once lettersIn readAt prefixTree
 computed = refl
 
 -- the number that is given for a list of bytes over the alphabet `ab`
@@ -59,13 +59,16 @@ number s = given (compile-list-call (bytes "ab") s 9)
     given (passed f) = 0
     given (refused n) = numberOf n
 
--- 4,096 bytes are no refusal 2, one more is; the bytes that are no refusal 3
-lengths : map (λ n. number (replicate n 97)) (0 ∷ 1 ∷ 4096 ∷ 4097 ∷ []) ≡ 2 ∷ 21 ∷ 21 ∷ 2 ∷ []
+-- 4,096 bytes are no refusal 2, one more is, whatever they are; 2 before 3
+lengths :
+    map (λ b. map (λ n. number (replicate n b)) (0 ∷ 1 ∷ 4096 ∷ 4097 ∷ [])) (97 ∷ 10 ∷ 9 ∷ [])
+    ≡ (2 ∷ 21 ∷ 21 ∷ 2 ∷ []) ∷ (2 ∷ 21 ∷ 21 ∷ 2 ∷ []) ∷ (2 ∷ 3 ∷ 3 ∷ 2 ∷ []) ∷ []
 unfolding number compile-list-call if-passed unless all any onto pieces both closed repeated list-fault
 lengths = refl
 
+-- which bytes are no refusal 3
 list-bytes : map (λ b. number (97 ∷ b ∷ [])) (0 ∷ 9 ∷ 10 ∷ 11 ∷ 13 ∷ 31 ∷ 32 ∷ 97 ∷ 126 ∷ 127 ∷ 128 ∷ 255 ∷ []) ≡ 3 ∷ 3 ∷ 0 ∷ 3 ∷ 3 ∷ 3 ∷ 21 ∷ 21 ∷ 21 ∷ 3 ∷ 3 ∷ 3 ∷ []
-unfolding number compile-list-call if-passed unless all any keep numbers flatMap encode onto pieces both closed repeated list-fault foreign prefixesFrom once lettersOf readAt prefixTree
+unfolding number compile-list-call if-passed unless all any keep numbers flatMap encode onto pieces both closed repeated list-fault foreign prefixesFrom once lettersIn readAt prefixTree
 list-bytes = refl
 
 form : String → String → Verdict (List ℕ)
@@ -92,5 +95,5 @@ record Forms : Type 0 where
       ≡ passed (0x10040005 ∷ 0x20000103 ∷ 0x20000201 ∷ 0x20000202 ∷ 0x20000104 ∷ 0x20000201 ∷ 0x30000102 ∷ 0x30000103 ∷ 0x30000405 ∷ [])
 
 forms : Forms
-unfolding form compile-list-call if-passed unless all any keep numbers flatMap encode onto pieces both closed repeated list-fault foreign prefixesFrom once lettersOf readAt prefixTree
+unfolding form compile-list-call if-passed unless all any keep numbers flatMap encode onto pieces both closed repeated list-fault foreign prefixesFrom once lettersIn readAt prefixTree
 forms = record { shared = refl; in-order = refl; two-shapes = refl; two-sevens = refl; levels = refl }

@@ -10,13 +10,13 @@ use Rattle.automaton.specs.Automaton.{Accepts}
 use Rattle.automaton.specs.Form.{validForm, view, lettersOf, alphabetOf}
 use Rattle.text_lines.specs.Lines.{linesOf}
 use Rattle.wordlist.specs.Words.{words}
-use Rattle.wordlist.specs.PrefixTree as tree
+use Rattle.wordlist.specs.PrefixTree.{lettersIn}
 use Rattle.wordlist.specs.Listed.{Listed}
 
 -- the form f is that of the list s over the alphabet A: valid, with its K and L, and with the words that are the lines of the list
 pub record ListMeans (A s f : List ℕ) : Type 0 where
   pub valid : validForm f ≡ true
   pub alphabet : alphabetOf f ≡ length A
-  pub letters : lettersOf f ≡ length (tree.lettersOf A (words s))
+  pub letters : lettersOf f ≡ length (lettersIn A (words s))
   pub lines : linesOf s ≡ some (words s)
   pub accepts : (w : List ℕ) → Accepts (view f) w ↔ Listed A (words s) w

@@ -20,31 +20,31 @@ use Rattle.form_encode.specs.Call.{form-call}
 use Rattle.form_encode.specs.PartsLaws.{told-form}
 use Rattle.wordlist.specs.Words.{words}
 use Rattle.wordlist.specs.WordsLaws.{none-empty}
-use Rattle.wordlist.specs.PrefixTree.{whole, prefixes, prefixesFrom, Letter, lettersOf, noLetter, letterAt, readAt, prefixTree, listForm}
+use Rattle.wordlist.specs.PrefixTree.{whole, prefixes, prefixesFrom, Letter, lettersIn, noLetter, letterAt, readAt, prefixTree, listForm}
 use Rattle.wordlist.specs.LettersLaws.{lettersBy, read-at, letter-among}
 use Rattle.wordlist_build.specs.declared.Trie.{Trie}
 use Rattle.wordlist_build.specs.Heads.{headOf}
 use Rattle.wordlist_build.specs.HeadsLaws.{head-nothing, heads-same, present-nothing, letter-present}
 use Rattle.wordlist_build.specs.Rows.{Row, noRow, entry}
-use Rattle.wordlist_build.specs.State.{soFar, rowOf, Shows, Readable, Builds}
-use Rattle.compile_list.specs.Rows.{RowAfter, RowsAfter}
+use Rattle.wordlist_build.specs.State.{lettersRead, rowOf, Shows, Readable, Builds}
+use Rattle.compile_list.specs.FollowRows.{RowAfter, RowsAfter}
 use Rattle.compile_list.specs.Call.{formed}
 
 eqb-turned : (a b : ℕ) → eqb a b ≡ eqb b a
 eqb-turned a b = same-truth (eqb a b) (eqb b a) (λ e. eq-eqb b a (sym (eqb-true a b e))) (λ e. eq-eqb a b (sym (eqb-true b a e)))
 
-pub tree-letters : (A : List ℕ) (ws : List (List ℕ)) → prefixTree A ws .letters ≡ length (lettersOf A ws)
+pub tree-letters : (A : List ℕ) (ws : List (List ℕ)) → prefixTree A ws .letters ≡ length (lettersIn A ws)
 unfolding prefixTree
 tree-letters A ws = refl
 
 -- after the last line the letters so far are all
-letters-all : (A : List ℕ) (ws : List (List ℕ)) → soFar A ws [] ≡ lettersOf A ws
-unfolding lettersOf prefixesFrom
+letters-all : (A : List ℕ) (ws : List (List ℕ)) → lettersRead A ws [] ≡ lettersIn A ws
+unfolding lettersIn prefixesFrom
 letters-all A ws = ap (lettersBy A) (append-nil (flatMap prefixes ws))
 
-module _ (A : List ℕ) (ws : List (List ℕ)) (t : Trie) (shows : Shows (lettersOf A ws) ws [] t) where
+module _ (A : List ℕ) (ws : List (List ℕ)) (t : Trie) (shows : Shows (lettersIn A ws) ws [] t) where
   abbrev ls : List Letter
-  ls = lettersOf A ws
+  ls = lettersIn A ws
 
   count : t .letters ≡ length ls
   count = shows .holds .count ∙ length-map ls (rowOf ls ws)
@@ -114,11 +114,11 @@ module _ (A s : List ℕ) (r : Readable A s) (t : Trie) (b : Builds A s t) (room
 
   pub too-many : 127 < t .letters → formed A room (words s) ≡ refused Letters
   too-many h =
-      unless-holds (listForm A (words s)) (ltb 127 (length (lettersOf A (words s)))) Letters (check (memory (listForm A (words s))) FormMemory ∷ [])
-      (lt-ltb 127 (length (lettersOf A (words s))) (subst (λ l. 127 < length l) (letters-all A (words s)) (b .state .over h)))
+      unless-holds (listForm A (words s)) (ltb 127 (length (lettersIn A (words s)))) Letters (check (memory (listForm A (words s))) FormMemory ∷ [])
+      (lt-ltb 127 (length (lettersIn A (words s))) (subst (λ l. 127 < length l) (letters-all A (words s)) (b .state .over h)))
 
   module _ (few : t .letters ≤ 127) (first : List Bool) (follow : List (List Bool)) (firsts : RowAfter (t .letters) (t .parents) 0 first) (rows : RowsAfter (t .letters) (t .parents) (t .heads) follow) where
-    shown : Shows (lettersOf A (words s)) (words s) [] t
+    shown : Shows (lettersIn A (words s)) (words s) [] t
     shown = subst (λ l. Shows l (words s) [] t) (letters-all A (words s)) (b .state .within few)
 
     pub written-form : form-call (length A) (arrayed (t .letters) false (t .labels) first (t .last) follow) room ≡ formed A room (words s)
@@ -126,7 +126,7 @@ module _ (A s : List ℕ) (r : Readable A s) (t : Trie) (b : Builds A s t) (room
     written-form =
         let n = count A (words s) t shown in
         let f = listForm A (words s) in
-        ap (λ f. unless (check (memory f) FormMemory ∷ []) f) (told A (words s) t shown (none-empty s (r .closed)) first follow firsts rows)
+        ap (λ f. unless (check (memory f) FormMemory ∷ []) f) (told A (words s) t shown (none-empty s (r .no-fault)) first follow firsts rows)
         ∙ sym
-        (unless-fails f (ltb 127 (length (lettersOf A (words s)))) Letters (check (memory f) FormMemory ∷ [])
-        (le-ltb 127 (length (lettersOf A (words s))) (omega arith)))
+        (unless-fails f (ltb 127 (length (lettersIn A (words s)))) Letters (check (memory f) FormMemory ∷ [])
+        (le-ltb 127 (length (lettersIn A (words s))) (omega arith)))

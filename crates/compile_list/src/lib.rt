@@ -14,10 +14,10 @@ ghost use Rattle.refusal.specs.Verdict.{first-refusal};
 ghost use Rattle.refusal.specs.Fills.{reported, Fills};
 ghost use Rattle.wordlist.specs.Words.{words};
 ghost use Rattle.wordlist_build.specs.State.{Readable};
-ghost use Rattle.compile_list.specs.Rows.{RowAfter, RowsAfter};
+ghost use Rattle.compile_list.specs.FollowRows.{RowAfter, RowsAfter};
 ghost use Rattle.compile_list.specs.Call.{list-checks, formed, compile-list-call};
 
-// Which letters follow those of this head: the letters before which the prefix of that head is read.
+// Which letters follow the letters of this head: those whose parent it is.
 fn row_after(letters: usize, parents: [u8; 127], head: u8) -> [bool; 127]
     requires { ⌜ letters ≤ 127 ⌝ }
     ensures { λ r. ⌜ RowAfter letters parents head r ⌝ }

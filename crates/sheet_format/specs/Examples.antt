@@ -12,10 +12,6 @@ use Rattle.matrix.specs.Matrix.{matrix}
 use Rattle.text_lines.specs.Lines.{onto, pieces, both, closed}
 use Rattle.sheet_format.specs.Sheet.{every, numeralOf, costOf, columnOf, Sheet, laid, sheetFrom, sheetOf, matrixOf}
 
-three-pieces : pieces 10 (bytes "a\nb\n") ≡ bytes "a" ∷ (bytes "b" ∷ ([] ∷ []))
-unfolding pieces onto
-three-pieces = refl
-
 -- document 01's sheet
 column : List ℕ
 column = 5 ∷ (1 ∷ (9 ∷ []))

@@ -3,3 +3,4 @@ pub mod LinesLaws
 pub mod Places
 pub mod PlacesLaws
 pub mod LinesLoops
+pub mod Examples

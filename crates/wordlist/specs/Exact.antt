@@ -15,13 +15,13 @@ use Rattle.lists.specs.SameLaws.{same-list-true, same-list-self}
 use Rattle.alphabet.specs.Labels.{Label, character, characters}
 use Rattle.automaton.specs.Automaton.{Walk, spelt, Accepts}
 use Rattle.automaton.specs.Proper.{Proper}
-use Rattle.wordlist.specs.PrefixTree.{whole, Letter, letterWith, lettersOf, noLetter, letterAt, readAt, prefixTree}
+use Rattle.wordlist.specs.PrefixTree.{whole, Letter, letterWith, lettersIn, noLetter, letterAt, readAt, prefixTree}
 use Rattle.wordlist.specs.Listed.{Listed}
 use Rattle.wordlist.specs.LettersLaws.{letters-exactly, read-at, letter-among}
 
 module _ (A : List ℕ) (ws : List (List ℕ)) where
   abbrev ls : List Letter
-  ls = lettersOf A ws
+  ls = lettersIn A ws
 
   -- a letter has a label of its prefix's last character
   letter-label : (j : ℕ) → 1 ≤ j → j ≤ length ls → Label A (letterAt ls j .label) × (character A (letterAt ls j .label) ≡ letterAt ls j .prefix .character)

@@ -12,8 +12,8 @@ use Rattle.lists.specs.AscendingLaws.{ascending-keep, ascending-numbers}
 use Rattle.lists.specs.DistinctLaws.{distinct-append}
 use Rattle.alphabet.specs.Labels.{Label, character, labels-of}
 use Rattle.alphabet.specs.LabelsLaws.{label-of}
-use Rattle.wordlist.specs.PrefixTree.{Prefix, whole, prefixes, once, prefixesOf, Letter, letterWith, lettersFor, lettersOf, noLetter, letterAt, readAt}
-use Rattle.wordlist.specs.PrefixesLaws.{prefixes-of-exactly, once-distinct, occurs, once-more}
+use Rattle.wordlist.specs.PrefixTree.{Prefix, whole, prefixes, once, prefixesOf, Letter, letterWith, lettersFor, lettersIn, noLetter, letterAt, readAt}
+use Rattle.wordlist.specs.PrefixesLaws.{prefixes-of-exactly, once-distinct, occurs, once-more, once-longer}
 
 -- the letters of a prefix, one for each label of its last character
 pub letters-for : (A : List ℕ) (p : Prefix) (z : Letter) → Among z (lettersFor A p) ↔ ((z .prefix ≡ p) × Label A (z .label) × (character A (z .label) ≡ p .character))
@@ -31,9 +31,9 @@ module _ (A : List ℕ) (ws : List (List ℕ)) where
   -- The letters are the prefixes of the words, each with every label of its last character.
   pub letters-exactly :
       (z : Letter)
-      → Among z (lettersOf A ws)
+      → Among z (lettersIn A ws)
       ↔ (((v : List ℕ) × Among (whole (z .prefix) ++ v) ws) × Label A (z .label) × (character A (z .label) ≡ z .prefix .character))
-  unfolding lettersOf
+  unfolding lettersIn
   letters-exactly z = (
     λ m.
         let r = flat-among (lettersFor A) z (prefixesOf ws) m in
@@ -71,8 +71,8 @@ distinct-letters A (p ∷ ps) h =
     each-among (λ (o : Prefix). p ≡ o → ⊥) (r .0) ps (h .0) (r .1) (sym q ∙ ap (λ (x : Letter). x .prefix) e ∙ s))
 
 -- "Shared beginnings use the same letters": no two letters have the same prefix and the same label.
-pub letters-distinct : (A : List ℕ) (ws : List (List ℕ)) → Distinct (lettersOf A ws)
-unfolding lettersOf
+pub letters-distinct : (A : List ℕ) (ws : List (List ℕ)) → Distinct (lettersIn A ws)
+unfolding lettersIn
 letters-distinct A ws = distinct-letters A (prefixesOf ws) (once-distinct (flatMap prefixes ws))
 
 -- the letters of the prefixes that have occurred
@@ -87,6 +87,15 @@ letters-more A q ps = ap (flatMap (lettersFor A)) (once-more q ps) ∙ by (occur
     by : (b : Bool) → flatMap (lettersFor A) (cond b (once ps) (once ps ++ (q ∷ []))) ≡ cond b (lettersBy A ps) (lettersBy A ps ++ lettersFor A q)
     by true = refl
     by false = flat-append (lettersFor A) (once ps) (q ∷ []) ∙ ap (λ l. lettersBy A ps ++ l) (flat-one (lettersFor A) q)
+
+-- Words at the end of a list change no number: the letters of the words before them are the first ones.
+pub letters-longer : (A : List ℕ) (ws vs : List (List ℕ)) → (new : List Letter) × (lettersIn A (ws ++ vs) ≡ lettersIn A ws ++ new)
+unfolding lettersIn
+letters-longer A ws vs =
+    let r = once-longer (flatMap prefixes vs) (flatMap prefixes ws) in (
+      flatMap (lettersFor A) (r .0),
+      ap (lettersBy A) (flat-append prefixes ws vs) ∙ ap (flatMap (lettersFor A)) (r .1) ∙ flat-append (lettersFor A) (prefixesOf ws) (r .0),
+    )
 
 -- what has been read at a letter
 module _ (ls : List Letter) where

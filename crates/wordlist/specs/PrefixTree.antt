@@ -52,8 +52,8 @@ abbrev pub lettersFor : List ℕ → Prefix → List Letter
 lettersFor A p = map (letterWith p) (labels-of A (p .character))
 
 -- the letters, by number
-unfoldable pub lettersOf : List ℕ → List (List ℕ) → List Letter
-lettersOf A ws = flatMap (lettersFor A) (prefixesOf ws)
+unfoldable pub lettersIn : List ℕ → List (List ℕ) → List Letter
+lettersIn A ws = flatMap (lettersFor A) (prefixesOf ws)
 
 -- what a letter past the last one counts as
 abbrev pub noLetter : Letter
@@ -70,7 +70,7 @@ readAt ls (suc i) = whole (letterAt ls (suc i) .prefix)
 -- A letter follows where its prefix goes on from what has been read; a word may end where what has been read is listed.
 unfoldable pub prefixTree : List ℕ → List (List ℕ) → Automaton
 prefixTree A ws =
-    let ls = lettersOf A ws in
+    let ls = lettersIn A ws in
     record {
       letters = length ls;
       label = λ j. letterAt ls j .label;

@@ -118,3 +118,17 @@ once-more q (p ∷ ps) = ap (λ l. p ∷ keep others l) (once-more q ps) ∙ by 
     by true false e = refl
     by false true e = ap (λ l. p ∷ l) (last true e ∙ append-nil (keep others (once ps)))
     by false false e = ap (λ l. p ∷ l) (last false e)
+
+-- More prefixes at the end leave the others where they are.
+pub once-longer : (qs ps : List Prefix) → (new : List Prefix) × (once (ps ++ qs) ≡ once ps ++ new)
+once-longer [] ps = ([], ap once (append-nil ps) ∙ sym (append-nil (once ps)))
+once-longer (q ∷ qs) ps = by (occurs q ps) (once-more q ps) (once-longer qs (ps ++ (q ∷ [])))
+  where
+    regrouped : once (ps ++ (q ∷ qs)) ≡ once ((ps ++ (q ∷ [])) ++ qs)
+    regrouped = ap once (sym (append-assoc ps (q ∷ []) qs))
+
+    by :
+        (t : Bool) → once (ps ++ (q ∷ [])) ≡ cond t (once ps) (once ps ++ (q ∷ []))
+        → ((new : List Prefix) × (once ((ps ++ (q ∷ [])) ++ qs) ≡ once (ps ++ (q ∷ [])) ++ new)) → (new : List Prefix) × (once (ps ++ (q ∷ qs)) ≡ once ps ++ new)
+    by true e r = (r .0, regrouped ∙ r .1 ∙ ap (λ l. l ++ r .0) e)
+    by false e r = (q ∷ r .0, regrouped ∙ r .1 ∙ ap (λ l. l ++ r .0) e ∙ append-assoc (once ps) (q ∷ []) (r .0))

@@ -1,6 +1,6 @@
 -- A word list as a text (document 02, T-05): its words, and which lists are turned away.
 use Prim.Native.Nat.{ℕ}
-use mathlib.Core.Bool.{Bool, false, not, _||_}
+use mathlib.Core.Bool.{Bool, false, not, _&&_, _||_}
 use mathlib.Core.List.{List, [], _∷_}
 use lib.ListN.{length}
 use lib.Dec.{eqb}
@@ -13,7 +13,7 @@ use Rattle.alphabet.specs.Labels.{labels-of}
 abbrev pub list-byte : ℕ → Bool
 list-byte b = eqb b 10 || in-range 32 126 b
 
--- the words of a list are its lines, each closed by a newline
+-- the words of a list are its lines; there are none where the last line is not closed by a newline
 abbrev pub words : List ℕ → List (List ℕ)
 words s = listed (linesOf s)
 
@@ -33,3 +33,7 @@ unlabelled A c = eqb (length (labels-of A c)) 0
 -- refusal 8: a word has such a character
 unfoldable pub foreign : List ℕ → List (List ℕ) → Bool
 foreign A ws = any (any (unlabelled A)) ws
+
+-- a byte that is no newline and has no label
+abbrev pub strange : List ℕ → ℕ → Bool
+strange A b = not (eqb b 10) && unlabelled A b

@@ -19,7 +19,7 @@ use Rattle.alphabet.specs.Labels.{labels-of}
 use Rattle.alphabet.specs.LabelsLaws.{labelled-exactly}
 use Rattle.text_lines.specs.Lines.{linesOf}
 use Rattle.text_lines.specs.LinesLaws.{lines-any}
-use Rattle.wordlist.specs.Words.{words, repeated, list-fault, unlabelled, foreign}
+use Rattle.wordlist.specs.Words.{words, repeated, list-fault, unlabelled, foreign, strange}
 
 repeated-exactly : (ws : List (List ℕ)) → (repeated ws ≡ false) ↔ Distinct ws
 unfolding repeated
@@ -96,10 +96,6 @@ foreign-exactly A ws = (
       let m = each-among (λ c. Among c A) (q .0) (r .0) (each-among (Each (λ c. Among c A)) (r .0) ws h (r .1)) (q .1) in
       not-both (unlabelled A (q .0)) (q .2) (unlabelled-exactly A (q .0) .1 m)),
 )
-
--- a byte that is no newline and has no label
-abbrev pub strange : List ℕ → ℕ → Bool
-strange A b = not (eqb b 10) && unlabelled A b
 
 -- refusal 8 by the bytes of the list
 pub foreign-bytes : (A s : List ℕ) → linesOf s ≡ some (words s) → foreign A (words s) ≡ any (strange A) s

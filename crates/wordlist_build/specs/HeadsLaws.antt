@@ -20,7 +20,7 @@ use Rattle.wordlist_build.specs.Heads.{headOf, Present, Rooted, goesOn}
 
 -- Lists with one element at their ends.
 
-pub last-nothing : (u : List ℕ) (c : ℕ) → same-list (u ++ (c ∷ [])) [] ≡ false
+last-nothing : (u : List ℕ) (c : ℕ) → same-list (u ++ (c ∷ [])) [] ≡ false
 last-nothing [] c = refl
 last-nothing (a ∷ u) c = refl
 

@@ -12,8 +12,8 @@ use Rattle.lists.specs.AmongLaws.{among-at, among-any}
 use Rattle.lists.specs.OrderLaws.{not-both, never-true, eq-or-ne}
 use Rattle.alphabet.specs.Labels.{labels-of}
 use Rattle.text_lines.specs.LinesLoops.{read-none, read-line, read-byte, read-all}
-use Rattle.wordlist.specs.Words.{words, unlabelled}
-use Rattle.wordlist.specs.WordsLaws.{fault-exactly, strange, foreign-bytes}
+use Rattle.wordlist.specs.Words.{words, unlabelled, strange}
+use Rattle.wordlist.specs.WordsLaws.{fault-exactly, foreign-bytes}
 use Rattle.wordlist.specs.PrefixTree.{prefixesFrom, once}
 use Rattle.wordlist_build.specs.declared.Trie.{Trie}
 use Rattle.wordlist_build.specs.Arrays.{Roomy}
@@ -40,7 +40,7 @@ pub byte-known : (A s : List ℕ) (i : ℕ) → Readable A s → i < length s �
 byte-known A s i r l =
     never-true (strange A (getD s i 0)) (λ e.
     not-both (any (strange A) s) (among-any (strange A) (getD s i 0) s (among-at 0 s i l) e)
-    (sym (foreign-bytes A s (fault-exactly s .0 (r .closed) .0)) ∙ r .known))
+    (sym (foreign-bytes A s (fault-exactly s .0 (r .no-fault) .0)) ∙ r .no-foreign))
 
 pub byte-labelled : (A : List ℕ) (b : ℕ) → strange A b ≡ false → (b ≡ 10 → ⊥) → 1 ≤ length (labels-of A b)
 byte-labelled A b e n =
@@ -73,5 +73,5 @@ reached-more A s i t r l h roomy reads =
 
 pub reached-all : (A s : List ℕ) (i : ℕ) (t : Trie) → length s ≤ i → Readable A s → Reached A s i t → Builds A s t
 reached-all A s i t l r h =
-    let q = read-all s i (h .lines) (h .begun) (words s) l (h .read) (fault-exactly s .0 (r .closed) .0) in
+    let q = read-all s i (h .lines) (h .begun) (words s) l (h .read) (fault-exactly s .0 (r .no-fault) .0) in
     record { roomy = h .roomy; state = subst (λ u. State A (words s) u t) (q .0) (subst (λ ws. State A ws (h .begun) t) (q .1) (h .state)) }

@@ -16,12 +16,12 @@ use Rattle.wordlist_build.specs.Heads.{headOf, Present, Rooted}
 use Rattle.wordlist_build.specs.Rows.{Row, Holds}
 
 -- the prefixes of the lines ws, and of what has been read of the next one
-abbrev pub passed : (ws : List (List ℕ)) (u : List ℕ) → List Prefix
-passed ws u = flatMap prefixes ws ++ prefixes u
+abbrev pub prefixesRead : (ws : List (List ℕ)) (u : List ℕ) → List Prefix
+prefixesRead ws u = flatMap prefixes ws ++ prefixes u
 
 -- and their letters
-abbrev pub soFar : (A : List ℕ) (ws : List (List ℕ)) (u : List ℕ) → List Letter
-soFar A ws u = lettersBy A (passed ws u)
+abbrev pub lettersRead : (A : List ℕ) (ws : List (List ℕ)) (u : List ℕ) → List Letter
+lettersRead A ws u = lettersBy A (prefixesRead ws u)
 
 -- what the arrays say of a letter
 abbrev pub rowOf : List Letter → List (List ℕ) → Letter → Row
@@ -42,8 +42,8 @@ pub record Shows (ls : List Letter) (ws : List (List ℕ)) (u : List ℕ) (t : T
 
 -- the arrays hold the letters so far, or these are more than 127
 pub record State (A : List ℕ) (ws : List (List ℕ)) (u : List ℕ) (t : Trie) : Type 0 where
-  pub within : t .letters ≤ 127 → Shows (soFar A ws u) ws u t
-  pub over : 127 < t .letters → 127 < length (soFar A ws u)
+  pub within : t .letters ≤ 127 → Shows (lettersRead A ws u) ws u t
+  pub over : 127 < t .letters → 127 < length (lettersRead A ws u)
 
 -- Whatever was read before: one character more, the end of the line, one byte more.
 
@@ -59,8 +59,8 @@ pub record ReadsByte (A : List ℕ) (b : ℕ) (t r : Trie) : Type 0 where
 
 -- a list that refusals 21 and 8 do not turn away
 pub record Readable (A s : List ℕ) : Type 0 where
-  pub closed : list-fault s ≡ false
-  pub known : foreign A (words s) ≡ false
+  pub no-fault : list-fault s ≡ false
+  pub no-foreign : foreign A (words s) ≡ false
 
 -- the bytes before place i have been read
 pub record Reached (A s : List ℕ) (i : ℕ) (t : Trie) : Type 0 where

@@ -22,7 +22,7 @@ use Rattle.wordlist_build.specs.ArraysLaws.{letters-pushes, holds-pushes
 use Rattle.wordlist_build.specs.Heads.{headOf, Present, Rooted, goesOn}
 use Rattle.wordlist_build.specs.HeadsLaws.{same-last, head-most, head-some, head-reads, head-nothing, heads-same, letter-present, head-on, head-more, present-more, head-new}
 use Rattle.wordlist_build.specs.Rows.{Row, entry, noRow, Holds, newRow}
-use Rattle.wordlist_build.specs.State.{passed, soFar, rowOf, Shows, State}
+use Rattle.wordlist_build.specs.State.{prefixesRead, lettersRead, rowOf, Shows, State}
 
 -- A prefix has occurred exactly if it has a head.
 module _ (A : List ℕ) (ps : List Prefix) (u : List ℕ) (c : ℕ) where
@@ -32,7 +32,7 @@ module _ (A : List ℕ) (ps : List Prefix) (u : List ℕ) (c : ℕ) where
   abbrev ls : List Letter
   ls = lettersBy A ps
 
-  pub known : 1 ≤ headOf ls (u ++ (c ∷ [])) → occurs next ps ≡ true
+  known : 1 ≤ headOf ls (u ++ (c ∷ [])) → occurs next ps ≡ true
   known s =
       let j = headOf ls (u ++ (c ∷ [])) in
       let z = letterAt ls j in
@@ -42,7 +42,7 @@ module _ (A : List ℕ) (ps : List Prefix) (u : List ℕ) (c : ℕ) where
       among-any (λ p. same-prefix p next) (z .prefix) ps (once-among (z .prefix) ps (subst (λ p. Among p (once ps)) (sym is) (r .1)))
       (sym (same-last (z .prefix .before) u (z .prefix .character) c) ∙ ap (λ v. same-list v (u ++ (c ∷ []))) read ∙ same-list-self (u ++ (c ∷ [])))
 
-  pub unknown : 1 ≤ length (labels-of A c) → headOf ls (u ++ (c ∷ [])) ≡ 0 → occurs next ps ≡ false
+  unknown : 1 ≤ length (labels-of A c) → headOf ls (u ++ (c ∷ [])) ≡ 0 → occurs next ps ≡ false
   unknown some z =
       never-true (occurs next ps) (λ e.
       let r = any-among (λ p. same-prefix p next) ps e in
@@ -58,17 +58,17 @@ module _ (A : List ℕ) (ps : List Prefix) (u : List ℕ) (c : ℕ) where
 
 -- The letters with one character more.
 module _ (ws : List (List ℕ)) (u : List ℕ) where
-  passed-more : (c : ℕ) → passed ws (u ++ (c ∷ [])) ≡ passed ws u ++ (record { before = u; character = c } ∷ [])
-  passed-more c =
+  read-more : (c : ℕ) → prefixesRead ws (u ++ (c ∷ [])) ≡ prefixesRead ws u ++ (record { before = u; character = c } ∷ [])
+  read-more c =
       ap (λ l. flatMap prefixes ws ++ l) (prefixes-more [] u c) ∙ sym (append-assoc (flatMap prefixes ws) (prefixes u) (record { before = u; character = c } ∷ []))
 
-  passed-line : passed (ws ++ (u ∷ [])) [] ≡ passed ws u
+  read-line : prefixesRead (ws ++ (u ∷ [])) [] ≡ prefixesRead ws u
   unfolding prefixesFrom
-  passed-line = append-nil (flatMap prefixes (ws ++ (u ∷ []))) ∙ flat-append prefixes ws (u ∷ []) ∙ ap (λ l. flatMap prefixes ws ++ l) (flat-one prefixes u)
+  read-line = append-nil (flatMap prefixes (ws ++ (u ∷ []))) ∙ flat-append prefixes ws (u ∷ []) ∙ ap (λ l. flatMap prefixes ws ++ l) (flat-one prefixes u)
 
 module _ (A : List ℕ) (ws : List (List ℕ)) (u : List ℕ) (c : ℕ) where
-  abbrev sofar : List Letter
-  sofar = soFar A ws u
+  abbrev old : List Letter
+  old = lettersRead A ws u
 
   abbrev prefix : Prefix
   prefix = record { before = u; character = c }
@@ -76,62 +76,62 @@ module _ (A : List ℕ) (ws : List (List ℕ)) (u : List ℕ) (c : ℕ) where
   abbrev longer : List ℕ
   longer = u ++ (c ∷ [])
 
-  more : soFar A ws longer ≡ cond (occurs prefix (passed ws u)) sofar (sofar ++ lettersFor A prefix)
-  more = ap (lettersBy A) (passed-more ws u c) ∙ letters-more A prefix (passed ws u)
+  more : lettersRead A ws longer ≡ cond (occurs prefix (prefixesRead ws u)) old (old ++ lettersFor A prefix)
+  more = ap (lettersBy A) (read-more ws u c) ∙ letters-more A prefix (prefixesRead ws u)
 
-  more-known : occurs prefix (passed ws u) ≡ true → soFar A ws longer ≡ sofar
-  more-known e = more ∙ ap (λ t. cond t sofar (sofar ++ lettersFor A prefix)) e
+  more-known : occurs prefix (prefixesRead ws u) ≡ true → lettersRead A ws longer ≡ old
+  more-known e = more ∙ ap (λ t. cond t old (old ++ lettersFor A prefix)) e
 
-  more-new : occurs prefix (passed ws u) ≡ false → soFar A ws longer ≡ sofar ++ lettersFor A prefix
-  more-new e = more ∙ ap (λ t. cond t sofar (sofar ++ lettersFor A prefix)) e
+  more-new : occurs prefix (prefixesRead ws u) ≡ false → lettersRead A ws longer ≡ old ++ lettersFor A prefix
+  more-new e = more ∙ ap (λ t. cond t old (old ++ lettersFor A prefix)) e
 
-  no-fewer : length sofar ≤ length (soFar A ws longer)
-  no-fewer = subst (λ l. length sofar ≤ length l) (sym more) (by (occurs prefix (passed ws u)))
+  no-fewer : length old ≤ length (lettersRead A ws longer)
+  no-fewer = subst (λ l. length old ≤ length l) (sym more) (by (occurs prefix (prefixesRead ws u)))
     where
-      by : (t : Bool) → length sofar ≤ length (cond t sofar (sofar ++ lettersFor A prefix))
+      by : (t : Bool) → length old ≤ length (cond t old (old ++ lettersFor A prefix))
       by true = omega arith
-      by false = omega (arith, length-append sofar (lettersFor A prefix))
+      by false = omega (arith, length-append old (lettersFor A prefix))
 
   -- there were too many before
   pub character-over : (t : Trie) → 127 < t .letters → State A ws u t → State A ws longer t
   character-over t h s = let o = s .over h in let m = no-fewer in record { within = λ l. absurd (omega arith); over = λ l. omega arith }
 
   -- the letter that leads on is the head of what is then read
-  found-head : (t : Trie) → Shows sofar ws u t → lowest (leadsOn t c) (t .letters) ≡ headOf sofar longer
+  found-head : (t : Trie) → Shows old ws u t → lowest (leadsOn t c) (t .letters) ≡ headOf old longer
   found-head t s =
-      let size = length-map sofar (rowOf sofar ws) in
-      let count : t .letters ≡ length sofar = s .holds .count ∙ size in
+      let size = length-map old (rowOf old ws) in
+      let count : t .letters ≡ length old = s .holds .count ∙ size in
       ap (lowest (leadsOn t c)) count
-      ∙ lowest-same (leadsOn t c) (length sofar) (goesOn sofar u c)
+      ∙ lowest-same (leadsOn t c) (length old) (goesOn old u c)
       (λ j l h.
-      let e = s .holds .at (j - 1) (omega arith) ∙ map-at (rowOf sofar ws) sofar (j - 1) noLetter noRow (omega arith) in
+      let e = s .holds .at (j - 1) (omega arith) ∙ map-at (rowOf old ws) old (j - 1) noLetter noRow (omega arith) in
       ap₂ _&&_ (ap₂ eqb (ap (λ (x : Row). x .parent) e) (s .place)) (ap (λ (x : Row). eqb (x .character) c) e))
-      ∙ head-on sofar u c (s .rooted) (s .here)
+      ∙ head-on old u c (s .rooted) (s .here)
 
   -- it is there
   pub character-known : (t : Trie) (j : ℕ) → t .letters ≤ 127 → j ≡ lowest (leadsOn t c) (t .letters) → 0 < j → State A ws u t → State A ws longer (moved t j)
   character-known t j few is some h =
       let s = h .within few in
-      let head : j ≡ headOf sofar longer = is ∙ found-head t s in
+      let head : j ≡ headOf old longer = is ∙ found-head t s in
       record {
-        within = λ l. subst (λ k. Shows k ws longer (moved t j)) (sym (more-known (known A (passed ws u) u c (omega arith))))
-            (record { holds = holds-moved t j (map (rowOf sofar ws) sofar) (s .holds); place = head; rooted = s .rooted; here = λ z. absurd (omega arith) });
+        within = λ l. subst (λ k. Shows k ws longer (moved t j)) (sym (more-known (known A (prefixesRead ws u) u c (omega arith))))
+            (record { holds = holds-moved t j (map (rowOf old ws) old) (s .holds); place = head; rooted = s .rooted; here = λ z. absurd (omega arith) });
         over = λ l. absurd (omega arith);
       }
 
   -- it is new
   module _ (t : Trie) (few : t .letters ≤ 127) (none : 0 ≡ lowest (leadsOn t c) (t .letters)) (some : 1 ≤ length (labels-of A c)) (h : State A ws u t) where
-    abbrev shown : Shows sofar ws u t
+    abbrev shown : Shows old ws u t
     shown = h .within few
 
-    head-zero : headOf sofar longer ≡ 0
+    head-zero : headOf old longer ≡ 0
     head-zero = sym (none ∙ found-head t shown)
 
-    is-new : occurs prefix (passed ws u) ≡ false
-    is-new = unknown A (passed ws u) u c some head-zero
+    is-new : occurs prefix (prefixesRead ws u) ≡ false
+    is-new = unknown A (prefixesRead ws u) u c some head-zero
 
-    count : t .letters ≡ length sofar
-    count = shown .holds .count ∙ length-map sofar (rowOf sofar ws)
+    count : t .letters ≡ length old
+    count = shown .holds .count ∙ length-map old (rowOf old ws)
 
     abbrev new : List Letter
     new = lettersFor A prefix
@@ -142,7 +142,7 @@ module _ (A : List ℕ) (ws : List (List ℕ)) (u : List ℕ) (c : ℕ) where
     -- and does not fit
     pub character-full : (r : Trie) → 127 < t .letters + length (labels-of A c) → r .letters ≡ 128 → State A ws longer r
     character-full r m e =
-        let size = length-append sofar new in
+        let size = length-append old new in
         let n = news in
         let k = count in
         record { within = λ l. absurd (omega arith); over = λ l. subst (λ l. 127 < length l) (sym (more-new is-new)) (omega arith) }
@@ -154,11 +154,11 @@ module _ (A : List ℕ) (ws : List (List ℕ)) (u : List ℕ) (c : ℕ) where
         let r = any-among (same-list longer) ws e in
         let w = same-list-true longer (r .0) (r .2) in
         let m = among-flat prefixes (r .0) prefix ws (r .1) (subst (λ v. Among prefix (prefixes v)) w (among-prefixes [] u [] c)) in
-        not-both (occurs prefix (passed ws u))
-        (among-any (λ p. same-prefix p prefix) prefix (passed ws u) (among-left prefix (flatMap prefixes ws) (prefixes u) m) (same-prefix-self prefix)) is-new)
+        not-both (occurs prefix (prefixesRead ws u))
+        (among-any (λ p. same-prefix p prefix) prefix (prefixesRead ws u) (among-left prefix (flatMap prefixes ws) (prefixes u) m) (same-prefix-self prefix)) is-new)
 
     abbrev grown : List Letter
-    grown = sofar ++ new
+    grown = old ++ new
 
     new-prefix : (z : Letter) → Among z new → z .prefix ≡ prefix
     new-prefix z m = letters-for A prefix z .0 m .0
@@ -166,14 +166,14 @@ module _ (A : List ℕ) (ws : List (List ℕ)) (u : List ℕ) (c : ℕ) where
     head-next : headOf grown longer ≡ t .letters + 1
     head-next =
         let n = news in
-        head-new sofar new longer head-zero (omega arith) (λ z m. ap whole (new-prefix z m)) ∙ ap (λ n. n + 1) (sym count)
+        head-new old new longer head-zero (omega arith) (λ z m. ap whole (new-prefix z m)) ∙ ap (λ n. n + 1) (sym count)
 
-    old-rows : map (rowOf grown ws) sofar ≡ map (rowOf sofar ws) sofar
+    old-rows : map (rowOf grown ws) old ≡ map (rowOf old ws) old
     old-rows =
-        map-same (rowOf grown ws) (rowOf sofar ws) sofar (λ z m.
+        map-same (rowOf grown ws) (rowOf old ws) old (λ z m.
         ap₂ (λ p h. record { label = z .label; character = z .prefix .character; parent = p; head = h; last = any (same-list (whole (z .prefix))) ws })
-        (head-more sofar new (z .prefix .before) (shown .rooted z m))
-        (head-more sofar new (whole (z .prefix)) (letter-present sofar z m)))
+        (head-more old new (z .prefix .before) (shown .rooted z m))
+        (head-more old new (whole (z .prefix)) (letter-present old z m)))
 
     new-rows : map (rowOf grown ws) new ≡ map (newRow c (t .at) (t .letters + 1)) (labels-of A c)
     new-rows =
@@ -182,15 +182,15 @@ module _ (A : List ℕ) (ws : List (List ℕ)) (u : List ℕ) (c : ℕ) where
       where
         row : (x : ℕ) → rowOf grown ws (letterWith prefix x) ≡ newRow c (t .at) (t .letters + 1) x
         row x =
-            let p : headOf grown u ≡ t .at = head-more sofar new u (shown .here) ∙ sym (shown .place) in
+            let p : headOf grown u ≡ t .at = head-more old new u (shown .here) ∙ sym (shown .place) in
             ap (λ e. record { label = x; character = c; parent = headOf grown u; head = headOf grown longer; last = e }) no-end
             ∙ ap₂ (λ p h. record { label = x; character = c; parent = p; head = h; last = false }) p head-next
 
     still-rooted : Rooted grown
     still-rooted z m =
-        ⊎-elim (λ o. present-more sofar new (z .prefix .before) (shown .rooted z o))
-        (λ n. subst (λ (p : Prefix). Present grown (p .before)) (sym (new-prefix z n)) (present-more sofar new u (shown .here)))
-        (among-append z sofar new m)
+        ⊎-elim (λ o. present-more old new (z .prefix .before) (shown .rooted z o))
+        (λ n. subst (λ (p : Prefix). Present grown (p .before)) (sym (new-prefix z n)) (present-more old new u (shown .here)))
+        (among-append z old new m)
 
     -- its letters come after the others
     pub character-new :
@@ -203,8 +203,8 @@ module _ (A : List ℕ) (ws : List (List ℕ)) (u : List ℕ) (c : ℕ) where
               (record {
                 holds =
                     holds-moved after (t .letters + 1) (map (rowOf grown ws) grown)
-                    (subst (Holds after) (sym (map-append (rowOf grown ws) sofar new ∙ ap₂ _++_ old-rows new-rows))
-                    (holds-pushes t (map (rowOf sofar ws) sofar) c (t .letters + 1) (labels-of A c) roomy fits (shown .holds)));
+                    (subst (Holds after) (sym (map-append (rowOf grown ws) old new ∙ ap₂ _++_ old-rows new-rows))
+                    (holds-pushes t (map (rowOf old ws) old) c (t .letters + 1) (labels-of A c) roomy fits (shown .holds)));
                 place = sym head-next;
                 rooted = still-rooted;
                 here = λ z. let e = head-next in absurd (omega arith);
@@ -214,14 +214,14 @@ module _ (A : List ℕ) (ws : List (List ℕ)) (u : List ℕ) (c : ℕ) where
 
 -- The end of a line.
 module _ (A : List ℕ) (ws : List (List ℕ)) (u : List ℕ) where
-  line-letters : soFar A (ws ++ (u ∷ [])) [] ≡ soFar A ws u
-  line-letters = ap (lettersBy A) (passed-line ws u)
+  line-letters : lettersRead A (ws ++ (u ∷ [])) [] ≡ lettersRead A ws u
+  line-letters = ap (lettersBy A) (read-line ws u)
 
   pub line-over : (t : Trie) → 127 < t .letters → State A ws u t → State A (ws ++ (u ∷ [])) [] t
   line-over t h s = record { within = λ l. absurd (omega arith); over = λ l. subst (λ l. 127 < length l) (sym line-letters) (s .over h) }
 
   -- with the marks that end a word
-  abbrev pub ended : Trie → List Bool → Trie
+  abbrev ended : Trie → List Bool → Trie
   ended t marks = record {
     letters = t .letters;
     at = 0;
@@ -234,7 +234,7 @@ module _ (A : List ℕ) (ws : List (List ℕ)) (u : List ℕ) where
 
   module _ (t : Trie) (marks : List Bool) (few : t .letters ≤ 127) (marked : MarksEnds (t .letters) (t .heads) (t .last) (t .at) marks) (s : State A ws u t) where
     abbrev all : List Letter
-    all = soFar A ws u
+    all = lettersRead A ws u
 
     abbrev shows : Shows all ws u t
     shows = s .within few

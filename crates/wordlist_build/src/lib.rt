@@ -10,13 +10,14 @@ ghost use lib.Dec.{eqb};
 ghost use Rattle.lists.specs.Memory.{old};
 ghost use Rattle.lists.specs.Lists.{lowest};
 ghost use Rattle.alphabet.specs.Labels.{labels-of};
-ghost use Rattle.wordlist.specs.WordsLaws.{strange};
+ghost use Rattle.wordlist.specs.Words.{strange};
 ghost use Rattle.wordlist_build.specs.Arrays.{Roomy, leadsOn, pushed, pushes, if-label, moved, MarksEnds};
 ghost use Rattle.wordlist_build.specs.State.{ReadsCharacter, EndsLine, ReadsByte, Readable, Builds};
 
-// For each letter its label, the character that the label means, the head of what is before it, the head of its own prefix, and whether a
-// word ends with it. The head of a prefix is the number of its first letter, 0 for none. `at` is the head of what has been read of the line.
-// Over 127 letters `letters` is 128, and the arrays mean nothing.
+// The prefix tree in arrays: for each letter its label, the character that the label means, its parent, which is the head of what is before
+// it, the head of its own prefix, and whether a word ends with it. The head of a prefix is the number of its first letter, 0 for the empty
+// prefix. `at` is the head of what has been read of the line. If there are more than 127 letters, so says `letters`, and the arrays mean
+// nothing.
 pub struct Trie {
     pub letters: usize,
     pub at: u8,

@@ -14,8 +14,7 @@ use Rattle.refusal.specs.Verdict.{passed, first-refusal}
 use Rattle.refusal.specs.VerdictLaws.{first-fails}
 use Rattle.refusal.specs.Report.{Report}
 use Rattle.automaton.specs.Automaton.{Accepts}
-use Rattle.automaton.specs.Form.{validForm, view, alphabetOf}
-use Rattle.automaton.specs.Form as form
+use Rattle.automaton.specs.Form.{validForm, view, lettersOf, alphabetOf}
 use Rattle.matrix.specs.Matrix.{Matrix}
 use Rattle.outcome.specs.Outcome.{Outcome}
 use Rattle.outcome.specs.OutcomeLaws.{outcome-same}
@@ -29,7 +28,7 @@ use Rattle.decode_valid.specs.Kept.{Kept}
 use Rattle.decode_valid.specs.DemandLaws.{answers-as-demanded, none-exactly, rival-reads}
 use Rattle.decode.specs.Promise.{Decodes}
 use Rattle.wordlist.specs.Words.{words}
-use Rattle.wordlist.specs.PrefixTree.{lettersOf}
+use Rattle.wordlist.specs.PrefixTree.{lettersIn}
 use Rattle.wordlist.specs.Listed.{Listed}
 use Rattle.compile_list.specs.Call.{compile-list-call}
 use Rattle.compile_list.specs.Means.{ListMeans}
@@ -48,14 +47,14 @@ module _ (A s : List ℕ) (room : ℕ) (f : List ℕ) (compiles : compile-list-c
 
   -- Demand 1: the form is never turned away, and the other checks go by the alphabet and the list's letters.
   pub list-checks-matrix :
-      (M : Matrix) (r : Rooms) → first-refusal (decode-checks f M r) ≡ first-refusal (matrix-checks (length A) (length (lettersOf A (words s))) M r)
+      (M : Matrix) (r : Rooms) → first-refusal (decode-checks f M r) ≡ first-refusal (matrix-checks (length A) (length (lettersIn A (words s))) M r)
   list-checks-matrix M r =
-      first-fails (not (validForm f)) BadForm (matrix-checks (alphabetOf f) (form.lettersOf f) M r) (ap not (means .valid))
+      first-fails (not (validForm f)) BadForm (matrix-checks (alphabetOf f) (lettersOf f) M r) (ap not (means .valid))
       ∙ ap₂ (λ k l. first-refusal (matrix-checks k l M r)) (means .alphabet) (means .letters)
 
   module _ (M : Matrix) (before after : Lent) (answer : Report) (decodes : Decodes f M before after answer) where
     abbrev letters : ℕ
-    letters = length (lettersOf A (words s))
+    letters = length (lettersIn A (words s))
 
     module _ (passes : first-refusal (matrix-checks (length A) letters M (rooms before)) ≡ Passed) where
       -- past the checks Decode answers by the listed words

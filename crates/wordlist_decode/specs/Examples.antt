@@ -1,4 +1,4 @@
--- A line read with a list of levels and collars: column by column the cheapest labels are `C2`, which is not listed.
+-- Lines read with word lists: of levels and collars, where the cheapest labels column by column are not listed; and of two sevens.
 use Prim.Native.Nat.{ℕ}
 use mathlib.Core.Path.{_≡_, refl}
 use mathlib.Core.Option.{some, none}
@@ -19,12 +19,12 @@ use Rattle.outcome.specs.Exhaustive.{over, exhaustive, usable, decided, decided
 use Rattle.text.specs.Bytes.{bytes}
 use Rattle.text_lines.specs.Lines.{onto, pieces, both, closed}
 use Rattle.wordlist.specs.Words.{words, repeated, list-fault, foreign}
-use Rattle.wordlist.specs.PrefixTree.{prefixesFrom, once, lettersOf, readAt, prefixTree}
+use Rattle.wordlist.specs.PrefixTree.{prefixesFrom, once, lettersIn, readAt, prefixTree}
 use Rattle.wordlist.specs.Listed.{Listed}
 use Rattle.compile_list.specs.Call.{compile-list-call}
 use Rattle.wordlist_decode.specs.Demands.{listed-outcome}
 
--- over `12LC`, the levels L1 and L2, and the collar C1
+-- over `12LC`, where the cheapest labels are those of C2: the levels L1 and L2, and the collar C1
 abbrev A : List ℕ
 A = bytes "12LC"
 
@@ -35,7 +35,7 @@ abbrev form : List ℕ
 form = 0x10040005 ∷ 0x20000103 ∷ 0x20000201 ∷ 0x20000202 ∷ 0x20000104 ∷ 0x20000201 ∷ 0x30000102 ∷ 0x30000103 ∷ 0x30000405 ∷ []
 
 compiled : compile-list-call A list 9 ≡ passed form
-unfolding compile-list-call if-passed unless all any keep numbers flatMap encode onto pieces both closed repeated list-fault foreign prefixesFrom once lettersOf readAt prefixTree
+unfolding compile-list-call if-passed unless all any keep numbers flatMap encode onto pieces both closed repeated list-fault foreign prefixesFrom once lettersIn readAt prefixTree
 compiled = refl
 
 -- two columns, each with the costs of blank, 1, 2, L and C
@@ -62,3 +62,25 @@ nothing =
     let d = accepts-decides (view form) 4 (view-proper form refl) in
     listed-outcome A list 9 form compiled short none .0
     (decided-outcome short (Accepts (view form)) (accepts (view form)) (λ w. d w .0) (λ w. d w .1))
+
+-- "A crossed and a plain 7 side by side are two sevens without a blank" (document 02, T-07): over `7a7` the labels of 7 are 1 and 3.
+abbrev sevens : List ℕ
+sevens = 0x10030004 ∷ 0x20000101 ∷ 0x20000103 ∷ 0x20000201 ∷ 0x20000203 ∷ 0x30000103 ∷ 0x30000104 ∷ 0x30000203 ∷ 0x30000204 ∷ []
+
+two-sevens : compile-list-call (bytes "7a7") (bytes "77\n") 9 ≡ passed sevens
+unfolding compile-list-call if-passed unless all any keep numbers flatMap encode onto pieces both closed repeated list-fault foreign prefixesFrom once lettersIn readAt prefixTree
+two-sevens = refl
+
+-- two columns, each with the costs of blank, 7, a and 7
+abbrev pair : Matrix
+pair = matrix (9 ∷ 0 ∷ 9 ∷ 2 ∷ 9 ∷ 0 ∷ 9 ∷ 3 ∷ []) 4 2
+
+pair-accepted : Outcome (Accepts (view sevens)) pair (some (3 ∷ 1 ∷ []))
+unfolding decided exhaustive over better preferred not-after usable collapse merge without-blanks spells any numbers followOf endsOf validForm ordered all
+pair-accepted =
+    let d = accepts-decides (view sevens) 3 (view-proper sevens refl) in
+    decided-outcome pair (Accepts (view sevens)) (accepts (view sevens)) (λ w. d w .0) (λ w. d w .1)
+
+-- 3 1 for 2; 1 3 is 3, and 1 1, one seven, would be 0
+pair-read : Outcome (Listed (bytes "7a7") (words (bytes "77\n"))) pair (some (3 ∷ 1 ∷ []))
+pair-read = listed-outcome (bytes "7a7") (bytes "77\n") 9 sevens two-sevens pair (some (3 ∷ 1 ∷ [])) .0 pair-accepted

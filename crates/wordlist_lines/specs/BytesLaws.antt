@@ -7,8 +7,7 @@ use lib.Dec.{leb}
 use borrow.Author.Tests.{eq-eqb, ne-eqb, le-leb}
 use Rattle.lists.specs.Lists.{in-range}
 use Rattle.lists.specs.RangeLaws.{range-below}
-use Rattle.wordlist.specs.Words.{list-byte, unlabelled}
-use Rattle.wordlist.specs.WordsLaws.{strange}
+use Rattle.wordlist.specs.Words.{list-byte, unlabelled, strange}
 
 module _ (b : ℕ) where
   pub byte-newline : b ≡ 10 → true ≡ list-byte b

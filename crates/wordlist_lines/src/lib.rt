@@ -5,8 +5,7 @@ ghost use mathlib.Core.Path.{_≡_};
 ghost use Rattle.lists.specs.Memory.{old};
 ghost use Rattle.lists.specs.Lists.{any};
 ghost use Rattle.lists.specs.Each.{all};
-ghost use Rattle.wordlist.specs.Words.{list-byte, list-fault};
-ghost use Rattle.wordlist.specs.WordsLaws.{strange};
+ghost use Rattle.wordlist.specs.Words.{list-byte, list-fault, strange};
 ghost use Rattle.wordlist_lines.specs.Again.{Again};
 
 // A newline, or 32 to 126?

@@ -5,7 +5,7 @@ use mathlib.Core.Bool.{false}
 use native.Mathlib.Omega.{arith}
 use lib.ListN.{replicate}
 use Rattle.lists.specs.UptoLoops.{Upto, upto-none, upto-set}
-use Rattle.compile_list.specs.Rows.{Follows}
+use Rattle.compile_list.specs.FollowRows.{Follows}
 use Rattle.compile_list.proofs.row_after.Statement.{statement}
 use Rattle.compile_list.proofs.row_after.Tie as tie
 

@@ -6,7 +6,7 @@ use native.Mathlib.Omega.{arith}
 use lib.ListN.{length}
 use borrow.Author.Needs.{needs}
 use Rattle.lists.specs.UptoLoops.{Upto, upto-none, upto-set}
-use Rattle.compile_list.specs.Rows.{Followers}
+use Rattle.compile_list.specs.FollowRows.{Followers}
 use Rattle.compile_list.proofs.rows_after.Statement.{statement}
 use Rattle.compile_list.proofs.rows_after.Tie as tie
 

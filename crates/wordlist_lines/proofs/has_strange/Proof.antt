@@ -7,7 +7,7 @@ use denote.Ref.{now}
 use borrow.Author.Needs.{needs}
 use Rattle.lists.specs.Lists.{any}
 use Rattle.lists.specs.AmongLaws.{any-more, any-found, any-end}
-use Rattle.wordlist.specs.WordsLaws.{strange}
+use Rattle.wordlist.specs.Words.{strange}
 use Rattle.wordlist_lines.proofs.has_strange.Statement.{statement}
 use Rattle.wordlist_lines.proofs.has_strange.Tie as tie
 

@@ -1,4 +1,4 @@
--- The letters that follow those of a head, as rows of truth values, one for each letter.
+-- The letters that follow the letters of a head, as rows of truth values. The parent of a letter is the head of what is before it.
 use Prim.Native.Nat.{ℕ, _<_}
 use mathlib.Core.Path.{_≡_}
 use mathlib.Core.Bool.{Bool, false}
@@ -6,7 +6,7 @@ use mathlib.Core.List.{List, []}
 use lib.ListN.{length, getD}
 use lib.Dec.{eqb}
 
--- the letters before which the prefix of this head is read
+-- the letters whose parent is this head
 pub record RowAfter (letters : ℕ) (parents : List ℕ) (head : ℕ) (row : List Bool) : Type 0 where
   pub size : length row ≡ 127
   pub at : (i : ℕ) → i < letters → getD row i false ≡ eqb (getD parents i 0) head
