@@ -9,9 +9,9 @@ use lib.ListN.{length, getD}
 use lib.Dec.{eqb}
 use borrow.Author.Tests.{eq-eqb, eqb-true}
 use Rattle.lists.specs.Each.{Each}
-use Rattle.lists.specs.Lists.{Among, keep, keeping, numbers}
+use Rattle.lists.specs.Lists.{Among, keep, keeping, numbers, Ascending}
 use Rattle.lists.specs.AmongLaws.{among-keep, keep-among, keep-shorter, keeping-length, among-at, among-index}
-use Rattle.lists.specs.AscendingLaws.{among-numbers, numbers-among, length-numbers}
+use Rattle.lists.specs.AscendingLaws.{among-numbers, numbers-among, length-numbers, ascending-keep, ascending-numbers}
 use Rattle.lists.specs.RemainingLoops.{from, from-first, keep-here, keep-past}
 use Rattle.alphabet.specs.Labels.{Label, character, characters, labels-of}
 
@@ -28,6 +28,10 @@ module _ (A : List ℕ) where
         let high = h .0 .1 in
         among-keep (λ y. p (character A y)) x (numbers 1 (length A)) (among-numbers 1 (length A) x (h .0 .0) (omega arith)) (h .1),
   )
+
+  -- each once, ascending
+  pub labels-in-order : (p : ℕ → Bool) → Ascending (keep (λ y. p (character A y)) (numbers 1 (length A)))
+  labels-in-order p = ascending-keep (λ y. p (character A y)) (numbers 1 (length A)) (ascending-numbers 1 (length A))
 
   -- characters that the alphabet lists are spelt by some labels
   pub labels-for : (v : List ℕ) → Each (λ b. Among b A) v → (w : List ℕ) × Each (Label A) w × (characters A w ≡ v)

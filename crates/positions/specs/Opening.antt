@@ -4,11 +4,8 @@ use mathlib.Core.Path.{_≡_, refl, ap}
 use mathlib.Core.Logic.{inl, inr, _↔_}
 use mathlib.Core.List.{List, [], _∷_}
 use native.Mathlib.Omega.{arith}
-use lib.ListN.{length}
-use Rattle.lists.specs.Lists.{Among, numbers, Ascending}
-use Rattle.lists.specs.AscendingLaws.{ascending-keep, ascending-numbers}
-use Rattle.alphabet.specs.Labels.{character}
-use Rattle.alphabet.specs.LabelsLaws.{labels-exactly}
+use Rattle.lists.specs.Lists.{Among, Ascending}
+use Rattle.alphabet.specs.LabelsLaws.{labels-exactly, labels-in-order}
 use Rattle.regex.specs.Tree.{Set, Count, between, onward, Tree, set, group, times, join, either, member, Allows, Joined, HasLabel, Words}
 use Rattle.regex.specs.OwnCountsLaws.{InRange}
 use Rattle.regex.specs.SenseLaws.{Sensible}
@@ -34,7 +31,7 @@ labels-in A c x = labels-exactly A (member c) x
 
 -- in label order, each once
 pub labels-ascending : (A : List ℕ) (c : Set) → Ascending (labelsIn A c)
-labels-ascending A c = ascending-keep (λ x. member c (character A x)) (numbers 1 (length A)) (ascending-numbers 1 (length A))
+labels-ascending A c = labels-in-order A (member c)
 
 -- Repetitions. Joined words of a set are joined words of each larger set.
 joined-map : (P Q : List ℕ → Type 0) → ((w : List ℕ) → P w → Q w) → (k : ℕ) (w : List ℕ) → Joined P k w → Joined Q k w

@@ -6,12 +6,12 @@ use mathlib.Core.Logic.{_↔_}
 use mathlib.Core.List.{List, [], _∷_, _++_, map, flatMap}
 use native.Mathlib.Omega.{arith}
 use lib.ListN.{length, getD}
-use Rattle.lists.specs.Lists.{Among, numbers, Ascending, Distinct}
+use lib.Dec.{eqb}
+use Rattle.lists.specs.Lists.{Among, Ascending, Distinct}
 use Rattle.lists.specs.AmongLaws.{among-at, among-each, each-among, among-map, map-among, among-flat, flat-among, flat-append, flat-one}
-use Rattle.lists.specs.AscendingLaws.{ascending-keep, ascending-numbers}
 use Rattle.lists.specs.DistinctLaws.{distinct-append}
 use Rattle.alphabet.specs.Labels.{Label, character, labels-of}
-use Rattle.alphabet.specs.LabelsLaws.{label-of}
+use Rattle.alphabet.specs.LabelsLaws.{label-of, labels-in-order}
 use Rattle.wordlist.specs.PrefixTree.{Prefix, whole, prefixes, once, prefixesOf, Letter, letterWith, lettersFor, lettersIn, noLetter, letterAt, readAt}
 use Rattle.wordlist.specs.PrefixesLaws.{prefixes-of-exactly, once-distinct, occurs, once-more, once-longer}
 
@@ -62,7 +62,7 @@ unfolding flatMap
 distinct-letters A [] h = tt
 distinct-letters A (p ∷ ps) h =
     distinct-append (lettersFor A p) (flatMap (lettersFor A) ps)
-    (ascending-letters p (labels-of A (p .character)) (ascending-keep _ (numbers 1 (length A)) (ascending-numbers 1 (length A))))
+    (ascending-letters p (labels-of A (p .character)) (labels-in-order A (λ b. eqb b (p .character))))
     (distinct-letters A ps (h .1))
     (λ y z m n e.
     let r = flat-among (lettersFor A) z ps n in
