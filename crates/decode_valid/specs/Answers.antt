@@ -1,4 +1,4 @@
--- What Decode and Read answer past their checks (demand 3), for any set of words; and what a refusal by the checks gives and leaves.
+-- What Decode and Read answer past their checks (demand 3), for any set of words.
 use Prim.Native.Nat.{ℕ}
 use mathlib.Core.Path.{_≡_}
 use mathlib.Core.Option.{Option, some, none}
@@ -6,8 +6,6 @@ use mathlib.Core.List.{List, []}
 use lib.ListN.{length, drop}
 use Rattle.lists.specs.Memory.{written}
 use Rattle.refusal.specs.declared.Refusal.the-variants.{NoReading}
-use Rattle.refusal.specs.declared.Checked.{Checked}
-use Rattle.refusal.specs.declared.Checked.the-variants.{Passed, Refused}
 use Rattle.refusal.specs.Report.{Report, turned-away}
 use Rattle.answers.specs.Decoded.{read}
 use Rattle.ctc.specs.Collapse.{collapse}
@@ -46,11 +44,6 @@ pub record Answers (Word : List ℕ → Type 0) (spelt : List ℕ → List ℕ) 
   pub word : after .word ≡ written (word-of spelt outcome) (before .word)
   pub work : drop need (after .work) ≡ drop need (before .work)
   pub size : length (after .work) ≡ length (before .work)
-
--- A refusal by the checks gives its number and zeros, and leaves all memory as it was. What passes them gets the answer of `Passes`.
-abbrev pub Checks : Checked → (Passes : (before after : Lent) (answer : Report) → Type 0) (before after : Lent) (answer : Report) → Type 0
-Checks (Refused n) Passes before after answer = (answer ≡ turned-away n) × (after ≡ before)
-Checks Passed Passes before after answer = Passes before after answer
 
 -- what Decode answers past its checks
 abbrev pub DecodeAnswers : (form : List ℕ) (M : Matrix) (before after : Lent) (answer : Report) → Type 0

@@ -1,4 +1,4 @@
--- The lengths that the calls report fit in 32 bits.
+-- The lengths and the difference that the calls report fit in 32 bits.
 use Prim.Native.Nat.{ℕ, _*_, _^_, _<_, _≤_}
 use mathlib.Core.Path.{_≡_, refl, ap}
 use mathlib.Core.Bool.{Bool, true, false, not, _||_}
@@ -8,19 +8,24 @@ use native.Mathlib.Nat.{mul-le-mul}
 use native.Mathlib.Omega.{arith}
 use lib.ListN.{length, length-append, length-map}
 use lib.Dec.{ltb}
+use lib.IntN.{pos, _-ℤ_}
+use mir.Syntax.{w32}
+use mir.Val.{SFits}
 use borrow.Author.Tests.{ltb-false}
 use Rattle.lists.specs.Lists.{in-range, keep, numbers}
 use Rattle.lists.specs.Each.{all}
 use Rattle.lists.specs.OrderLaws.{or-neither}
 use Rattle.lists.specs.AmongLaws.{keep-shorter, flat-length}
 use Rattle.lists.specs.AscendingLaws.{length-numbers}
+use Rattle.numbers.specs.SignedLaws.{size-fits, difference-fits}
 use Rattle.refusal.specs.declared.Refusal.{Refusal}
 use Rattle.refusal.specs.declared.Refusal.the-variants.{BadForm, OutputMemory, Label}
 use Rattle.refusal.specs.declared.Checked.{Checked}
 use Rattle.refusal.specs.declared.Checked.the-variants.{Passed, Refused}
 use Rattle.refusal.specs.Verdict.{Verdict, passed, refused, check, unless, first-refusal}
 use Rattle.refusal.specs.VerdictLaws.{first-passed}
-use Rattle.refusal.specs.Report.{Report}
+use Rattle.refusal.specs.Checks.{Checks}
+use Rattle.refusal.specs.Report.{Report, turned-away}
 use Rattle.refusal.specs.Fills.{report, Fills}
 use Rattle.ctc.specs.Collapse.{collapse}
 use Rattle.ctc.specs.CollapseLaws.{collapse-shorter}
@@ -34,8 +39,9 @@ use Rattle.automaton.specs.Automaton.{Accepts}
 use Rattle.automaton.specs.Form.{validForm, view, lettersOf, alphabetOf, arcWord, letterOf, arcsFrom, encode}
 use Rattle.automaton.specs.ValidLaws.{valid-parts}
 use Rattle.automaton.specs.EncodeLaws.{encode-view}
-use Rattle.matrix.specs.Matrix.{Matrix}
-use Rattle.outcome.specs.Outcome.{Outcome}
+use Rattle.matrix.specs.Matrix.{Matrix, price}
+use Rattle.matrix.specs.PathsLaws.{path-price}
+use Rattle.outcome.specs.Outcome.{Rival, Outcome}
 use Rattle.regex.specs.Grammar.{WordsOf}
 use Rattle.compile.specs.Call.{compile-call}
 use Rattle.compile.specs.Meaning.{compiled-means}
@@ -43,11 +49,15 @@ use Rattle.compile_list.specs.Call.{compile-list-call}
 use Rattle.compile_list.specs.Meaning.{list-means}
 use Rattle.decode_checks.specs.Checks.{needed, matrix-checks, decode-checks}
 use Rattle.decode_checks.specs.PassingLaws.{fits}
-use Rattle.decode_valid.specs.Answers.{labels, Checks, Answers, outcome-report}
+use Rattle.decode_valid.specs.Answers.{labels, Answers, outcome-report}
 use Rattle.decode_valid.specs.Lent.{Lent, rooms}
 use Rattle.decode.specs.Promise.{Decodes}
 use Rattle.alphabet.specs.Labels.{characters}
 use Rattle.read_text.specs.Promise.{ReadsBy, Reads}
+use Rattle.comparison.specs.Comparison.{Comparison, turned-away as without}
+use Rattle.comparison.specs.Checks.{compare-checks}
+use Rattle.comparison.specs.PassingLaws.{fits-both-exactly}
+use Rattle.comparison.specs.Promise.{difference-report, CompareAnswers, Compares}
 
 -- Collapse and Spread: what passes the checks is short.
 module _ (few : ℕ) (w : List ℕ) where
@@ -117,7 +127,7 @@ module _ (Word : List ℕ → Type 0) (spelt : List ℕ → List ℕ) (form : �
 
   answers-few :
       (need : ℕ) (before after : Lent) (answer : Report) (c : Checked) → (c ≡ Passed → M .count ≤ 255)
-      → Checks c (Answers Word spelt form M need) before after answer → (answer .filled ≤ 255) × (answer .form ≤ form)
+      → Checks turned-away c (Answers Word spelt form M need) before after answer → (answer .filled ≤ 255) × (answer .form ≤ form)
   answers-few need before after answer (Refused n) few h = rw (h .0) (omega arith, omega arith)
   answers-few need before after answer Passed few h = rw (h .answered) (outcome-few (few refl) (h .outcome) (h .is))
 
@@ -141,3 +151,27 @@ module _ {A s : List ℕ} {M : Matrix} {form form′ : List ℕ} {before after :
           answers-few (WordsOf A s) (characters A) (length f) M (needed (M .count) (lettersOf f)) before after answer
           (first-refusal (matrix-checks (length A) (lettersOf f) M (rooms before))) (λ e. fits (length A) (lettersOf f) M (rooms before) e .few) r in
           (omega arith, omega arith)
+
+-- Compare: each price is that of at most 255 costs of at most 1,000,000.
+module _ (M : Matrix) (few : M .count ≤ 255) where
+  price-few : (Word : List ℕ → Type 0) (p : List ℕ) → Rival Word M p → price M p < 2 ^ 31
+  price-few Word p r = let e = r .path .one-each in let l = path-price M 0 p (r .path .labels) in omega arith
+
+  reported-fits :
+      (One Two : List ℕ → Type 0) (a b : Option (List ℕ)) → Outcome One M a → Outcome Two M b → SFits w32 (difference-report M a b .difference)
+  reported-fits One Two none b h k = size-fits 0 (omega arith)
+  reported-fits One Two (some p) none h k = size-fits 0 (omega arith)
+  reported-fits One Two (some p) (some q) h k =
+      difference-fits (price M p) (price M q) (price-few One p (h .qualifies)) (price-few Two q (k .qualifies))
+
+module _ (f g : List ℕ) (M : Matrix) (before after : List ℕ) (answer : Comparison) where
+  pub compare-fits : Compares f g M before after answer → SFits w32 (answer .difference)
+  compare-fits h = by (first-refusal (compare-checks f g M (length before))) refl h
+    where
+      by :
+          (c : Checked) → first-refusal (compare-checks f g M (length before)) ≡ c → Checks without c (CompareAnswers f g M) before after answer
+          → SFits w32 (answer .difference)
+      by (Refused n) e k = rw (k .0) (size-fits 0 (omega arith))
+      by Passed e k =
+          let few = fits-both-exactly f g M (length before) .0 e .few in
+          rw (k .answered) (reported-fits M few (Accepts (view f)) (Accepts (view g)) (k .first) (k .second) (k .first-is) (k .second-is))

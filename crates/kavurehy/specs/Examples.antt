@@ -1,9 +1,11 @@
--- What the exported calls hand back, and what lent memory holds then: a list filled, a refusal, and `ab*` with Judge, Decode and Read.
+-- What the exported calls hand back, and what lent memory holds then: a list filled, a refusal, and `ab*` with Judge, Decode, Read and
+-- Compare.
 use Prim.Native.Nat.{ℕ}
-use mathlib.Core.Path.{_≡_, refl, ap, _∙_}
+use mathlib.Core.Path.{_≡_, refl, ap, ap₂, _∙_}
 use mathlib.Core.Option.{some}
 use mathlib.Core.List.{List, [], _∷_}
 use lib.ListN.{drop, replicate}
+use lib.IntN.{ℤ, pos, negsuc}
 use Rattle.lists.specs.Lists.{any, numbers}
 use Rattle.lists.specs.Each.{all}
 use Rattle.lists.specs.Memory.{written}
@@ -30,7 +32,9 @@ use Rattle.decode_valid.specs.Lent.{Lent}
 use Rattle.alphabet.specs.Labels.{characters}
 use Rattle.judge.specs.Judge.{judged}
 use Rattle.read.specs.Cases.{cases, cases-stated}
-use Rattle.kavurehy.specs.Handed.{FillsCounted, FillsPlain, Judges, DecodesCounted, ReadsCounted}
+use Rattle.comparison.specs.Comparison.{Comparison}
+use Rattle.comparison.specs.Promise.{difference-report}
+use Rattle.kavurehy.specs.Handed.{FillsCounted, FillsPlain, Judges, DecodesCounted, ReadsCounted, ComparesHanded}
 
 -- "A refusal gives zero price and lengths and leaves all memory alone"; "On success, memory beyond the counted bytes or words is untouched
 -- too."
@@ -146,3 +150,34 @@ unfolding compile-call if-passed unless written
 alphabet-first M form form′ before after handed result h =
     let told = h .reads .reads .0 in
     (h .hands .number ∙ ap (λ r. r .number) told, h .hands .list ∙ ap (λ r. r .price ∷ r .filled ∷ r .form ∷ []) told, h .reads .memory, h .reads .reads .1)
+
+-- `a` on the same columns: path 1 1 0, price 7
+abbrev single : List ℕ
+single = 0x10020001 ∷ 0x20000301 ∷ []
+
+accepted-single : Outcome (Accepts (view single)) three (some (1 ∷ 1 ∷ 0 ∷ []))
+unfolding decided exhaustive over better preferred not-after usable collapse merge without-blanks spells any numbers followOf endsOf validForm ordered all
+accepted-single =
+    let d = accepts-decides (view single) 2 (view-proper single refl) in
+    decided-outcome three (Accepts (view single)) (accepts (view single)) (λ w. d w .0) (λ w. d w .1)
+
+-- Compare: 4 less 7; the last work word is untouched
+compares :
+    (after : List ℕ) (handed : List ℤ) (result : ℕ) → ComparesHanded form single three (replicate 21 7) after handed result
+    → (result ≡ 0) × (handed ≡ negsuc 2 ∷ []) × (drop 20 after ≡ 7 ∷ [])
+unfolding first-refusal validForm ordered all
+compares after handed result h =
+    let a = h .compares in
+    let one = outcome-unique three (Accepts (view form)) (a .first) (some (1 ∷ 1 ∷ 2 ∷ [])) (a .first-is) accepted in
+    let two = outcome-unique three (Accepts (view single)) (a .second) (some (1 ∷ 1 ∷ 0 ∷ [])) (a .second-is) accepted-single in
+    let told = a .answered ∙ ap₂ (difference-report three) one two in
+    (h .hands .number ∙ ap (λ (c : Comparison). c .number) told, h .hands .list ∙ ap (λ (c : Comparison). c .difference ∷ []) told, a .work .beyond)
+
+-- a list that is no form in the second place: 11, a difference of 0, and memory as it was
+compares-none :
+    (M : Matrix) (before after : List ℕ) (handed : List ℤ) (result : ℕ) → ComparesHanded form [] M before after handed result
+    → (result ≡ 11) × (handed ≡ pos 0 ∷ []) × (after ≡ before)
+unfolding first-refusal validForm ordered all
+compares-none M before after handed result h =
+    let told = h .compares .0 in
+    (h .hands .number ∙ ap (λ (c : Comparison). c .number) told, h .hands .list ∙ ap (λ (c : Comparison). c .difference ∷ []) told, h .compares .1)

@@ -3,6 +3,7 @@
 use Prim.Native.Nat.{ℕ}
 use mathlib.Core.Path.{_≡_}
 use mathlib.Core.List.{List}
+use lib.IntN.{ℤ}
 use Rattle.lists.specs.Memory.{written}
 use Rattle.refusal.specs.Verdict.{Verdict}
 use Rattle.refusal.specs.Report.{Report}
@@ -14,6 +15,9 @@ use Rattle.matrix.specs.Matrix.{Matrix}
 use Rattle.decode_valid.specs.Lent.{Lent}
 use Rattle.decode.specs.Promise.{Decodes}
 use Rattle.read_text.specs.Promise.{Reads}
+use Rattle.comparison.specs.Comparison.{Comparison}
+use Rattle.comparison.specs.Promise.{Compares}
+use Rattle.export_difference.specs.Handed.{HandsDifference}
 
 -- A call that fills one list: the list begins with what the verdict gives and is otherwise as it was.
 pub record FillsCounted (verdict : Verdict (List ℕ)) (before after handed : List ℕ) (result : ℕ) : Type 0 where
@@ -40,3 +44,9 @@ pub record ReadsCounted (alphabet text : List ℕ) (M : Matrix) (form form′ : 
   pub answer : Report
   pub reads : Reads alphabet text M form form′ before after answer
   pub hands : Hands price-and-lengths answer handed result
+
+-- Compare, in the same way; the difference is a signed number.
+pub record ComparesHanded (first second : List ℕ) (M : Matrix) (before after : List ℕ) (handed : List ℤ) (result : ℕ) : Type 0 where
+  pub answer : Comparison
+  pub compares : Compares first second M before after answer
+  pub hands : HandsDifference answer handed result

@@ -3,6 +3,7 @@
 use export_counts::hand_judgement;
 use export_counts::hand_length;
 use export_counts::hand_number;
+use export_difference::hand_difference;
 use export_paths::hand_decoded;
 use export_paths::hand_reading;
 ghost use lib.ListN.{length};
@@ -14,7 +15,7 @@ ghost use Rattle.matrix.specs.Matrix.{matrix};
 ghost use Rattle.compile.specs.Call.{compile-call};
 ghost use Rattle.compile_list.specs.Call.{compile-list-call};
 ghost use Rattle.decode_valid.specs.Lent.{lent};
-ghost use Rattle.kavurehy.specs.Handed.{FillsCounted, FillsPlain, Judges, DecodesCounted, ReadsCounted};
+ghost use Rattle.kavurehy.specs.Handed.{FillsCounted, FillsPlain, Judges, DecodesCounted, ReadsCounted, ComparesHanded};
 
 // Writes the form of an expression over an alphabet, and its length to `counts`.
 #[no_mangle]
@@ -128,6 +129,25 @@ pub extern "C" fn kavurehy_read(
             work,
         ),
         counts,
+    )
+}
+
+// Writes to `difference` the price of the first form's cheapest path, without barred labels, less that of the second's.
+#[no_mangle]
+pub extern "C" fn kavurehy_compare(
+    first: &[u32],
+    second: &[u32],
+    costs: &[u32],
+    width: usize,
+    columns: usize,
+    work: &mut [u32],
+    difference: &mut [i32; 1],
+) -> u32
+    ensures { λ r. ⌜ ComparesHanded (old first) (old second) (matrix (old costs) width columns) (old work) (new work) (new difference) r ⌝ }
+{
+    hand_difference(
+        compare::compare(first, second, costs, width, columns, work),
+        difference,
     )
 }
 

@@ -1,8 +1,9 @@
-// Small functions on numbers and truth values: conversions of bytes, 32-bit words and sizes; the lesser of two; a range; a truth value as a
-// number; either of two.
+// Small functions on numbers and truth values: conversions of bytes, 32-bit words and sizes; the lesser and the greater of two; a signed
+// difference, and a signed number without its sign; a range; a truth value as a number; either of two.
 ghost use mathlib.Core.Path.{_≡_};
 ghost use mathlib.Core.Bool.{cond, _||_};
-ghost use Prim.Native.Nat.{_<_, _≤_, min};
+ghost use Prim.Native.Nat.{_<_, _≤_, _^_, min, max};
+ghost use lib.IntN.{pos, natAbs, _-ℤ_};
 ghost use Rattle.lists.specs.Lists.{in-range};
 
 // A byte as a size.
@@ -50,6 +51,34 @@ pub fn least_size(x: usize, y: usize) -> usize
         return y;
     }
     x
+}
+
+// The greater of two sizes.
+pub fn greatest_size(x: usize, y: usize) -> usize
+    ensures { λ r. ⌜ r ≡ max x y ⌝ }
+{
+    if x < y {
+        return y;
+    }
+    x
+}
+
+// The first number less the second, negative where the second is greater.
+pub fn difference(a: u32, b: u32) -> i32
+    requires { ⌜ (a < 2 ^ 31) × (b < 2 ^ 31) ⌝ }
+    ensures { λ r. ⌜ r ≡ pos a -ℤ pos b ⌝ }
+{
+    a as i32 - b as i32
+}
+
+// A signed number without its sign.
+pub fn magnitude(d: i32) -> usize
+    ensures { λ r. ⌜ r ≡ natAbs d ⌝ }
+{
+    if d < 0 {
+        return (0 - d as i64) as usize;
+    }
+    d as usize
 }
 
 // Is x from `low` to `high`?

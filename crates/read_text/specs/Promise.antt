@@ -5,13 +5,14 @@ use mathlib.Core.List.{List}
 use lib.ListN.{length}
 use Rattle.lists.specs.Memory.{written}
 use Rattle.refusal.specs.Verdict.{Verdict, passed, refused, first-refusal}
+use Rattle.refusal.specs.Checks.{Checks}
 use Rattle.refusal.specs.Report.{Report, turned-away}
 use Rattle.refusal.specs.Fills.{filling}
 use Rattle.automaton.specs.Form.{lettersOf}
 use Rattle.matrix.specs.Matrix.{Matrix}
 use Rattle.regex.specs.Grammar.{WordsOf}
 use Rattle.decode_checks.specs.Checks.{needed, matrix-checks}
-use Rattle.decode_valid.specs.Answers.{Answers, Checks}
+use Rattle.decode_valid.specs.Answers.{Answers}
 use Rattle.decode_valid.specs.Lent.{Lent, rooms}
 use Rattle.compile.specs.Call.{compile-call}
 use Rattle.alphabet.specs.Labels.{characters}
@@ -20,7 +21,7 @@ use Rattle.alphabet.specs.Labels.{characters}
 -- the checks with memory enough' means that no refusal except 16 applies.
 abbrev pub ReadsForm : (A s f : List ℕ) (M : Matrix) (before after : Lent) (answer : Report) → Type 0
 ReadsForm A s f M before after answer =
-    Checks (first-refusal (matrix-checks (length A) (lettersOf f) M (rooms before)))
+    Checks turned-away (first-refusal (matrix-checks (length A) (lettersOf f) M (rooms before)))
     (Answers (WordsOf A s) (characters A) (length f) M (needed (M .count) (lettersOf f))) before after answer
 
 -- By what Compile gives for the alphabet and the text: its refusal, with all memory as it was, or the answer by its form.

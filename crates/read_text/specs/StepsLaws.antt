@@ -11,6 +11,7 @@ use Rattle.refusal.specs.declared.Checked.{Checked}
 use Rattle.refusal.specs.declared.Checked.the-variants.{Passed, Refused}
 use Rattle.refusal.specs.NumberLaws.{number-between}
 use Rattle.refusal.specs.Verdict.{Verdict, passed, refused, first-refusal}
+use Rattle.refusal.specs.Checks.{Checks}
 use Rattle.refusal.specs.Report.{Report, turned-away}
 use Rattle.refusal.specs.Fills.{counted, report, filling, Fills}
 use Rattle.automaton.specs.Automaton.{Accepts}
@@ -22,7 +23,7 @@ use Rattle.compile.specs.Call.{compile-call}
 use Rattle.compile.specs.Meaning.{compiled-means}
 use Rattle.compile.specs.Means.{Means}
 use Rattle.decode_checks.specs.Checks.{needed, matrix-checks}
-use Rattle.decode_valid.specs.Answers.{Answers, Checks}
+use Rattle.decode_valid.specs.Answers.{Answers}
 use Rattle.decode_valid.specs.AnswersLaws.{answers-same}
 use Rattle.decode_valid.specs.Lent.{Lent, rooms}
 use Rattle.alphabet.specs.Labels.{characters}
@@ -39,8 +40,8 @@ read-words A s f M before after answer m =
 
 -- the same, where the checks may refuse
 checked-words :
-    (A s f : List ℕ) (M : Matrix) (c : Checked) (before after : Lent) (answer : Report) → Means A s f → Checks c (ReadsAccepted A f M) before after answer
-    → Checks c (Answers (WordsOf A s) (characters A) (length f) M (needed (M .count) (lettersOf f))) before after answer
+    (A s f : List ℕ) (M : Matrix) (c : Checked) (before after : Lent) (answer : Report) → Means A s f → Checks turned-away c (ReadsAccepted A f M) before after answer
+    → Checks turned-away c (Answers (WordsOf A s) (characters A) (length f) M (needed (M .count) (lettersOf f))) before after answer
 checked-words A s f M (Refused n) before after answer m h = h
 checked-words A s f M Passed before after answer m h = read-words A s f M before after answer m h
 

@@ -54,6 +54,14 @@ pub first-fails : (t : Bool) (n : Refusal) (cs : List Check) → t ≡ false →
 unfolding first-refusal
 first-fails t n cs e = rw (e, first-refusal)
 
+-- two lists that begin with the same check
+pub first-same :
+    (s t : Bool) (n : Refusal) (cs ds : List Check) → s ≡ t → first-refusal cs ≡ first-refusal ds
+    → first-refusal (check s n ∷ cs) ≡ first-refusal (check t n ∷ ds)
+unfolding first-refusal
+first-same s true n cs ds e h = rw e
+first-same s false n cs ds e h = rw (e, h)
+
 -- where all checks pass, each does
 pub first-passed : (t : Bool) (n : Refusal) (cs : List Check) → first-refusal (check t n ∷ cs) ≡ Passed → (t ≡ false) × (first-refusal cs ≡ Passed)
 unfolding first-refusal

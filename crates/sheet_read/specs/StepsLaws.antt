@@ -14,6 +14,7 @@ use Rattle.refusal.specs.declared.Checked.the-variants.{Passed, Refused}
 use Rattle.refusal.specs.Number.{numberOf}
 use Rattle.refusal.specs.NumberLaws.{number-between}
 use Rattle.refusal.specs.Verdict.{Verdict, passed, refused, first-refusal}
+use Rattle.refusal.specs.Checks.{Checks}
 use Rattle.refusal.specs.Report.{Report, turned-away}
 use Rattle.answers.specs.Decoded.{read}
 use Rattle.answers.specs.Reading.{reported}
@@ -26,7 +27,7 @@ use Rattle.outcome.specs.Outcome.{Outcome}
 use Rattle.regex.specs.Grammar.{WordsOf}
 use Rattle.compile.specs.Call.{compile-call}
 use Rattle.decode_checks.specs.Checks.{needed, matrix-checks}
-use Rattle.decode_valid.specs.Answers.{outcome-report, path-of, word-of, Answers, Checks}
+use Rattle.decode_valid.specs.Answers.{outcome-report, path-of, word-of, Answers}
 use Rattle.decode_valid.specs.Lent.{Lent, rooms}
 use Rattle.alphabet.specs.Labels.{character, characters}
 use Rattle.read_text.specs.Promise.{ReadsBy, Reads}
@@ -71,7 +72,7 @@ module _ (A s : List ℕ) (M : Matrix) (before after : Lent) (answer : Report) w
       by (some b) h e u v = best b k (h .qualifies .path .one-each) e u v (record { outcome = some b; is = h; lines = refl })
 
   said-checked :
-      (c : Checked) (k need : ℕ) → Checks c (Answers (WordsOf A s) (characters A) k M need) before after answer
+      (c : Checked) (k need : ℕ) → Checks turned-away c (Answers (WordsOf A s) (characters A) k M need) before after answer
       → Said (PrintsChecked c A s M) A M before after answer
   said-checked (Refused n) k need h = away n (h .0) refl
   said-checked Passed k need h = said-outcome k need h
@@ -82,7 +83,7 @@ module _ (A s : List ℕ) (M : Matrix) (before after : Lent) (answer : Report) w
       let need = needed (M .count) (lettersOf f) in
       said-checked (first-refusal (matrix-checks (length A) (lettersOf f) M lent-rooms)) (length f) need
       (subst
-      (λ r. Checks (first-refusal (matrix-checks (length A) (lettersOf f) M r)) (Answers (WordsOf A s) (characters A) (length f) M need) before after answer) e h)
+      (λ r. Checks turned-away (first-refusal (matrix-checks (length A) (lettersOf f) M r)) (Answers (WordsOf A s) (characters A) (length f) M need) before after answer) e h)
 
   pub said : (form form′ : List ℕ) → Sized form before → Reads A s M form form′ before after answer → Said (PrintsReading A s M) A M before after answer
   said form form′ sized h =

@@ -1,7 +1,7 @@
 -- The outcome for the words of an automaton, from the cost to go of state 0: nothing to read where that is TOP, else the best way.
 use Prim.Native.Nat.{ℕ, _+_, _≤_, _<_}
 use mathlib.Core.Path.{_≡_, refl, sym, subst}
-use mathlib.Core.Option.{some, none}
+use mathlib.Core.Option.{Option, some, none}
 use mathlib.Core.List.{List}
 use mathlib.Core.Logic.{_↔_, ⊎-elim}
 use native.Mathlib.Omega.{arith}
@@ -10,9 +10,12 @@ use Rattle.lists.specs.OrderLaws.{lt-or-le}
 use Rattle.lists.specs.Each.{Each}
 use Rattle.automaton.specs.Automaton.{Automaton, Accepts}
 use Rattle.automaton.specs.Proper.{Proper}
+use Rattle.automaton.specs.Accepted.{accepts}
+use Rattle.automaton.specs.AcceptedLaws.{accepts-decides}
 use Rattle.matrix.specs.Matrix.{Matrix, price}
 use Rattle.matrix.specs.Paths.{CostsPass}
 use Rattle.outcome.specs.Outcome.{Rival, Best, Outcome}
+use Rattle.outcome.specs.Exhaustive.{decided, decided-outcome}
 use Rattle.trellis.specs.Graph.{Way}
 use Rattle.trellis.specs.Impossible.{TOP}
 use Rattle.trellis.specs.ImpossibleLaws.{rival-below, below-path}
@@ -21,6 +24,17 @@ use Rattle.trellis.specs.BestWay.{WayFrom, BestFrom}
 use Rattle.trellis.specs.Extended.{extended}
 use Rattle.trellis.specs.ExtendedLaws.{way-labels}
 use Rattle.trellis.specs.AcceptedLaws.{collapse-way}
+
+-- there is an outcome
+pub outcome-exists : {k : ℕ} {A : Automaton} → Proper k A → (M : Matrix) → (o : Option (List ℕ)) × Outcome (Accepts A) M o
+outcome-exists {k} {A} proper M =
+    let test = accepts-decides A k proper in
+    (decided M (accepts A), decided-outcome M (Accepts A) (accepts A) (λ w. test w .0) (λ w. test w .1))
+
+-- v is the price of the outcome's path, and TOP where there is none
+abbrev pub Pays : Matrix → Option (List ℕ) → ℕ → Type 0
+Pays M none v = v ≡ TOP
+Pays M (some p) v = (price M p ≡ v) × (v < TOP)
 
 module _ {k : ℕ} {A : Automaton} (proper : Proper k A) (M : Matrix) (wide : M .width ≡ k + 1) (few : M .count ≤ 255) (pass : CostsPass M) where
   -- A rival is a way from state 0, one label for each column, with a price below TOP.
@@ -64,6 +78,11 @@ module _ {k : ℕ} {A : Automaton} (proper : Proper k A) (M : Matrix) (wide : M 
         let e = m .2 in
         let high = b .least (m .0) (m .1) in
         omega arith
+
+    -- the outcome is told by the cost to go alone
+    pub outcome-pays : (o : Option (List ℕ)) → Outcome (Accepts A) M o → Pays M o v
+    outcome-pays none h = outcome-none .1 h
+    outcome-pays (some p) h = let e = outcome-price p h in let l = below p (h .qualifies) in (e, omega arith)
 
     -- the best way is the best rival
     pub outcome-best : v < TOP → (p : List ℕ) → BestFrom (extended A) M 0 (M .count) (λ s. s ≡ 0) p → Outcome (Accepts A) M (some p)

@@ -11,6 +11,7 @@
 //   J NAME WORD             Judge
 //   D NAME COSTS WIDTH COLUMNS PATH-ROOM WORD-ROOM WORK-ROOM LAST            Decode; the LAST work words are printed
 //   R TEXT COSTS WIDTH COLUMNS PATH-ROOM WORD-ROOM WORK-ROOM LAST ALPHABET   Read
+//   X NAME COSTS WIDTH COLUMNS WORK-ROOM LAST WORDS                          Compare with the form of these words, and the other way round
 mod calls;
 mod matrices;
 mod parts;
@@ -27,6 +28,7 @@ fn call(kind: u8, line: &[u8], given: &[u8], costs: &[u32], form: &[u32]) {
         b'J' => calls::judge(line, given, form),
         b'D' => matrices::decode(line, costs, form),
         b'R' => matrices::read(line, costs),
+        b'X' => matrices::compare(line, costs, form),
         _ => {}
     }
     show::say(show::END);

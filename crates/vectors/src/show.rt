@@ -1,5 +1,6 @@
 // Prints answers and lists on standard output. What is written is compared with the stored output; no contract can speak of it.
 use libc::STDOUT_FILENO;
+use numbers::magnitude;
 use numbers::wide_word;
 
 // The words that are printed, by their places in `say`.
@@ -31,9 +32,13 @@ pub const SPREAD: usize = 12;
 
 pub const COSTS: usize = 13;
 
+const DIFFERENCE: usize = 14;
+
+const MINUS: usize = 15;
+
 pub fn say(k: usize) {
     field(
-        b" \t |\t:\t\n\t refused\t filled\t accepted\t rejected\t price\t length\t form\tcollapse\tspread\tcosts",
+        b" \t |\t:\t\n\t refused\t filled\t accepted\t rejected\t price\t length\t form\tcollapse\tspread\tcosts\t difference\t minus",
         k,
     );
 }
@@ -119,4 +124,17 @@ pub fn form(refused: u32, length: u32) {
     if refused == 0 {
         named(FORM, length);
     }
+}
+
+// The answer of Compare.
+pub fn difference(refused: u32, d: i32) {
+    if refused != 0 {
+        named(REFUSED, refused);
+        return;
+    }
+    say(DIFFERENCE);
+    if d < 0 {
+        say(MINUS);
+    }
+    number(magnitude(d));
 }

@@ -8,6 +8,8 @@ use denote.Ref.{now}
 use Rattle.refusal.specs.declared.Refusal.the-variants.{BadForm}
 use Rattle.refusal.specs.Verdict.{first-refusal}
 use Rattle.refusal.specs.VerdictLaws.{first-holds, first-fails}
+use Rattle.refusal.specs.ChecksLaws.{checks-refused, checks-passed}
+use Rattle.refusal.specs.Report.{turned-away}
 use Rattle.automaton.specs.Form.{validForm, alphabetOf, lettersOf}
 use Rattle.automaton.specs.ValidLaws.{valid-at}
 use Rattle.matrix.specs.Matrix.{Matrix, matrix}
@@ -15,7 +17,6 @@ use Rattle.decode_checks.specs.Checks.{matrix-checks, decode-checks}
 use Rattle.decode_checks.specs.PassingLaws.{fits}
 use Rattle.decode_valid.specs.Answers.{DecodeAnswers}
 use Rattle.decode_valid.specs.Lent.{Lent, rooms}
-use Rattle.decode_valid.specs.AnswersLaws.{checks-refused, checks-passed}
 use Rattle.decode.proofs.decode_parts.Statement.{statement}
 use Rattle.decode.proofs.decode_parts.Tie as tie
 
@@ -32,7 +33,7 @@ returns : tie.Need-returns
 returns c =
     let s = c .before .before .before .before .before .before .before in
     let f = now (s .args .form) in
-    checks-refused (first-refusal (decode-checks f (costs s) (rooms (lent s)))) (DecodeAnswers f (costs s)) BadForm (lent s)
+    checks-refused turned-away (first-refusal (decode-checks f (costs s) (rooms (lent s)))) (DecodeAnswers f (costs s)) BadForm (lent s)
     (first-holds (not (validForm f)) BadForm (matrix-checks (alphabetOf f) (lettersOf f) (costs s) (rooms (lent s)))
     (ap not (sym (c .before .valid .ensures) ∙ not-true _ (c .if1 .taken))))
 
@@ -90,7 +91,7 @@ returns-2 c =
     let s = c .before .before .before .before .before .before .before .before .before .before .before .before .before in
     let f = now (s .args .form) in
     let m = c .before .before .before in
-    checks-refused (first-refusal (decode-checks f (costs s) (rooms (lent s)))) (DecodeAnswers f (costs s)) (c .before .r .given .0 .0) (lent s)
+    checks-refused turned-away (first-refusal (decode-checks f (costs s) (rooms (lent s)))) (DecodeAnswers f (costs s)) (c .before .r .given .0 .0) (lent s)
     (whole m ∙ c .before .r .given .1)
 
 same-length : tie.Need-same-length
@@ -108,7 +109,7 @@ returns-3 c =
     let f = now (s .args .form) in
     let m = c .before .before .before .before .before .before .before .before .before .before .before .before in
     let read = c .before .before .before .before .before .before .decode-valid in
-    checks-passed (first-refusal (decode-checks f (costs s) (rooms (lent s)))) (DecodeAnswers f (costs s)) (lent s) _ _
+    checks-passed turned-away (first-refusal (decode-checks f (costs s) (rooms (lent s)))) (DecodeAnswers f (costs s)) (lent s) _ _
     (whole m ∙ c .before .before .before .before .before .before .before .before .before .before .enum-told .given .1) (read .ensures)
 
 pub decode-parts-spec : {M : Type 1} → statement M

@@ -3,13 +3,14 @@ use mathlib.Core.Path.{_≡_, sym, ap, _∙_, subst}
 use lib.ListN.{length}
 use denote.Ref.{now}
 use Rattle.refusal.specs.Verdict.{first-refusal}
+use Rattle.refusal.specs.ChecksLaws.{checks-refused, checks-passed}
+use Rattle.refusal.specs.Report.{turned-away}
 use Rattle.automaton.specs.Form.{lettersOf}
 use Rattle.matrix.specs.Matrix.{Matrix, matrix}
 use Rattle.decode_checks.specs.Checks.{matrix-checks}
 use Rattle.decode_checks.specs.Passing.{Fits}
 use Rattle.decode_checks.specs.PassingLaws.{fits}
 use Rattle.decode_valid.specs.Lent.{Lent, rooms}
-use Rattle.decode_valid.specs.AnswersLaws.{checks-refused, checks-passed}
 use Rattle.read_valid.specs.Accepted.{ReadsAccepted}
 use borrow.Author.Needs.{needs}
 use Rattle.read_text.proofs.read_form.Statement.{statement}
@@ -62,7 +63,7 @@ returns c =
     let m = c .before .before .before in
     let A = now (s .args .alphabet) in
     let f = now (s .args .form) in
-    checks-refused (first-refusal (matrix-checks (length A) (lettersOf f) (costs s) (rooms (lent s)))) (ReadsAccepted A f (costs s)) (c .before .r .given .0 .0) (lent s)
+    checks-refused turned-away (first-refusal (matrix-checks (length A) (lettersOf f) (costs s) (rooms (lent s)))) (ReadsAccepted A f (costs s)) (c .before .r .given .0 .0) (lent s)
     (sym (told m) ∙ c .before .r .given .1)
 
 same-length : tie.Need-same-length
@@ -80,7 +81,7 @@ returns-2 c =
     let m = c .before .before .before .before .before .before .before .before .before .before .before .before in
     let A = now (s .args .alphabet) in
     let f = now (s .args .form) in
-    checks-passed (first-refusal (matrix-checks (length A) (lettersOf f) (costs s) (rooms (lent s)))) (ReadsAccepted A f (costs s)) (lent s) _ _
+    checks-passed turned-away (first-refusal (matrix-checks (length A) (lettersOf f) (costs s) (rooms (lent s)))) (ReadsAccepted A f (costs s)) (lent s) _ _
     (sym (told m) ∙ c .before .before .before .before .before .before .before .before .before .before .enum-told .given .1) (c .before .before .before .before .before .before .read-valid .ensures)
 
 pub read-form-spec : {M : Type 1} → statement M

@@ -1,0 +1,10 @@
+pub mod Comparison
+pub mod Checks
+pub mod Passing
+pub mod PassingLaws
+pub mod Promise
+pub mod ExchangeLaws
+pub mod Demand
+pub mod Demands
+pub mod Decoded
+pub mod Examples
