@@ -9,7 +9,7 @@
    - Pointers must not be null, even for length 0: the proofs do not cover null pointers. For length 0 any other pointer will do.
    - Each pointer must point to at least as many elements as its length says. All of them must be readable, and those of lent memory must be
      writable too. Const lists must be initialised.
-   - Each pointer to uint32_t must be aligned to 4 bytes.
+   - Each pointer to uint32_t or int32_t must be aligned to 4 bytes.
    - Lent memory must not overlap any other list of the call, lent or const.
    - While a call runs, nothing else may write its lists, and nothing else may read its lent memory.
    - The stack must be large enough. The proofs do not count it: compile and read were seen to use up to 269 kB, decode and
@@ -22,8 +22,8 @@
    than once: it then has several labels, as a 7 that is written in two shapes. Equal neighbours of a path are equal labels, so two labels of
    one character side by side are two characters without a blank between. A column of a matrix has the costs of labels 0 to K: each is at
    most 1,000,000, or KAVUREHY_BARRED if the label is barred in that column. A form is a list of 32-bit words; its first word has L, the
-   number of letters, in bits 0 to 7, and K in bits 16 to 23. Decode and read need (columns + 1) * (2 * L + 1) work words. No call needs more
-   than 65,280, that is 256 * 255, for 255 columns and 127 letters.
+   number of letters, in bits 0 to 7, and K in bits 16 to 23. Decode and read need (columns + 1) * (2 * L + 1) work words, compare as many as
+   that for the form with more letters. No call needs more than 65,280, that is 256 * 255, for 255 columns and 127 letters.
 
    Each call returns 0, or the number of the refusal that applies:
       1 alphabet       not 1 to 95 bytes, each 32 to 126
@@ -38,23 +38,24 @@
       8 foreign        a character or a bracket without any label in the alphabet
       9 letters        more than 127
      10 form memory    shorter than the form
-     11 bad form       the list is no valid form
-     12 matrix         more than 255 columns, a width other than K + 1, or a list whose length is not columns * width
+     11 bad form       the list is no valid form; compare: one of the two lists or both
+     12 matrix         more than 255 columns, a width other than K + 1 (compare: K of either form), or a list whose length is not
+                       columns * width
      13 cost           a cost over 1,000,000, except KAVUREHY_BARRED
      14 output memory  decode, read: path or word memory shorter than the number of columns; collapse: shorter than the path;
                        spread: shorter than the path needed; costs: shorter than the number of confidences
-     15 work           fewer than (columns + 1) * (2 * L + 1) words
+     15 work           fewer than (columns + 1) * (2 * L + 1) words; compare: L of the form with more letters
      16 no reading     no path with one label for each column, none of them barred there, collapses to a word that the form accepts (read:
-                       to a word of the expression)
+                       to a word of the expression); compare: this is so for one of the two forms or both
      17 label          K not 1 to 95, a label over K, 0 in a word, or a list longer than 255
      19 class name     a class [:name:] in a bracket whose name is not one of alnum alpha blank cntrl digit graph lower print punct space
                        upper xdigit
      21 word list      an empty line, a repeated line, or no newline at the end
    If several apply, the first in this order is returned: 1, 2, 3; then for a list 21, 8, and for an expression that of the leftmost fault
    in the text among 4 to 8 and 19, where 7, 19 and 8 of a bracket are at its [, and of faults at one byte the first in the order 4, 5, 6,
-   7, 19, 8; then the lowest of 9 to 17. At a refusal each count is 0 and all other lent memory is as it was, with two exceptions: after 16
-   the needed work words may hold anything, and after 12 to 16 the form memory of read is as compile leaves it. On success the memory after
-   what is counted is as it was too. */
+   7, 19, 8; then the lowest of 9 to 17. At a refusal each count is 0, and so are accepted[0] and difference[0]; all other lent memory is as
+   it was, with two exceptions: after 16 the needed work words may hold anything, and after 12 to 16 the form memory of read is as compile
+   leaves it. On success the memory after what is counted is as it was too. */
 #ifndef KAVUREHY_H
 #define KAVUREHY_H
 
@@ -104,6 +105,13 @@ uint32_t kavurehy_spread(size_t k, const uint8_t *word, size_t word_length, uint
 uint32_t kavurehy_decode(const uint32_t *form, size_t form_length, const uint32_t *costs, size_t costs_length, size_t width, size_t columns,
                          uint8_t *path, size_t path_memory, uint8_t *word, size_t word_memory, uint32_t *work, size_t work_memory,
                          uint32_t counts[2]);
+
+/* Reads a matrix with two forms. Writes to difference[0] the price that decode reports with the first less that with the second: it is
+   negative if the first is cheaper, and from -255,000,000 to 255,000,000. If the forms are exchanged, the difference changes its sign, and a
+   refusal is the same. No path and no word are written. The needed work words, (columns + 1) * (2 * L + 1) with L the larger number of
+   letters of the two, may hold anything afterwards; the others are as they were. Returns 0, or a refusal: 11 to 13, 15, 16. */
+uint32_t kavurehy_compare(const uint32_t *first, size_t first_length, const uint32_t *second, size_t second_length, const uint32_t *costs,
+                          size_t costs_length, size_t width, size_t columns, uint32_t *work, size_t work_memory, int32_t difference[1]);
 
 /* Compiles an expression over an alphabet and reads a matrix with it. Writes the form as compile does, and path and word as decode does,
    except that the word is in characters of the alphabet: a word of the expression takes the place of one that the form accepts. Writes the

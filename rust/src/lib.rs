@@ -69,7 +69,8 @@ pub const FORM_WORDS: usize = 1 + 127 + 127 * 127;
 /// The most bytes that a word list may have.
 pub const LIST_BYTES: usize = 4096;
 
-/// How many work words [`decode`] and [`read`] need for this number of columns and of letters.
+/// How many work words [`decode`] and [`read`] need for this number of columns and of letters; [`compare`] needs them for the
+/// letters of the form that has more.
 pub const fn work_words(columns: usize, letters: usize) -> usize {
     (columns + 1) * (2 * letters + 1)
 }
@@ -301,6 +302,60 @@ pub fn decode(
         price,
         length: length as usize,
     })
+}
+
+/// The price that [`decode`] reports with the first form less that with the second: negative if the first is cheaper. If the forms
+/// are exchanged, it changes its sign, and a refusal is the same. The work words that are needed, [`work_words`] for the form with
+/// more letters, may hold anything afterwards.
+///
+/// ```
+/// use kavurehy::{compare, compile, work_words, Matrix, Refusal, BARRED};
+///
+/// // Face left and face right, two letters each.
+/// let (mut left, mut right) = ([0; 4], [0; 4]);
+/// assert_eq!(compile(b"FLR", b"FL", &mut left), Ok(4));
+/// assert_eq!(compile(b"FLR", b"FR", &mut right), Ok(4));
+/// // Two columns, each with the costs of blank, F, L and R.
+/// let matrix = Matrix { costs: &[9, 1, 8, 8, 9, 8, 2, 5], width: 4, columns: 2 };
+/// let mut work = vec![0; work_words(2, 2)];
+///
+/// // FL costs 3 and FR 6.
+/// assert_eq!(compare(&left, &right, matrix, &mut work), Ok(-3));
+/// assert_eq!(compare(&right, &left, matrix, &mut work), Ok(3));
+///
+/// // With R barred in both columns there is no reading with FR, and so no difference.
+/// let matrix = Matrix { costs: &[9, 1, 8, BARRED, 9, 8, 2, BARRED], ..matrix };
+/// assert_eq!(compare(&left, &right, matrix, &mut work), Err(Refusal::NoReading));
+/// assert_eq!(compare(&right, &left, matrix, &mut work), Err(Refusal::NoReading));
+/// ```
+///
+/// Refusals, the first that applies: [`Refusal::BadForm`] of either form; [`Refusal::Matrix`], also if the forms differ in K;
+/// [`Refusal::Cost`]; [`Refusal::Work`]; [`Refusal::NoReading`] if either form has none.
+pub fn compare(
+    first: &[u32],
+    second: &[u32],
+    matrix: Matrix<'_>,
+    work: &mut [u32],
+) -> Result<i32, Refusal> {
+    let mut difference = [0];
+    // SAFETY: each pointer comes with its list's length; `work` and `difference` are lent to nobody else.
+    let number = unsafe {
+        raw::kavurehy_compare(
+            first.as_ptr(),
+            first.len(),
+            second.as_ptr(),
+            second.len(),
+            matrix.costs.as_ptr(),
+            matrix.costs.len(),
+            matrix.width,
+            matrix.columns,
+            work.as_mut_ptr(),
+            work.len(),
+            &mut difference,
+        )
+    };
+    Refusal::check(number)?;
+    Ok(difference[0])
 }
 
 /// Writes the form of an expression over an alphabet, the cheapest path of one label for each column, none of them barred, whose

@@ -64,6 +64,20 @@ extern "C" {
         counts: &mut [u32; 2],
     ) -> u32;
 
+    pub fn kavurehy_compare(
+        first: *const u32,
+        first_length: usize,
+        second: *const u32,
+        second_length: usize,
+        costs: *const u32,
+        costs_length: usize,
+        width: usize,
+        columns: usize,
+        work: *mut u32,
+        work_memory: usize,
+        difference: &mut [i32; 1],
+    ) -> u32;
+
     pub fn kavurehy_read(
         alphabet: *const u8,
         alphabet_length: usize,
