@@ -1,6 +1,8 @@
 /* Makes the calls through their header alone. */
 #include "held.h"
 
+#include <string.h>
+
 #include "kavurehy.h"
 
 enum call { COMPILE, COMPILE_LIST, JUDGE, COLLAPSE, SPREAD, DECODE, READ, COSTS, CALLS };
@@ -164,4 +166,13 @@ void hold_read(struct bytes alphabet, struct bytes text, struct line line, size_
     wrote("form", &f, form.first, form.length);
     wrote("counts", &counts, expected, 3);
     hold_lent(&m, answer, characters);
+}
+
+struct words compiled(const char *alphabet, const char *text, uint32_t *words, size_t memory)
+{
+    uint32_t counts[1];
+    calling("compile of %s", text);
+    if (kavurehy_compile((const uint8_t *)alphabet, strlen(alphabet), (const uint8_t *)text, strlen(text), words, memory, counts) != 0)
+        fail("it refuses the expression");
+    return (struct words){words, counts[0]};
 }

@@ -33,6 +33,9 @@ void hold_decode(struct words form, struct line line, struct answer answer);
 /* `form` is what must be written to the form memory: after 12 to 16 too, and nothing after 1 to 10 and 19. */
 void hold_read(struct bytes alphabet, struct bytes text, struct line line, size_t memory, struct words form, struct answer answer);
 
+/* The form of an expression that must not be refused, as compile writes it; nothing is compared. */
+struct words compiled(const char *alphabet, const char *text, uint32_t *words, size_t memory);
+
 /* Returns how many calls were made; fails unless each call returned each of its numbers and no other. */
 unsigned long calls_made(void);
 

@@ -3,6 +3,7 @@
 
 #include <string.h>
 
+#include "faults.h"
 #include "kavurehy.h"
 #include "rooms.h"
 
@@ -95,31 +96,6 @@ static void refuse_form(struct words form)
     hold_decode(form, bad, refused(11));
 }
 
-/* Lists that are no form: the length, then the words. */
-static const uint32_t BAD_FORMS[][6] = {
-    {2, 0x20020001, 0x20000301}, /* the head's kind, letters, characters, unnamed bits */
-    {1, 0x10020000},
-    {2, 0x10000001, 0x20000301},
-    {2, 0x10600001, 0x20000301},
-    {2, 0x10020201, 0x20000301},
-    {2, 0x11020001, 0x20000301},
-    {2, 0x10020002, 0x20000301}, /* a letter too few, and one too many */
-    {3, 0x10020001, 0x20000301, 0x20000301},
-    {2, 0x10020001, 0x30000301}, /* a letter's kind, label, unnamed bits */
-    {2, 0x10020001, 0x20000300},
-    {2, 0x10020001, 0x20000303},
-    {2, 0x10020001, 0x20000701},
-    {3, 0x10020001, 0x20000301, 0x00000101}, /* an arc's kind, source, target, unnamed bits */
-    {3, 0x10020001, 0x20000301, 0x30000001},
-    {3, 0x10020001, 0x20000301, 0x30000201},
-    {3, 0x10020001, 0x20000301, 0x30000100},
-    {3, 0x10020001, 0x20000301, 0x30000102},
-    {3, 0x10020001, 0x20000301, 0x30010101},
-    {4, 0x10020001, 0x20000301, 0x30000101, 0x30000101}, /* an arc twice, and arcs out of order */
-    {5, 0x10020002, 0x20000301, 0x20000202, 0x30000202, 0x30000102},
-    {5, 0x10020002, 0x20000301, 0x20000202, 0x30000202, 0x30000201},
-};
-
 static void forms(void)
 {
     uint32_t letters[129] = {0x10020080};
@@ -128,9 +104,8 @@ static void forms(void)
     refuse_form((struct words){letters, 129});
     letters[0]--;
     hold_judge((struct words){letters, 128}, BYTES(1), 0, 1);
-    refuse_form(NO_WORDS);
-    for (size_t n = 0; n < sizeof BAD_FORMS / sizeof *BAD_FORMS; n++)
-        refuse_form((struct words){BAD_FORMS[n] + 1, BAD_FORMS[n][0]});
+    for (size_t n = 0; n < BAD_FORMS; n++)
+        refuse_form(bad_form(n));
 }
 
 /* Decode and read of ab* with one line, and the number that both should return. */
@@ -142,33 +117,12 @@ static void refuse_line(struct line line, uint32_t number)
     hold_read(TEXT("ab"), TEXT("ab*"), line, 4, NO_WORDS, refused(10));
 }
 
-/* Shapes of no matrix for K = 2: the list's length, the width, the number of columns. */
-static const size_t SHAPES[][3] = {
-    {6, 2, 2}, /* the width, also without columns, and where the product is right */
-    {6, 4, 2},
-    {6, 2, 3},
-    {0, 2, 0},
-    {0, 0, 0},
-    {5, 3, 2}, /* the list */
-    {7, 3, 2},
-    {6, 3, 1},
-    {6, 3, 3},
-    {0, 3, 1},
-    {3, 3, 0},
-    {768, 3, 256}, /* the columns */
-    {0, SIZE_MAX, 0}, /* numbers whose product does not fit, or fits only modulo 2^64 */
-    {6, SIZE_MAX, 2},
-    {0, 3, SIZE_MAX},
-    {2, 3, SIZE_MAX / 3 + 1},
-    {1, SIZE_MAX, SIZE_MAX},
-};
-
 /* Refusal 12 by itself, and with all later ones. */
 static void matrices(void)
 {
     static uint32_t costs[768];
-    for (size_t n = 0; n < sizeof SHAPES / sizeof *SHAPES; n++) {
-        struct line line = {{costs, SHAPES[n][0]}, SHAPES[n][1], SHAPES[n][2], 256, 256, 1285};
+    for (size_t n = 0; n < BAD_SHAPES; n++) {
+        struct line line = {{costs, BAD_SHAPE[n][0]}, BAD_SHAPE[n][1], BAD_SHAPE[n][2], 256, 256, 1285};
         costs[0] = 0;
         refuse_line(line, 12);
         costs[0] = 1000001;

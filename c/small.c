@@ -1,17 +1,14 @@
 /* Decode and read against the search over all lists of labels; judge and compile against the words that a walk or POSIX's own matcher
    accepts, compile_list against the lines of its list. */
-#define _POSIX_C_SOURCE 200809L
 #include "tests.h"
 
-#include <regex.h>
-#include <stdio.h>
 #include <string.h>
 
 #include "beginnings.h"
-#include "kavurehy.h"
+#include "languages.h"
+#include "made.h"
 #include "random.h"
 #include "rooms.h"
-#include "search.h"
 
 /* How many lines have several best lists, a best word that needs a blank between equal labels, a best list with two labels of one character
    side by side, no reading; and how many have another best list, or none, only because of barred labels. */
@@ -46,24 +43,14 @@ static struct best hold_matrix(struct words form, const struct language *languag
     return best;
 }
 
-/* Bars all labels of a column, a label in all columns, or labels here and there. */
-static void bar(uint32_t *costs, size_t width, size_t columns)
-{
-    uint32_t style = below(4), column = below((uint32_t)columns), label = below((uint32_t)width), one_in = 2 + below(4);
-    for (size_t n = 0; n < columns * width; n++)
-        if (style == 0 ? n / width == column : style == 1 ? n % width == label : below(one_in) == 0)
-            costs[n] = KAVUREHY_BARRED;
-}
-
 /* A few matrices of each number of columns, half of them again with barred labels. */
 static void hold_matrices(struct words form, const struct language *language, const char *alphabet, const char *text, int rounds)
 {
     size_t width = language->k + 1;
     for (size_t columns = 0; columns <= COLUMNS; columns++)
         for (int round = 0; round < (columns == 0 ? 1 : rounds); round++) {
-            uint32_t costs[COLUMNS * (CHARACTERS + 1)], most = 2 + below(3);
-            for (size_t n = 0; n < columns * width; n++)
-                costs[n] = below(most);
+            uint32_t costs[COLUMNS * (CHARACTERS + 1)];
+            make_costs(costs, columns * width, 2 + below(3));
             struct best best = hold_matrix(form, language, alphabet, text, costs, columns);
             if (columns == 0 || round % 2 == 0)
                 continue;
@@ -89,75 +76,16 @@ static void hold_words(struct words form, const struct language *language)
         }
 }
 
-/* Does a walk that begins on this letter spell the word? */
-static int walks(struct words form, size_t letter, const uint8_t *word, size_t length)
-{
-    if ((form.first[letter] & 0xff) != word[0])
-        return 0;
-    if (length == 1)
-        return form.first[letter] >> 9 & 1;
-    for (size_t n = 1 + letters_of(form); n < form.length; n++)
-        if ((form.first[n] >> 8 & 0xff) == letter && walks(form, form.first[n] & 0xff, word + 1, length - 1))
-            return 1;
-    return 0;
-}
-
-static int accepted_by_form(const void *what, const uint8_t *word, size_t length)
-{
-    struct words form = *(const struct words *)what;
-    if (length == 0)
-        return form.first[0] >> 8 & 1;
-    for (size_t i = 1; i <= letters_of(form); i++)
-        if (form.first[i] >> 8 & 1 && walks(form, i, word, length))
-            return 1;
-    return 0;
-}
-
-/* Forms of at most 3 characters and 5 letters, many of them with several walks for one word; made without compile. */
+/* Forms of at most 3 characters and 5 letters, made without compile. */
 static void made_forms(void)
 {
     for (int n = 0; n < 600; n++) {
-        uint32_t k = 1 + below(CHARACTERS), letters = 1 + below(5), dense = 1 + below(4), words[1 + 5 + 25];
-        struct words form = {words, 0};
-        words[form.length++] = 0x10000000 | k << 16 | (uint32_t)(below(3) == 0) << 8 | letters;
-        for (uint32_t i = 1; i <= letters; i++)
-            words[form.length++] = 0x20000000 | (uint32_t)(below(2) == 0) << 9 | (uint32_t)(below(2) == 0) << 8 | (1 + below(k));
-        for (uint32_t i = 1; i <= letters; i++)
-            for (uint32_t j = 1; j <= letters; j++)
-                if (below(4) < dense)
-                    words[form.length++] = 0x30000000 | i << 8 | j;
-        struct language language = language_of(k, accepted_by_form, &form);
+        uint32_t words[MADE_FORM];
+        struct words form = {words, make_form(1 + below(CHARACTERS), words)};
+        struct language language = language_of_form(form);
         hold_words(form, &language);
         hold_matrices(form, &language, NULL, NULL, 6);
     }
-}
-
-/* A text, compiled by POSIX's regcomp to match whole words, and its alphabet: a word of labels is matched by its characters. */
-struct matcher {
-    const char *alphabet;
-    regex_t regex;
-};
-
-static int accepted_by_text(const void *what, const uint8_t *word, size_t length)
-{
-    const struct matcher *matcher = what;
-    char characters[COLUMNS + 1] = {0};
-    for (size_t n = 0; n < length; n++)
-        characters[n] = matcher->alphabet[word[n] - 1];
-    return regexec(&matcher->regex, characters, 0, NULL, 0) == 0;
-}
-
-static struct language language_of_text(const char *alphabet, const char *text)
-{
-    char whole[300];
-    struct matcher matcher = {.alphabet = alphabet};
-    calling("regcomp of %s", text);
-    snprintf(whole, sizeof whole, "^(%s)$", text);
-    if (regcomp(&matcher.regex, whole, REG_EXTENDED | REG_NOSUB) != 0)
-        fail("it refuses the expression");
-    struct language language = language_of(strlen(alphabet), accepted_by_text, &matcher);
-    regfree(&matcher.regex);
-    return language;
 }
 
 /* Expressions of every construct except the modifier, which regcomp does not know; some over alphabets with repeated characters. */
@@ -177,11 +105,8 @@ static void texts(void)
     };
     for (size_t n = 0; n < sizeof TEXTS / sizeof *TEXTS; n++) {
         const char *alphabet = TEXTS[n][0], *text = TEXTS[n][1];
-        uint32_t words[200], counts[1];
-        calling("compile of %s", text);
-        if (kavurehy_compile((const uint8_t *)alphabet, strlen(alphabet), (const uint8_t *)text, strlen(text), words, 200, counts) != 0)
-            fail("it refuses the expression");
-        struct words form = {words, counts[0]};
+        uint32_t words[200];
+        struct words form = compiled(alphabet, text, words, 200);
         struct language language = language_of_text(alphabet, text);
         compiles(TEXT(alphabet), TEXT(text), form);
         hold_words(form, &language);
@@ -189,42 +114,17 @@ static void texts(void)
     }
 }
 
-/* A list of words and its alphabet: a word of labels is accepted if its characters are a line. */
-struct listed {
-    const char *alphabet, *list;
-};
-
-static int accepted_by_list(const void *what, const uint8_t *word, size_t length)
-{
-    const struct listed *listed = what;
-    char line[COLUMNS + 1];
-    for (size_t n = 0; n < length; n++)
-        line[n] = listed->alphabet[word[n] - 1];
-    line[length] = '\n';
-    for (const char *start = listed->list; *start != 0; start = strchr(start, '\n') + 1)
-        if (strncmp(start, line, length + 1) == 0)
-            return 1;
-    return 0;
-}
-
 /* Lists of at most 6 words, many over alphabets with repeated characters; one with a repeated line is refused, and not counted. */
 static void made_lists(void)
 {
     for (int n = 0; n < 500;) {
-        char alphabet[CHARACTERS + 1] = {0}, list[6 * (COLUMNS + 1) + 1] = {0};
-        size_t length = 0;
+        char alphabet[CHARACTERS + 1], list[MADE_LIST];
         struct words form;
-        for (uint32_t k = 1 + below(CHARACTERS); k > 0; k--)
-            alphabet[k - 1] = "abc"[below(3)];
-        for (uint32_t words = 1 + below(6); words > 0; words--) {
-            for (uint32_t letters = 1 + below(COLUMNS); letters > 0; letters--)
-                list[length++] = alphabet[below((uint32_t)strlen(alphabet))];
-            list[length++] = '\n';
-        }
+        make_alphabet(1 + below(CHARACTERS), alphabet);
+        make_list(alphabet, list);
         if (hold_list(TEXT(alphabet), TEXT(list), &form) != 0)
             continue;
-        struct listed listed = {alphabet, list};
-        struct language language = language_of(strlen(alphabet), accepted_by_list, &listed);
+        struct language language = language_of_list(alphabet, list);
         hold_words(form, &language);
         hold_matrices(form, &language, alphabet, NULL, 6);
         n++;
