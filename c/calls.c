@@ -14,6 +14,8 @@ int main(void)
         list_limits();
         labels();
         small_matrices();
+        comparisons();
+        pairs();
     }
     printf("%lu calls from C did what the header says\n", calls_made());
     return 0;

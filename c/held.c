@@ -5,7 +5,7 @@
 
 #include "kavurehy.h"
 
-enum call { COMPILE, COMPILE_LIST, JUDGE, COLLAPSE, SPREAD, DECODE, READ, COSTS, CALLS };
+enum call { COMPILE, COMPILE_LIST, JUDGE, COLLAPSE, SPREAD, DECODE, COMPARE, READ, COSTS, CALLS };
 
 /* A call's name, and a bit for each number that it returns according to the header. */
 static const struct {
@@ -18,6 +18,7 @@ static const struct {
     {"collapse", 0x024001},     /* 0, 14, 17 */
     {"spread", 0x024001},       /* 0, 14, 17 */
     {"decode", 0x01f801},       /* 0, 11 to 16 */
+    {"compare", 0x01b801},      /* 0, 11 to 13, 15, 16 */
     {"read", 0x09f7ff},         /* 0 to 10, 12 to 16, 19 */
     {"costs", 0x004001},        /* 0, 14 */
 };
@@ -144,6 +145,27 @@ void hold_decode(struct words form, struct line line, struct answer answer)
     kept("form", &f);
     wrote("counts", &counts, expected, 2);
     hold_lent(&m, answer, answer.word.first);
+}
+
+void hold_compare(struct words first, struct words second, struct line line, struct comparison comparison)
+{
+    int same = first.first == second.first && first.length == second.length;
+    struct list one = given_words(first), two = same ? one : given_words(second), costs = given_words(line.costs);
+    struct list work = lent_words(line.work), difference = lent_words(1);
+    calling("compare of %zu columns by forms of %zu and %zu words in %zu", line.columns, first.length, second.length, line.work);
+    answered(COMPARE,
+             kavurehy_compare(one.first, one.length, two.first, two.length, costs.first, costs.length, line.width, line.columns, work.first,
+                              work.length, difference.first),
+             comparison.number);
+    long found = *(const int32_t *)difference.first;
+    if (found != comparison.difference)
+        fail("the difference is %ld, and %ld is expected", found, (long)comparison.difference);
+    used("difference", &difference, 1);
+    used("work", &work, comparison.work);
+    kept("costs", &costs);
+    kept("first form", &one);
+    if (!same)
+        kept("second form", &two);
 }
 
 void hold_read(struct bytes alphabet, struct bytes text, struct line line, size_t memory, struct words form, struct answer answer)

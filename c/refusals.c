@@ -1,4 +1,4 @@
-/* Every refusal of every call but compile_list, by itself and with later ones. */
+/* Every refusal of every call but compile_list and compare, by itself and with later ones. */
 #include "tests.h"
 
 #include <string.h>

@@ -111,3 +111,40 @@ void reads(struct bytes alphabet, struct bytes text, struct words form, struct l
         hold_read(alphabet, text, with(line, t, t - 1, need), length, form, refused(14));
     }
 }
+
+struct line line_of_pair(struct words first, struct words second, const uint32_t *costs, size_t columns)
+{
+    return line_of(letters_of(first) < letters_of(second) ? second : first, costs, columns);
+}
+
+struct comparison apart(struct line line, int32_t difference)
+{
+    struct comparison comparison = {0, difference, line.work};
+    return comparison;
+}
+
+struct comparison no_comparison(struct line line)
+{
+    struct comparison comparison = {16, 0, line.work};
+    return comparison;
+}
+
+struct comparison not_compared(uint32_t number)
+{
+    struct comparison comparison = {number, 0, 0};
+    return comparison;
+}
+
+static void compares_in_order(struct words first, struct words second, struct line line, struct comparison comparison)
+{
+    hold_compare(first, second, line, comparison);
+    hold_compare(first, second, with(line, 0, 0, line.work + MORE), comparison);
+    hold_compare(first, second, with(line, 0, 0, line.work - 1), not_compared(15));
+}
+
+void compares(struct words first, struct words second, struct line line, struct comparison comparison)
+{
+    compares_in_order(first, second, line, comparison);
+    comparison.difference = -comparison.difference;
+    compares_in_order(second, first, line, comparison);
+}

@@ -5,7 +5,7 @@
 /* Document 01's lines, some with classes, barred labels or repeated characters, and the largest input. */
 void lines(void);
 
-/* Every refusal of every call but compile_list, by itself and with later ones. */
+/* Every refusal of every call but compile_list and compare, by itself and with later ones. */
 void refusals(void);
 
 /* Lists of words: forms written by hand, lines, every refusal by itself and with later ones, lists made at random; and up to the limits. */
@@ -17,5 +17,9 @@ void labels(void);
 
 /* Decode and read against a search over all lists of labels, by expressions and by lists of words. */
 void small_matrices(void);
+
+/* Compare: lines by hand, every refusal by itself and with later ones; and pairs of forms made at random, against the same search. */
+void comparisons(void);
+void pairs(void);
 
 #endif
