@@ -73,12 +73,20 @@ fn character(random: &mut Random, c: char) -> Vec<Vec<u8>> {
     columns
 }
 
-fn line(random: &mut Random, written: &str) -> Vec<Vec<u8>> {
-    let mut columns = vec![column(random, (0, 240), None)];
+/// The columns of a line: one in the blank, then those of each character.
+fn line(random: &mut Random, written: &str) -> Vec<Vec<Vec<u8>>> {
+    let mut parts = vec![vec![column(random, (0, 240), None)]];
     for c in written.chars() {
-        columns.extend(character(random, c));
+        parts.push(character(random, c));
     }
-    columns
+    parts
+}
+
+/// Gives `d` this many eighths of the confidence of `c` in its columns: the two are hard to tell apart.
+fn make_alike(columns: &mut [Vec<u8>], (c, d): (char, char), eighths: u16) {
+    for column in columns {
+        column[label(d)] = (u16::from(column[label(c)]) * eighths / 8) as u8;
+    }
 }
 
 /// A cost as it is in a sheet.
@@ -114,7 +122,13 @@ fn main() {
         left = left + random.below(400) - 200;
         let right = left + 2_000_000 + random.below(40);
         for (face, units) in [("FL", left), ("FR", right)] {
-            let mut columns = line(&mut random, &angle(face, units));
+            let mut parts = line(&mut random, &angle(face, units));
+            match (level, face) {
+                (6, "FR") => make_alike(&mut parts[2], ('R', 'L'), 7), // the label is nearly as likely FL
+                (17, "FL") => make_alike(&mut parts[2], ('L', 'R'), 8), // as likely FR: FL is the first by labels
+                _ => {}
+            }
+            let mut columns = parts.concat();
             if (level, face) == (14, "FR") {
                 columns.truncate(8); // the line runs off the sheet: fewer columns than any word has letters
             }
