@@ -1,6 +1,6 @@
 //! The forty sheets of examples/mast.
 use crate::process::answer;
-use model::sheet;
+use model::sheet::{self, Sheet};
 use std::path::{Path, PathBuf};
 use std::process::Command;
 use std::{env, fs, process};
@@ -41,6 +41,49 @@ fn angle(printed: &[u8], face: &str) -> u32 {
     let word = printed.lines().nth(1).unwrap();
     let angle = word.strip_prefix(face).expect("the face of the file");
     angle.trim().replace('.', "").parse().expect("a number")
+}
+
+/// The price of a sheet's line with one label in the place of either, if there is a reading.
+fn price_with(sheet: &Sheet, label: &str) -> Option<i32> {
+    let text = String::from_utf8(sheet.text.clone()).unwrap();
+    let fixed = Sheet {
+        text: text.replace("F[LR]", label).into_bytes(),
+        ..sheet.clone()
+    };
+    let printed = answer(&fixed.write());
+    printed.lines().next().unwrap().parse().ok()
+}
+
+/// What the table has for the label of a sheet's line: by how much the other label is dearer, with `?` below 16; `only` if there
+/// is no reading with the other one, nothing if there is none at all.
+fn label(sheet: &Sheet, face: &str) -> String {
+    let other = if face == "FL" { "FR" } else { "FL" };
+    match (price_with(sheet, face), price_with(sheet, other)) {
+        (Some(own), Some(other)) if other - own < 16 => format!("{}?", other - own),
+        (Some(own), Some(other)) => (other - own).to_string(),
+        (Some(_), None) => "only".to_string(),
+        (None, None) => String::new(),
+        (None, Some(_)) => panic!("only {other} has a reading"),
+    }
+}
+
+/// The column `label` of examples/mast.txt. At 6 FR the labels are hard to tell apart, and at 17 FL they are equal: then FL is
+/// read, which is the first by labels.
+#[test]
+fn labels_by_much_or_little() {
+    let table = fs::read_to_string(folder().join("../mast.txt")).unwrap();
+    assert_eq!(table.lines().count(), 41);
+    let mut doubtful = Vec::new();
+    for (n, row) in table.lines().skip(1).enumerate() {
+        let (level, face) = (1 + n as u32 / 2, ["FL", "FR"][n % 2]);
+        let sheet = Sheet::read(&sheet_at(&folder(), level, face)).expect("a sheet");
+        let column: String = row.chars().skip(34).take(6).collect();
+        assert_eq!(column.trim(), label(&sheet, face), "{row}");
+        if column.contains('?') {
+            doubtful.push((level, face));
+        }
+    }
+    assert_eq!(doubtful, [(6, "FR"), (17, "FL")]);
 }
 
 /// The sheets are those that the program `mast` writes.
