@@ -9,8 +9,7 @@ use Rattle.refusal.specs.declared.Refusal.the-variants.{NoReading}
 use Rattle.automaton.specs.Automaton.{Accepts}
 use Rattle.automaton.specs.Form.{view, alphabetOf}
 use Rattle.matrix.specs.Matrix.{Matrix, price}
-use Rattle.outcome.specs.Plain.{Plain-rival}
-use Rattle.decode_valid.specs.Demand.{No-rival}
+use Rattle.outcome.specs.Plain.{Plain-rival, No-rival}
 use Rattle.comparison.specs.Comparison.{Comparison, compared, turned-away}
 
 -- a rival for the form f, and no rival is cheaper

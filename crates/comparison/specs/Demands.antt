@@ -16,9 +16,8 @@ use Rattle.automaton.specs.Form.{view, alphabetOf}
 use Rattle.matrix.specs.Matrix.{Matrix}
 use Rattle.matrix.specs.Paths.{CostsPass}
 use Rattle.outcome.specs.Outcome.{Rival, Outcome}
-use Rattle.outcome.specs.Plain.{Plain-rival}
+use Rattle.outcome.specs.Plain.{Plain-rival, No-rival}
 use Rattle.outcome.specs.OutcomeLaws.{plain-exactly}
-use Rattle.decode_valid.specs.Demand.{No-rival}
 use Rattle.comparison.specs.Comparison.{Comparison, turned-away}
 use Rattle.comparison.specs.Checks.{larger-need, compare-checks}
 use Rattle.comparison.specs.Passing.{FitsBoth}

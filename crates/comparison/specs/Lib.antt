@@ -6,5 +6,4 @@ pub mod Promise
 pub mod ExchangeLaws
 pub mod Demand
 pub mod Demands
-pub mod Decoded
 pub mod Examples

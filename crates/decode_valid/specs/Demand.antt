@@ -11,11 +11,8 @@ use Rattle.answers.specs.Decoded.{read}
 use Rattle.ctc.specs.Collapse.{collapse}
 use Rattle.matrix.specs.Matrix.{Matrix, price}
 use Rattle.outcome.specs.Order.{NotAfter}
-use Rattle.outcome.specs.Plain.{Plain-rival}
+use Rattle.outcome.specs.Plain.{Plain-rival, No-rival}
 use Rattle.decode_valid.specs.Lent.{Lent}
-
-abbrev pub No-rival : (Word : List ℕ → Type 0) (k : ℕ) → Matrix → Type 0
-No-rival Word k M = (q : List ℕ) → Plain-rival Word k M q → ⊥
 
 -- A reading: the cheapest rival, and the first by labels among equals. Its own price and the length of its word are reported; the lent
 -- memory begins with the path and with its word, which is its collapse as `spelt` gives it.

@@ -18,13 +18,13 @@ use Rattle.ctc.specs.Collapse.{collapse}
 use Rattle.ctc.specs.CollapseLaws.{collapse-shorter}
 use Rattle.matrix.specs.Matrix.{Matrix, price}
 use Rattle.outcome.specs.Outcome.{Rival, OutcomeOf}
-use Rattle.outcome.specs.Plain.{Plain-rival}
+use Rattle.outcome.specs.Plain.{Plain-rival, No-rival}
 use Rattle.outcome.specs.OutcomeLaws.{outcome-of-same, plain-exactly}
 use Rattle.decode_checks.specs.Checks.{Rooms, matrix-checks}
 use Rattle.decode_checks.specs.PassingLaws.{fits}
 use Rattle.decode_valid.specs.Answers.{outcome-report, path-of, word-of, Answers}
 use Rattle.decode_valid.specs.Lent.{Lent, rooms}
-use Rattle.decode_valid.specs.Demand.{No-rival, Best-or-none}
+use Rattle.decode_valid.specs.Demand.{Best-or-none}
 use Rattle.decode_valid.specs.Kept.{Kept-from, Kept}
 
 -- Past the checks every cost is usable or that of a barred label, and a column has one for each label 0 to k. So a list is what demand 3

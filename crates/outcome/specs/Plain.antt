@@ -14,3 +14,6 @@ pub record Plain-rival (Word : List ℕ → Type 0) (k : ℕ) (M : Matrix) (p : 
   pub labels : Each (λ x. x ≤ k) p
   pub unbarred : Unbarred M p
   pub word : Word (collapse p)
+
+abbrev pub No-rival : (Word : List ℕ → Type 0) (k : ℕ) → Matrix → Type 0
+No-rival Word k M = (q : List ℕ) → Plain-rival Word k M q → ⊥

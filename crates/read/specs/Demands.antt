@@ -27,12 +27,12 @@ use Rattle.regex.specs.Characters.{CharacterWordsOf, SpellsWord}
 use Rattle.compile.specs.Call.{compile-call}
 use Rattle.compile.specs.Meaning.{compiled-means, compiled-spells, compiled-spelt}
 use Rattle.compile.specs.Means.{Means}
-use Rattle.outcome.specs.Plain.{Plain-rival}
+use Rattle.outcome.specs.Plain.{Plain-rival, No-rival}
 use Rattle.decode_checks.specs.Checks.{needed, matrix-checks}
 use Rattle.decode_valid.specs.Answers.{Answers}
 use Rattle.decode_valid.specs.AnswersLaws.{answers-same}
 use Rattle.decode_valid.specs.Lent.{Lent, rooms}
-use Rattle.decode_valid.specs.Demand.{No-rival, Best-or-none}
+use Rattle.decode_valid.specs.Demand.{Best-or-none}
 use Rattle.decode_valid.specs.Kept.{Kept}
 use Rattle.decode_valid.specs.DemandLaws.{answers-as-demanded, none-exactly, rival-reads}
 use Rattle.read_text.specs.Promise.{Reads}

@@ -18,12 +18,12 @@ use Rattle.automaton.specs.Form.{validForm, view, lettersOf, alphabetOf}
 use Rattle.matrix.specs.Matrix.{Matrix}
 use Rattle.outcome.specs.Outcome.{Outcome}
 use Rattle.outcome.specs.OutcomeLaws.{outcome-same}
-use Rattle.outcome.specs.Plain.{Plain-rival}
+use Rattle.outcome.specs.Plain.{Plain-rival, No-rival}
 use Rattle.decode_checks.specs.Checks.{Rooms, needed, matrix-checks, decode-checks}
 use Rattle.decode_valid.specs.Answers.{labels, DecodeAnswers}
 use Rattle.decode_valid.specs.AnswersLaws.{answers-same}
 use Rattle.decode_valid.specs.Lent.{Lent, rooms}
-use Rattle.decode_valid.specs.Demand.{No-rival, Best-or-none}
+use Rattle.decode_valid.specs.Demand.{Best-or-none}
 use Rattle.decode_valid.specs.Kept.{Kept}
 use Rattle.decode_valid.specs.DemandLaws.{answers-as-demanded, none-exactly, rival-reads}
 use Rattle.decode.specs.Promise.{Decodes}
