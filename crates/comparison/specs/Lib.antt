@@ -4,6 +4,7 @@ pub mod Passing
 pub mod PassingLaws
 pub mod Promise
 pub mod ExchangeLaws
+pub mod BoundsLaws
 pub mod Demand
 pub mod Demands
 pub mod Examples

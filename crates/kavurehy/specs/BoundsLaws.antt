@@ -8,7 +8,6 @@ use native.Mathlib.Nat.{mul-le-mul}
 use native.Mathlib.Omega.{arith}
 use lib.ListN.{length, length-append, length-map}
 use lib.Dec.{ltb}
-use lib.IntN.{pos, _-ℤ_}
 use mir.Syntax.{w32}
 use mir.Val.{SFits}
 use borrow.Author.Tests.{ltb-false}
@@ -17,7 +16,7 @@ use Rattle.lists.specs.Each.{all}
 use Rattle.lists.specs.OrderLaws.{or-neither}
 use Rattle.lists.specs.AmongLaws.{keep-shorter, flat-length}
 use Rattle.lists.specs.AscendingLaws.{length-numbers}
-use Rattle.numbers.specs.SignedLaws.{size-fits, difference-fits}
+use Rattle.numbers.specs.SignedLaws.{signed-fits}
 use Rattle.refusal.specs.declared.Refusal.{Refusal}
 use Rattle.refusal.specs.declared.Refusal.the-variants.{BadForm, OutputMemory, Label}
 use Rattle.refusal.specs.declared.Checked.{Checked}
@@ -39,9 +38,8 @@ use Rattle.automaton.specs.Automaton.{Accepts}
 use Rattle.automaton.specs.Form.{validForm, view, lettersOf, alphabetOf, arcWord, letterOf, arcsFrom, encode}
 use Rattle.automaton.specs.ValidLaws.{valid-parts}
 use Rattle.automaton.specs.EncodeLaws.{encode-view}
-use Rattle.matrix.specs.Matrix.{Matrix, price}
-use Rattle.matrix.specs.PathsLaws.{path-price}
-use Rattle.outcome.specs.Outcome.{Rival, Outcome}
+use Rattle.matrix.specs.Matrix.{Matrix}
+use Rattle.outcome.specs.Outcome.{Outcome}
 use Rattle.regex.specs.Grammar.{WordsOf}
 use Rattle.compile.specs.Call.{compile-call}
 use Rattle.compile.specs.Meaning.{compiled-means}
@@ -54,10 +52,9 @@ use Rattle.decode_valid.specs.Lent.{Lent, rooms}
 use Rattle.decode.specs.Promise.{Decodes}
 use Rattle.alphabet.specs.Labels.{characters}
 use Rattle.read_text.specs.Promise.{ReadsBy, Reads}
-use Rattle.comparison.specs.Comparison.{Comparison, turned-away as without}
-use Rattle.comparison.specs.Checks.{compare-checks}
-use Rattle.comparison.specs.PassingLaws.{fits-both-exactly}
-use Rattle.comparison.specs.Promise.{difference-report, CompareAnswers, Compares}
+use Rattle.comparison.specs.Comparison.{Comparison}
+use Rattle.comparison.specs.BoundsLaws.{comparison-bound}
+use Rattle.comparison.specs.Promise.{Compares}
 
 -- Collapse and Spread: what passes the checks is short.
 module _ (few : ℕ) (w : List ℕ) where
@@ -152,26 +149,6 @@ module _ {A s : List ℕ} {M : Matrix} {form form′ : List ℕ} {before after :
           (first-refusal (matrix-checks (length A) (lettersOf f) M (rooms before))) (λ e. fits (length A) (lettersOf f) M (rooms before) e .few) r in
           (omega arith, omega arith)
 
--- Compare: each price is that of at most 255 costs of at most 1,000,000.
-module _ (M : Matrix) (few : M .count ≤ 255) where
-  price-few : (Word : List ℕ → Type 0) (p : List ℕ) → Rival Word M p → price M p < 2 ^ 31
-  price-few Word p r = let e = r .path .one-each in let l = path-price M 0 p (r .path .labels) in omega arith
-
-  reported-fits :
-      (One Two : List ℕ → Type 0) (a b : Option (List ℕ)) → Outcome One M a → Outcome Two M b → SFits w32 (difference-report M a b .difference)
-  reported-fits One Two none b h k = size-fits 0 (omega arith)
-  reported-fits One Two (some p) none h k = size-fits 0 (omega arith)
-  reported-fits One Two (some p) (some q) h k =
-      difference-fits (price M p) (price M q) (price-few One p (h .qualifies)) (price-few Two q (k .qualifies))
-
-module _ (f g : List ℕ) (M : Matrix) (before after : List ℕ) (answer : Comparison) where
-  pub compare-fits : Compares f g M before after answer → SFits w32 (answer .difference)
-  compare-fits h = by (first-refusal (compare-checks f g M (length before))) refl h
-    where
-      by :
-          (c : Checked) → first-refusal (compare-checks f g M (length before)) ≡ c → Checks without c (CompareAnswers f g M) before after answer
-          → SFits w32 (answer .difference)
-      by (Refused n) e k = rw (k .0) (size-fits 0 (omega arith))
-      by Passed e k =
-          let few = fits-both-exactly f g M (length before) .0 e .few in
-          rw (k .answered) (reported-fits M few (Accepts (view f)) (Accepts (view g)) (k .first) (k .second) (k .first-is) (k .second-is))
+-- Compare: a difference of at most 255,000,000 either way.
+pub compare-fits : (f g : List ℕ) (M : Matrix) (before after : List ℕ) (answer : Comparison) → Compares f g M before after answer → SFits w32 (answer .difference)
+compare-fits f g M before after answer h = let l = comparison-bound f g M before after answer h in signed-fits (answer .difference) (omega arith)
