@@ -1,12 +1,13 @@
-//! Document 01 in plain Rust, as close to its sentences as possible, with four requests of document 02: classes of characters
-//! (T-01), word lists (T-05), barred labels (T-06) and characters with several labels (T-07). Nothing here is taken from the
-//! Rattle code; parser, matcher and search use other methods, and `ranked` breaks ties in another way. `input` makes random
-//! input, `tally` counts answers.
+//! Document 01 in plain Rust, as close to its sentences as possible, with five requests of document 02: classes of characters
+//! (T-01), the difference of two prices (T-04), word lists (T-05), barred labels (T-06) and characters with several labels (T-07).
+//! Nothing here is taken from the Rattle code; parser, matcher and search use other methods, and `ranked` breaks ties in another
+//! way. `input` makes random input, `tally` counts answers.
 
 pub mod alphabet;
 pub mod bracket;
 pub mod call;
 pub mod class;
+pub mod compare;
 pub mod derivatives;
 pub mod expression;
 pub mod form;

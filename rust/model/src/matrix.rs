@@ -1,4 +1,4 @@
-//! What Decode and Read are given besides a form or a text, and refusals 12 to 15.
+//! What Decode, Compare and Read are given besides forms or a text, and refusals 12 to 15.
 
 /// The cost of a barred label.
 pub const BARRED: u32 = 4_294_967_295;
@@ -25,13 +25,23 @@ pub fn need(columns: usize, letters: usize) -> usize {
 }
 
 impl Line {
+    /// Refusal 12 for this K.
+    pub fn misfits(&self, k: usize) -> bool {
+        let width = k + 1;
+        self.columns > 255 || self.width != width || self.costs.len() != self.columns * width
+    }
+
+    /// Refusal 13.
+    pub fn too_dear(&self) -> bool {
+        self.costs.iter().any(|&c| c > 1_000_000 && c != BARRED)
+    }
+
     /// The work words needed for K and L, or the first of refusals 12 to 15 that applies.
     pub fn check(&self, k: usize, letters: usize) -> Result<usize, u32> {
-        let width = k + 1;
-        if self.columns > 255 || self.width != width || self.costs.len() != self.columns * width {
+        if self.misfits(k) {
             return Err(12);
         }
-        if self.costs.iter().any(|&c| c > 1_000_000 && c != BARRED) {
+        if self.too_dear() {
             return Err(13);
         }
         if self.path < self.columns || self.word < self.columns {

@@ -2,8 +2,8 @@
 //! label wins, then the place whose own best rest comes first in the order of labels: for that, the rests of each column are
 //! ranked.
 use super::form::Form;
-use super::matrix::usable;
-use super::search::Best;
+use super::matrix::{usable, Line};
+use super::search::{exhaustive, Best};
 
 /// Where a path is: on a letter, or in the blanks after one; letter 0 means none yet.
 #[derive(Clone, Copy, Debug, PartialEq)]
@@ -44,6 +44,14 @@ pub fn ranked(form: &Form, costs: &[u32]) -> Option<Best> {
         }
     }
     Some(Best { price, path })
+}
+
+/// The best path of a small matrix by the search over all lists of labels and by this method: the two must agree.
+pub fn search_twice(form: &Form, line: &Line) -> Option<Best> {
+    let best = exhaustive(form.k, &line.costs, line.columns, |w| form.accepts(w));
+    let other = ranked(form, &line.costs);
+    assert_eq!(best, other, "the two methods differ: {form:?} {line:?}");
+    best
 }
 
 /// All places, that of no letter first.
