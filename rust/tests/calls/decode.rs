@@ -9,8 +9,8 @@ use model::form::Form;
 use model::input::matrix::few_columns;
 use model::input::{random, Random};
 use model::matrix::Line;
-use model::ranked::ranked;
-use model::search::{exhaustive, tied, Best};
+use model::ranked::{ranked, search_twice};
+use model::search::{tied, Best};
 use model::tally::Tally;
 
 /// A call of Decode.
@@ -138,13 +138,7 @@ impl Call {
 
     /// The same with both methods of search.
     pub fn hold_small(&self, tally: &mut Tally) -> Result<Best, u32> {
-        let line = &self.line;
-        self.hold(tally, |form| {
-            let best = exhaustive(form.k, &line.costs, line.columns, |w| form.accepts(w));
-            let other = ranked(form, &line.costs);
-            assert_eq!(best, other, "the two methods differ: {self:x?}");
-            best
-        })
+        self.hold(tally, |form| search_twice(form, &self.line))
     }
 
     fn hold_long(&self, tally: &mut Tally) -> Result<Best, u32> {

@@ -2,10 +2,15 @@
 use model::form::{Form, Letter};
 use model::input::Random;
 
-/// A valid form of at most this many characters and letters. A quarter have one label only, so that blanks are needed
-/// everywhere; some have no first or no last letter, and so accept at most the empty word.
+/// A valid form of at most this many characters and letters.
 pub fn random_form(r: &mut Random, most_characters: usize, most_letters: usize) -> Form {
     let k = r.edge(1, most_characters) as u8;
+    form_over(r, k, most_letters)
+}
+
+/// A valid form of this K and of at most this many letters. A quarter have one label only, so that blanks are needed everywhere;
+/// some have no first or no last letter, and so accept at most the empty word.
+pub fn form_over(r: &mut Random, k: u8, most_letters: usize) -> Form {
     let l = r.edge(1, most_letters);
     let one_label = r.chance(25).then(|| r.from(1, k.into()) as u8);
     let firsts = *r.pick(&[0, 30, 60, 60, 100]);
@@ -97,9 +102,14 @@ fn broken(r: &mut Random, form: &Form, kind: usize) -> Vec<u32> {
 /// A valid form in which a few bits are flipped: it may still be valid.
 pub fn flipped(r: &mut Random) -> Vec<u32> {
     let mut words = random_form(r, 10, 6).words();
+    flip(r, &mut words);
+    words
+}
+
+/// Flips a few bits of a form.
+pub fn flip(r: &mut Random, words: &mut [u32]) {
     for _ in 0..r.from(1, 3) {
         let n = r.below(words.len());
         words[n] ^= 1 << r.below(32);
     }
-    words
 }

@@ -155,7 +155,7 @@ fn lines_by_lists() {
 }
 
 /// The expression that is a choice of these words.
-fn choice(words: &[Vec<u8>]) -> Vec<u8> {
+pub fn choice(words: &[Vec<u8>]) -> Vec<u8> {
     let branch = |word: &Vec<u8>| word.iter().flat_map(|&c| ordinary(c)).collect();
     let branches: Vec<Vec<u8>> = words.iter().map(branch).collect();
     branches.join(&b'|')

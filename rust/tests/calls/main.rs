@@ -3,6 +3,9 @@
 
 mod barred;
 mod classes;
+mod compare;
+mod compare_call;
+mod compare_cases;
 mod compile;
 mod decode;
 mod forms;
@@ -14,6 +17,7 @@ mod list_cases;
 mod list_words;
 mod lists;
 mod matrix;
+mod pairs;
 mod read;
 mod read_call;
 mod repeats;

@@ -18,6 +18,12 @@ impl Element for u32 {
     }
 }
 
+impl Element for i32 {
+    fn pattern(place: usize) -> i32 {
+        u32::pattern(place) as i32
+    }
+}
+
 /// Lent memory with a pattern in it, before it and after it.
 pub struct Lent<T> {
     all: Vec<T>,
