@@ -2,7 +2,7 @@
    crates/kavurehy/src/lib.rt has the promises, and document 01 defines the words that are used below.
 
    A list is passed as a pointer to its first element and its length, the number of its elements. Lent memory is what a call may write: the
-   lists whose pointers are not const, and the counts. It may be uninitialised: apart from the contents of the work words, no
+   lists whose pointers are not const, and the counts, accepted and difference. It may be uninitialised: apart from the contents of the work words, no
    result depends on what lent memory held before.
 
    The caller has these duties:
@@ -12,8 +12,8 @@
    - Each pointer to uint32_t or int32_t must be aligned to 4 bytes.
    - Lent memory must not overlap any other list of the call, lent or const.
    - While a call runs, nothing else may write its lists, and nothing else may read its lent memory.
-   - The stack must be large enough. The proofs do not count it: compile and read were seen to use up to 269 kB, decode and
-     compile_list 20 kB, the other calls less than 4 kB.
+   - The stack must be large enough. The proofs do not count it: compile and read were seen to use up to 269 kB, decode,
+     compare and compile_list 20 kB, the other calls less than 4 kB.
 
    A call keeps no pointer and no state. Calls from several threads at once are safe if they share no lent memory: the lent memory of one
    call must not overlap any list of another. Const lists may be shared.
@@ -39,8 +39,8 @@
       9 letters        more than 127
      10 form memory    shorter than the form
      11 bad form       the list is no valid form; compare: one of the two lists or both
-     12 matrix         more than 255 columns, a width other than K + 1 (compare: K of either form), or a list whose length is not
-                       columns * width
+     12 matrix         more than 255 columns, a width other than K + 1 (compare: of both forms, so forms of unequal K are always turned
+                       away), or a list whose length is not columns * width
      13 cost           a cost over 1,000,000, except KAVUREHY_BARRED
      14 output memory  decode, read: path or word memory shorter than the number of columns; collapse: shorter than the path;
                        spread: shorter than the path needed; costs: shorter than the number of confidences

@@ -11,8 +11,7 @@ use Rattle.lists.specs.Stored.{Outside}
 use Rattle.lists.specs.OutsideLaws.{outside-then, outside-wider}
 use Rattle.refusal.specs.declared.Refusal.the-variants.{NoReading}
 use Rattle.automaton.specs.Automaton.{Accepts}
-use Rattle.automaton.specs.Form.{lettersOf, alphabetOf, view}
-use Rattle.automaton.specs.Proper.{Proper}
+use Rattle.automaton.specs.Form.{lettersOf, view}
 use Rattle.automaton.specs.ValidLaws.{valid-at, view-proper}
 use Rattle.matrix.specs.Matrix.{Matrix, price}
 use Rattle.outcome.specs.Outcome.{Outcome}

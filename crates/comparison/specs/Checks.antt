@@ -1,5 +1,5 @@
--- The checks of Compare, in their order (document 02, T-04): refusals 11, 12, 13 and 15, each of both forms. There is no 14: neither path
--- nor word memory is lent.
+-- The checks of Compare, in their order (document 02, T-04): refusals 11, 12, 13 and 15, for two forms. There is no 14: neither path nor
+-- word memory is lent.
 use Prim.Native.Nat.{ℕ, max}
 use mathlib.Core.Bool.{not, _||_}
 use mathlib.Core.List.{List, [], _∷_}

@@ -1,6 +1,6 @@
 -- `FL` and `FR` over the alphabet `FLR` on a line of two columns, computed: the difference both ways; the checks and their order.
 use Prim.Native.Nat.{ℕ, _*_}
-use mathlib.Core.Path.{_≡_, refl, ap₂, _∙_}
+use mathlib.Core.Path.{_≡_, refl, ap, ap₂, _∙_}
 use mathlib.Core.Option.{Option, some, none}
 use mathlib.Core.List.{List, [], _∷_, map}
 use lib.ListN.{length, drop, replicate}
@@ -13,11 +13,11 @@ use Rattle.refusal.specs.declared.Checked.the-variants.{Passed, Refused}
 use Rattle.refusal.specs.Verdict.{first-refusal}
 use Rattle.ctc.specs.Collapse.{merge, without-blanks, collapse}
 use Rattle.automaton.specs.Automaton.{Accepts}
-use Rattle.automaton.specs.Form.{ordered, validForm, alphabetOf, view, followOf, endsOf}
+use Rattle.automaton.specs.Form.{ordered, validForm, view, followOf, endsOf}
 use Rattle.automaton.specs.ValidLaws.{view-proper}
 use Rattle.automaton.specs.Accepted.{spells, accepts}
 use Rattle.automaton.specs.AcceptedLaws.{accepts-decides}
-use Rattle.matrix.specs.Matrix.{Matrix, matrix}
+use Rattle.matrix.specs.Matrix.{Matrix, BARRED, matrix}
 use Rattle.outcome.specs.Outcome.{Outcome}
 use Rattle.outcome.specs.OutcomeLaws.{outcome-unique}
 use Rattle.outcome.specs.ChoiceLaws.{not-after, preferred, better}
@@ -47,7 +47,7 @@ costs = 9 ∷ 0 ∷ 9 ∷ 9 ∷ 9 ∷ 9 ∷ 2 ∷ 5 ∷ []
 abbrev line : Matrix
 line = matrix costs 4 2
 
--- what the checks say of two forms, with so many work words
+-- what the checks say of two forms and a matrix, with `room` work words
 abbrev said : (f g : List ℕ) (costs : List ℕ) (width count room : ℕ) → Checked
 said f g costs width count room = first-refusal (compare-checks f g (matrix costs width count) room)
 
@@ -73,7 +73,7 @@ record Examples : Type 0 where
   cost-and-work : said f₂ f₂ (1 ∷ 1000001 ∷ 1 ∷ []) 3 1 5 ≡ Refused Cost
   -- what is reported of an answer
   difference : reported (answer.Difference (negsuc 2)) ≡ record { number = 0; difference = negsuc 2 }
-  refused : reported (answer.Refused NoReading) ≡ record { number = 16; difference = pos 0 }
+  refused : map (λ n. reported (answer.Refused n)) (BadForm ∷ NoReading ∷ []) ≡ record { number = 11; difference = pos 0 } ∷ record { number = 16; difference = pos 0 } ∷ []
   -- one form without a reading, or both
   none-first : (M : Matrix) (p : List ℕ) → difference-report M none (some p) ≡ turned-away NoReading
   none-second : (M : Matrix) (p : List ℕ) → difference-report M (some p) none ≡ turned-away NoReading
@@ -115,6 +115,22 @@ best-fr =
     let d = accepts-decides (view fr) 3 (view-proper fr refl) in
     decided-outcome line (Accepts (view fr)) (accepts (view fr)) (λ w. d w .0) (λ w. d w .1)
 
+best-f : Outcome (Accepts (view f₃)) line (some (1 ∷ 0 ∷ []))
+unfolding decided exhaustive over better preferred not-after usable collapse merge without-blanks spells any numbers followOf endsOf validForm ordered all
+best-f =
+    let d = accepts-decides (view f₃) 3 (view-proper f₃ refl) in
+    decided-outcome line (Accepts (view f₃)) (accepts (view f₃)) (λ w. d w .0) (λ w. d w .1)
+
+-- the same line with R barred in both columns: there is no reading as FR
+abbrev barred : Matrix
+barred = matrix (9 ∷ 0 ∷ 9 ∷ BARRED ∷ 9 ∷ 9 ∷ 2 ∷ BARRED ∷ []) 4 2
+
+no-fr : Outcome (Accepts (view fr)) barred none
+unfolding decided exhaustive over better preferred not-after usable collapse merge without-blanks spells any numbers followOf endsOf validForm ordered all
+no-fr =
+    let d = accepts-decides (view fr) 3 (view-proper fr refl) in
+    decided-outcome barred (Accepts (view fr)) (accepts (view fr)) (λ w. d w .0) (λ w. d w .1)
+
 -- FL is cheaper by 3. Of 16 work words 15 are needed, and the last is as it was.
 fl-less-fr :
     (after : List ℕ) (answer : Comparison) → Compares fl fr line (replicate 16 7) after answer
@@ -136,3 +152,28 @@ fr-less-fl before after answer e h =
     c .answered
     ∙ ap₂ (difference-report line) (outcome-unique line (Accepts (view fr)) (c .first) (some (1 ∷ 3 ∷ [])) (c .first-is) best-fr)
     (outcome-unique line (Accepts (view fl)) (c .second) (some (1 ∷ 2 ∷ [])) (c .second-is) best-fl)
+
+-- the larger form second: F is read for 9, and its table would need 9 words, but 15 may change
+f-less-fl :
+    (after : List ℕ) (answer : Comparison) → Compares f₃ fl line (replicate 16 7) after answer → (answer ≡ compared (pos 7)) × (drop 15 after ≡ 7 ∷ [])
+unfolding first-refusal validForm ordered all
+f-less-fl after answer h = (
+  h .answered
+      ∙ ap₂ (difference-report line) (outcome-unique line (Accepts (view f₃)) (h .first) (some (1 ∷ 0 ∷ [])) (h .first-is) best-f)
+      (outcome-unique line (Accepts (view fl)) (h .second) (some (1 ∷ 2 ∷ [])) (h .second-is) best-fl),
+  h .work .beyond,
+)
+
+-- one form without a reading: 16, a difference of 0, and the words that are not needed as they were
+fl-without-fr :
+    (after : List ℕ) (answer : Comparison) → Compares fl fr barred (replicate 16 7) after answer
+    → (answer ≡ record { number = 16; difference = pos 0 }) × (drop 15 after ≡ 7 ∷ [])
+unfolding first-refusal validForm ordered all
+fl-without-fr after answer h = (
+  h .answered ∙ without (h .first) (h .second) (outcome-unique barred (Accepts (view fr)) (h .second) none (h .second-is) no-fr),
+  h .work .beyond,
+)
+  where
+    without : (a b : Option (List ℕ)) → b ≡ none → difference-report barred a b ≡ turned-away NoReading
+    without none b e = refl
+    without (some p) b e = ap (difference-report barred (some p)) e

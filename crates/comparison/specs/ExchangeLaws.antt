@@ -3,7 +3,7 @@
 -- For the reader: nothing uses it.
 use Prim.Native.Nat.{ℕ, zero, suc, max}
 use mathlib.Core.Path.{_≡_, refl, sym, ap, ap₂, subst, _∙_}
-use mathlib.Core.Bool.{Bool, true, false, not, _||_}
+use mathlib.Core.Bool.{not, _||_, or-comm}
 use mathlib.Core.Option.{Option, some, none}
 use mathlib.Core.List.{List, [], _∷_}
 use native.Mathlib.Omega.{arith}
@@ -14,7 +14,7 @@ use Rattle.lists.specs.Each.{all}
 use Rattle.refusal.specs.declared.Refusal.the-variants.{BadForm, Matrix as MatrixRefusal, Cost, Work}
 use Rattle.refusal.specs.declared.Checked.{Checked}
 use Rattle.refusal.specs.declared.Checked.the-variants.{Passed, Refused}
-use Rattle.refusal.specs.Verdict.{Check, check, first-refusal}
+use Rattle.refusal.specs.Verdict.{check, first-refusal}
 use Rattle.refusal.specs.Checks.{Checks}
 use Rattle.automaton.specs.Automaton.{Accepts}
 use Rattle.automaton.specs.Form.{validForm, lettersOf, alphabetOf, view}
@@ -38,23 +38,13 @@ report-exchanged M none (some q) = refl
 report-exchanged M (some p) none = refl
 report-exchanged M (some p) (some q) = ap compared (minus-exchanged (pos (price M p)) (pos (price M q)))
 
-or-exchanged : (a b : Bool) → (a || b) ≡ (b || a)
-or-exchanged true true = refl
-or-exchanged true false = refl
-or-exchanged false true = refl
-or-exchanged false false = refl
-
 module _ (f g : List ℕ) (M : Matrix) where
   pub need-exchanged : larger-need f g M ≡ larger-need g f M
   need-exchanged = let e : max (lettersOf f) (lettersOf g) ≡ max (lettersOf g) (lettersOf f) = omega arith in ap (needed (M .count)) e
 
   checks-exchanged : (room : ℕ) → compare-checks f g M room ≡ compare-checks g f M room
   checks-exchanged room =
-      let form = or-exchanged (not (validForm f)) (not (validForm g)) in
-      let fault = or-exchanged (matrix-fault (alphabetOf f) M) (matrix-fault (alphabetOf g) M) in
-      let short = ap (ltb room) need-exchanged in
-      ap₂ (λ a b. check a BadForm ∷ (check b MatrixRefusal ∷ (check (not (all passes (M .costs))) Cost ∷ (check (ltb room (larger-need f g M)) Work ∷ [])))) form fault
-      ∙ ap (λ c. check (not (validForm g) || not (validForm f)) BadForm ∷ (check (matrix-fault (alphabetOf g) M || matrix-fault (alphabetOf f) M) MatrixRefusal ∷ (check (not (all passes (M .costs))) Cost ∷ (check c Work ∷ [])))) short
+      rw (or-comm (not (validForm f)) (not (validForm g)), or-comm (matrix-fault (alphabetOf f) M) (matrix-fault (alphabetOf g) M), need-exchanged)
 
   by-checks :
       (c : Checked) (before after before′ after′ : List ℕ) (one two : Comparison) → Checks turned-away c (CompareAnswers f g M) before after one

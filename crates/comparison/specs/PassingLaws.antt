@@ -1,18 +1,17 @@
--- Laws of the checks of Compare: an input passes them all exactly if both forms fit; where the alphabets are as large, they are those of
--- one form with the greater number of letters.
+-- Laws of the checks of Compare: an input passes them all exactly if it fits both forms; where K is the same, they are those of one form
+-- with the greater number of letters.
 use Prim.Native.Nat.{ℕ, _+_, _*_, _<_, _≤_, max}
 use mathlib.Core.Path.{_≡_, refl, sym, ap, ap₂, _∙_}
-use mathlib.Core.Bool.{Bool, true, false, not, _||_}
+use mathlib.Core.Bool.{Bool, true, false, not, _||_, or-self}
 use mathlib.Core.Logic.{_⊎_, inl, inr, _↔_}
 use mathlib.Core.List.{List, [], _∷_}
 use native.Mathlib.Omega.{arith}
 use lib.ListN.{length}
-use lib.Dec.{ltb, eqb}
+use lib.Dec.{ltb}
 use borrow.Author.Tests.{le-ltb, ltb-false, eq-eqb, not-false}
 use Rattle.lists.specs.OrderLaws.{lt-or-le, eq-or-ne, or-left, or-right, or-neither}
 use Rattle.lists.specs.EachLaws.{all-each, each-all}
 use Rattle.lists.specs.Each.{all}
-use Rattle.refusal.specs.declared.Refusal.{Refusal}
 use Rattle.refusal.specs.declared.Refusal.the-variants.{BadForm, Matrix as MatrixRefusal, Cost, OutputMemory, Work}
 use Rattle.refusal.specs.declared.Checked.the-variants.{Passed, Refused}
 use Rattle.refusal.specs.Verdict.{Check, check, first-refusal}
@@ -20,7 +19,7 @@ use Rattle.refusal.specs.VerdictLaws.{first-holds, first-fails, first-passed, f
 use Rattle.automaton.specs.Form.{validForm, lettersOf, alphabetOf}
 use Rattle.matrix.specs.Matrix.{Matrix}
 use Rattle.matrix.specs.Paths.{Passing}
-use Rattle.decode_checks.specs.Checks.{Rooms, needed, matrix-fault, passes, matrix-checks}
+use Rattle.decode_checks.specs.Checks.{Rooms, matrix-fault, passes, matrix-checks}
 use Rattle.decode_checks.specs.PassingLaws.{passes-exactly, fault-count, fault-width, fault-length, sized}
 use Rattle.comparison.specs.Checks.{larger-need, compare-checks}
 use Rattle.comparison.specs.Passing.{FitsBoth}
@@ -95,7 +94,7 @@ module _ (f g : List ℕ) (M : Matrix) (room : ℕ) where
     valid-both : first-refusal (compare-checks f g M room) ≡ first-refusal past-forms
     valid-both = first-fails bad BadForm past-forms (ap₂ (λ a b. not a || not b) one two)
 
-    -- alphabets that are not as large: 12, whatever the matrix is
+    -- forms of unequal K: 12, whatever the matrix is
     pub unequal-alphabets : (alphabetOf g ≡ alphabetOf f → ⊥) → first-refusal (compare-checks f g M room) ≡ Refused MatrixRefusal
     unequal-alphabets d = valid-both ∙ first-holds fault MatrixRefusal past-matrix (by (lt-or-le 255 (M .count)) (eq-or-ne (M .width) (alphabetOf f + 1)))
       where
@@ -115,16 +114,12 @@ module _ (f g : List ℕ) (M : Matrix) (room : ℕ) where
     abbrev past-output : List Check
     past-output = check small OutputMemory ∷ past-costs
 
-    -- alphabets that are as large: the checks of one form, with the greater number of letters
+    -- forms of equal K: the checks of one form, with the greater number of letters
     pub equal-alphabets :
         alphabetOf g ≡ alphabetOf f
         → first-refusal (compare-checks f g M room) ≡ first-refusal (matrix-checks (alphabetOf f) (max (lettersOf f) (lettersOf g)) M (work-alone M room))
     equal-alphabets e =
         valid-both
         ∙ first-same fault (matrix-fault (alphabetOf f) M) MatrixRefusal past-matrix (check dear Cost ∷ past-output)
-        (ap (λ k. matrix-fault (alphabetOf f) M || matrix-fault k M) e ∙ twice (matrix-fault (alphabetOf f) M))
+        (ap (λ k. matrix-fault (alphabetOf f) M || matrix-fault k M) e ∙ or-self (matrix-fault (alphabetOf f) M))
         (first-same dear dear Cost past-costs past-output refl (sym (first-fails small OutputMemory past-costs (ap (λ t. t || t) (le-ltb (M .count) (M .count) (omega arith))))))
-      where
-        twice : (t : Bool) → (t || t) ≡ t
-        twice true = refl
-        twice false = refl

@@ -23,8 +23,8 @@ difference-report M none second = turned-away NoReading
 difference-report M (some p) none = turned-away NoReading
 difference-report M (some p) (some q) = compared (pos (price M p) -ℤ pos (price M q))
 
--- Past the checks: the outcomes for the words of the two forms, and their difference. The work words after those that the larger form needs
--- are as they were.
+-- Past the checks: the outcomes for the words of the two forms, and the difference of their prices. The work words after those that the
+-- larger form needs are as they were.
 pub record CompareAnswers (f g : List ℕ) (M : Matrix) (before after : List ℕ) (answer : Comparison) : Type 0 where
   pub first : Option (List ℕ)
   pub first-is : Outcome (Accepts (view f)) M first

@@ -1,4 +1,4 @@
--- The lengths and the difference that the calls report fit in 32 bits.
+-- The lengths that the calls report fit in 32 bits.
 use Prim.Native.Nat.{ℕ, _*_, _^_, _<_, _≤_}
 use mathlib.Core.Path.{_≡_, refl, ap}
 use mathlib.Core.Bool.{Bool, true, false, not, _||_}
@@ -8,15 +8,12 @@ use native.Mathlib.Nat.{mul-le-mul}
 use native.Mathlib.Omega.{arith}
 use lib.ListN.{length, length-append, length-map}
 use lib.Dec.{ltb}
-use mir.Syntax.{w32}
-use mir.Val.{SFits}
 use borrow.Author.Tests.{ltb-false}
 use Rattle.lists.specs.Lists.{in-range, keep, numbers}
 use Rattle.lists.specs.Each.{all}
 use Rattle.lists.specs.OrderLaws.{or-neither}
 use Rattle.lists.specs.AmongLaws.{keep-shorter, flat-length}
 use Rattle.lists.specs.AscendingLaws.{length-numbers}
-use Rattle.numbers.specs.SignedLaws.{signed-fits}
 use Rattle.refusal.specs.declared.Refusal.{Refusal}
 use Rattle.refusal.specs.declared.Refusal.the-variants.{BadForm, OutputMemory, Label}
 use Rattle.refusal.specs.declared.Checked.{Checked}
@@ -52,9 +49,6 @@ use Rattle.decode_valid.specs.Lent.{Lent, rooms}
 use Rattle.decode.specs.Promise.{Decodes}
 use Rattle.alphabet.specs.Labels.{characters}
 use Rattle.read_text.specs.Promise.{ReadsBy, Reads}
-use Rattle.comparison.specs.Comparison.{Comparison}
-use Rattle.comparison.specs.BoundsLaws.{comparison-bound}
-use Rattle.comparison.specs.Promise.{Compares}
 
 -- Collapse and Spread: what passes the checks is short.
 module _ (few : ℕ) (w : List ℕ) where
@@ -148,7 +142,3 @@ module _ {A s : List ℕ} {M : Matrix} {form form′ : List ℕ} {before after :
           answers-few (WordsOf A s) (characters A) (length f) M (needed (M .count) (lettersOf f)) before after answer
           (first-refusal (matrix-checks (length A) (lettersOf f) M (rooms before))) (λ e. fits (length A) (lettersOf f) M (rooms before) e .few) r in
           (omega arith, omega arith)
-
--- Compare: a difference of at most 255,000,000 either way.
-pub compare-fits : (f g : List ℕ) (M : Matrix) (before after : List ℕ) (answer : Comparison) → Compares f g M before after answer → SFits w32 (answer .difference)
-compare-fits f g M before after answer h = let l = comparison-bound f g M before after answer h in signed-fits (answer .difference) (omega arith)

@@ -11,6 +11,7 @@ use Rattle.refusal.specs.declared.Checked.the-variants.{Passed, Refused 
 use Rattle.refusal.specs.declared.Counted.the-variants.{Filled, Refused}
 use Rattle.refusal.specs.Number.{numberOf}
 use Rattle.refusal.specs.Verdict.{Verdict, passed, refused, Check, check, unless, if-passed, first-refusal}
+use Rattle.refusal.specs.Checks.{Checks}
 use Rattle.refusal.specs.Fills.{reported, report, filling}
 
 -- the refusals in the order of documents 01 and 02
@@ -91,3 +92,12 @@ examples = record {
   written = refl;
   nothing-written = refl;
 }
+
+-- a call that makes its checks first, and whose answer is a number: a refusal leaves memory as it was, and what passes gets its own promise
+abbrev Passes : (before after : List ℕ) (answer : ℕ) → Type 0
+Passes before after answer = after ≡ some
+
+checked :
+    ((before after : List ℕ) (answer : ℕ) → Checks numberOf (Stopped Work) Passes before after answer → (answer ≡ 15) × (after ≡ before))
+    × ((before after : List ℕ) (answer : ℕ) → Checks numberOf Passed Passes before after answer → after ≡ some)
+checked = (λ before after answer h. h, λ before after answer h. h)

@@ -1,9 +1,10 @@
 -- Laws of the first check that holds.
-use mathlib.Core.Path.{_≡_, refl, ap, _∙_}
+use mathlib.Core.Path.{_≡_, refl, ap, subst, _∙_}
 use Prim.Native.Nat.{ℕ}
 use native.Mathlib.Omega.{arith}
 use mathlib.Core.Bool.{Bool, true, false}
 use mathlib.Core.List.{List, [], _∷_}
+use Rattle.lists.specs.Each.{Each}
 use Rattle.refusal.specs.declared.Refusal.{Refusal}
 use Rattle.refusal.specs.declared.Checked.the-variants.{Passed, Refused}
 use Rattle.refusal.specs.Verdict.{passed, refused, Check, check, unless, first-refusal}
@@ -54,6 +55,9 @@ pub first-fails : (t : Bool) (n : Refusal) (cs : List Check) → t ≡ false →
 unfolding first-refusal
 first-fails t n cs e = rw (e, first-refusal)
 
+abbrev pub refusal-of : Check → Refusal
+refusal-of (check t n) = n
+
 -- two lists that begin with the same check
 pub first-same :
     (s t : Bool) (n : Refusal) (cs ds : List Check) → s ≡ t → first-refusal cs ≡ first-refusal ds
@@ -61,6 +65,14 @@ pub first-same :
 unfolding first-refusal
 first-same s true n cs ds e h = rw e
 first-same s false n cs ds e h = rw (e, h)
+
+-- a refusal is that of some check in the list: what holds of each of them holds of it
+pub first-of :
+    (P : Refusal → Type 0) (cs : List Check) → Each (λ c. P (refusal-of c)) cs → (n : Refusal) → first-refusal cs ≡ Refused n → P n
+unfolding first-refusal
+first-of P [] h n e = let z : _≡_ {A = ℕ} 0 1 = cc in absurd (omega arith)
+first-of P (check true m ∷ cs) h n e = let q : m ≡ n = cc in subst P q (h .0)
+first-of P (check false m ∷ cs) h n e = first-of P cs (h .1) n e
 
 -- where all checks pass, each does
 pub first-passed : (t : Bool) (n : Refusal) (cs : List Check) → first-refusal (check t n ∷ cs) ≡ Passed → (t ≡ false) × (first-refusal cs ≡ Passed)

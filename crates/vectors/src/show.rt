@@ -126,11 +126,10 @@ pub fn form(refused: u32, length: u32) {
     }
 }
 
-// The answer of Compare.
+// The answer of Compare: the difference also at a refusal.
 pub fn difference(refused: u32, d: i32) {
     if refused != 0 {
         named(REFUSED, refused);
-        return;
     }
     say(DIFFERENCE);
     if d < 0 {

@@ -1,8 +1,9 @@
 -- `compare_valid::compare_valid` meets its contract: one table, then the other in its place, and the difference of their answers.
-use native.Mathlib.Omega.{arith}
-use borrow.Author.Needs.{needs}
+use mathlib.Core.Path.{_∙_}
+use mir.Syntax.{w32}
+use mir.ValLaws.{toZ-ofZ}
+use borrow.Author.Needs.{needs, sfits-of}
 use denote.Ref.{now}
-use Rattle.numbers.specs.SignedLaws.{difference-read}
 use Rattle.compare_valid.specs.TablesLaws.{sized-first, sized-second, nothing-first, nothing-second, both}
 use Rattle.compare_valid.proofs.compare_valid.Statement.{statement}
 use Rattle.compare_valid.proofs.compare_valid.Tie as tie
@@ -46,7 +47,7 @@ returns-3 c =
     let p = c .before .before .before .before .before .before .if1 .left in
     let q = c .before .if2 .left in
     both (now (s .args .work)) (s .pre) (one .ensures) (one .kept .1 .1 .1 .1 .0) (two .ensures) (two .kept .1 .1 .1 .1 .0) p q
-    (difference-read (c .difference .result) (one .result) (two .result) (omega arith) (omega arith) (c .difference .ensures))
+    (toZ-ofZ w32 (c .difference .result) (sfits-of (c .difference .ok)) ∙ c .difference .ensures)
 
 pub compare-valid-spec : {M : Type 1} → statement M
 compare-valid-spec =

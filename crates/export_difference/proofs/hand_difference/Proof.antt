@@ -1,10 +1,9 @@
 -- `export_difference::hand_difference` meets its contract.
-use mathlib.Core.Path.{refl, ap, subst}
-use mir.Syntax.{w32}
-use mir.Val.{SFits}
+use mathlib.Core.Path.{refl, ap}
+use mathlib.Core.List.{[], _∷_}
 use borrow.Author.Needs.{needs}
-use Rattle.comparison.specs.Comparison.{Comparison, reported}
-use Rattle.export_difference.specs.HandedLaws.{hands-as, read-back}
+use Rattle.comparison.specs.Comparison.{reported}
+use Rattle.export_difference.specs.HandedLaws.{hands-as}
 use Rattle.export_difference.proofs.hand_difference.Statement.{statement}
 use Rattle.export_difference.proofs.hand_difference.Tie as tie
 
@@ -18,9 +17,7 @@ number-requires : tie.Need-number-requires
 number-requires c κs = search needs
 
 returns : tie.Need-returns
-returns c =
-    let told = ap reported (c .before .before .answer .given .1) in
-    hands-as told (read-back (c .before .before .answer .given .0 .0) (subst (λ (d : Comparison). SFits w32 (d .difference)) told (c .before .before .before .before .before .pre)), refl)
+returns c = hands-as (ap reported (c .before .before .answer .given .1)) (ap (λ z. z ∷ []) (search needs), refl)
 
 returns-2 : tie.Need-returns-2
 returns-2 c = hands-as (ap reported (c .before .before .answer2 .given .1)) (refl, c .number .ensures)

@@ -1,6 +1,6 @@
 -- `numbers::magnitude` meets its contract. What the machine reads from a number's bits is the number; a negative one is turned in 64 bits.
-use Prim.Native.Nat.{ℕ, suc, _+_, _^_, _<_}
-use mathlib.Core.Path.{_≡_, refl, sym, ap, subst, _∙_}
+use Prim.Native.Nat.{suc, _+_, _^_, _<_}
+use mathlib.Core.Path.{_≡_, sym, ap, subst, _∙_}
 use mathlib.Core.Bool.{true, false}
 use native.Mathlib.Omega.{arith}
 use lib.IntN.{ℤ, pos, negsuc, natAbs, _-ℤ_}
@@ -8,6 +8,7 @@ use lib.Dec.{T}
 use lib.Signed.{ltZ, nonNeg}
 use mir.Syntax.{w32, w64}
 use mir.Val.{Fits, SFits, toZ, ofZ}
+use mir.Facts.{sfits-widen}
 use mir.ValLaws.{toZ-ofZ}
 use borrow.Author.Needs.{needs}
 use borrow.Author.Tests.{ltb-true}
@@ -22,9 +23,6 @@ short z = toZ w32 (ofZ w32 z)
 abbrev long : ℤ → ℤ
 long z = toZ w64 (ofZ w64 z)
 
-wide : (z : ℤ) → SFits w32 z → SFits w64 z
-wide z h = record { sfits = let s = h .sfits in omega arith }
-
 -- a number below 0, and what it is taken from 0 as
 record Below (d : ℤ) : Type 0 where
   pub cast : SFits w64 (short d)
@@ -36,10 +34,10 @@ below : (d : ℤ) → SFits w32 d → ltZ (short d) (pos 0) ≡ true → Below d
 below (pos n) h t = let l = ltb-true n 0 (ap (λ z. ltZ z (pos 0)) (sym (toZ-ofZ w32 (pos n) h)) ∙ t) in absurd (omega arith)
 below (negsuc n) h t =
     let e = toZ-ofZ w32 (negsuc n) h in
-    let f : long (short (negsuc n)) ≡ negsuc n = ap long e ∙ toZ-ofZ w64 (negsuc n) (wide (negsuc n) h) in
+    let f : long (short (negsuc n)) ≡ negsuc n = ap long e ∙ toZ-ofZ w64 (negsuc n) (sfits-widen tt h) in
     let s : SFits w64 (pos (0 + suc n)) = record { sfits = let l = h .sfits in omega arith } in
     record {
-      cast = subst (SFits w64) (sym e) (wide (negsuc n) h);
+      cast = subst (SFits w64) (sym e) (sfits-widen tt h);
       less = subst (λ z. SFits w64 (pos 0 -ℤ z)) (sym f) s;
       is = ap (λ z. long (pos 0 -ℤ z)) f ∙ toZ-ofZ w64 (pos (0 + suc n)) s ∙ ap pos (let q : 0 + suc n ≡ suc n = omega arith in q);
       small = let l = h .sfits in omega arith;
