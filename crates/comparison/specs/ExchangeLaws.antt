@@ -1,26 +1,22 @@
 -- Laws: exchanging the forms changes the answer's sign and no refusal (document 02, T-04), whatever the two answers are that meet the
 -- promise; a form compared with itself differs by 0.
--- For the reader: nothing uses it.
 use Prim.Native.Nat.{ℕ, zero, suc, max}
 use mathlib.Core.Path.{_≡_, refl, sym, ap, ap₂, subst, _∙_}
-use mathlib.Core.Bool.{not, _||_, or-comm}
+use mathlib.Core.Bool.{not, or-comm}
 use mathlib.Core.Option.{Option, some, none}
-use mathlib.Core.List.{List, [], _∷_}
+use mathlib.Core.List.{List}
 use native.Mathlib.Omega.{arith}
 use lib.ListN.{length}
-use lib.Dec.{ltb}
 use lib.IntN.{ℤ, pos, negsuc, negℤ, _+ℤ_, _-ℤ_, negℤ-negℤ, negℤ-+ℤ, +ℤ-comm, pos-ne-negsuc}
-use Rattle.lists.specs.Each.{all}
-use Rattle.refusal.specs.declared.Refusal.the-variants.{BadForm, Matrix as MatrixRefusal, Cost, Work}
 use Rattle.refusal.specs.declared.Checked.{Checked}
 use Rattle.refusal.specs.declared.Checked.the-variants.{Passed, Refused}
-use Rattle.refusal.specs.Verdict.{check, first-refusal}
+use Rattle.refusal.specs.Verdict.{first-refusal}
 use Rattle.refusal.specs.Checks.{Checks}
 use Rattle.automaton.specs.Automaton.{Accepts}
 use Rattle.automaton.specs.Form.{validForm, lettersOf, alphabetOf, view}
 use Rattle.matrix.specs.Matrix.{Matrix, price}
 use Rattle.outcome.specs.OutcomeLaws.{outcome-unique}
-use Rattle.decode_checks.specs.Checks.{needed, matrix-fault, passes}
+use Rattle.decode_checks.specs.Checks.{needed, matrix-fault}
 use Rattle.comparison.specs.Comparison.{Comparison, compared, turned-away}
 use Rattle.comparison.specs.Checks.{larger-need, compare-checks}
 use Rattle.comparison.specs.Promise.{difference-report, CompareAnswers, Compares}

@@ -29,6 +29,8 @@ abbrev pub work-alone : Matrix → (room : ℕ) → Rooms
 work-alone M room = record { path = M .count; word = M .count; work = room }
 
 module _ (f g : List ℕ) (M : Matrix) (room : ℕ) where
+  -- The tests of the four checks, and the checks after each.
+
   abbrev bad : Bool
   bad = not (validForm f) || not (validForm g)
 
@@ -108,11 +110,13 @@ module _ (f g : List ℕ) (M : Matrix) (room : ℕ) where
             or-right (matrix-fault (alphabetOf f) M) (matrix-fault (alphabetOf g) M)
             (fault-width (alphabetOf g) M h (λ w. d (omega arith)))
 
-    abbrev small : Bool
-    small = ltb (M .count) (M .count) || ltb (M .count) (M .count)
+    -- refusal 14 for memory as long as the matrix, and the checks from it on
+
+    abbrev short-output : Bool
+    short-output = ltb (M .count) (M .count) || ltb (M .count) (M .count)
 
     abbrev past-output : List Check
-    past-output = check small OutputMemory ∷ past-costs
+    past-output = check short-output OutputMemory ∷ past-costs
 
     -- forms of equal K: the checks of one form, with the greater number of letters
     pub equal-alphabets :
@@ -122,4 +126,4 @@ module _ (f g : List ℕ) (M : Matrix) (room : ℕ) where
         valid-both
         ∙ first-same fault (matrix-fault (alphabetOf f) M) MatrixRefusal past-matrix (check dear Cost ∷ past-output)
         (ap (λ k. matrix-fault (alphabetOf f) M || matrix-fault k M) e ∙ or-self (matrix-fault (alphabetOf f) M))
-        (first-same dear dear Cost past-costs past-output refl (sym (first-fails small OutputMemory past-costs (ap (λ t. t || t) (le-ltb (M .count) (M .count) (omega arith))))))
+        (first-same dear dear Cost past-costs past-output refl (sym (first-fails short-output OutputMemory past-costs (ap (λ t. t || t) (le-ltb (M .count) (M .count) (omega arith))))))
