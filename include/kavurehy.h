@@ -12,8 +12,8 @@
    - Each pointer to uint32_t or int32_t must be aligned to 4 bytes.
    - Lent memory must not overlap any other list of the call, lent or const.
    - While a call runs, nothing else may write its lists, and nothing else may read its lent memory.
-   - The stack must be large enough. The proofs do not count it: compile and read were seen to use up to 269 kB, decode 23
-     kB, compare and compile_list 20 kB, the other calls less than 4 kB.
+   - The stack must be large enough. The proofs do not count it: compile and read were seen to use up to 269 kB, decode 23 kB, compare and
+     compile_list 20 kB, the other calls less than 4 kB.
 
    A call keeps no pointer and no state. Calls from several threads at once are safe if they share no lent memory: the lent memory of one
    call must not overlap any list of another. Const lists may be shared.
