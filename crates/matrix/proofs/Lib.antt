@@ -1,2 +1,3 @@
 pub mod PassedOn
 pub mod View
+pub mod Made
