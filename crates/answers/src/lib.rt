@@ -1,4 +1,5 @@
 // What Judge, Decode and Read answer.
+#![tactic(auto)]
 use refusal::Refusal;
 
 // What Judge answers.

@@ -3,10 +3,10 @@
 use Rattle.std.specs.Prelude.{ℕ, List, [], ◌∷◌, length, ltb}
 use Rattle.refusal.specs.declared.Refusal.TheVariants.{Letters, FormMemory}
 use Rattle.refusal.specs.Verdict.{Verdict, refused, check, unless, if_passed}
-use Rattle.regex.specs.Tree.{Tree}
-use Rattle.regex.specs.Parsing.{Parsing, found, fault}
-use Rattle.regex.specs.Letters.{letter_count}
-use Rattle.regex.specs.Parse.{expression_of}
+use Rattle.regex_tree.specs.Tree.{Tree}
+use Rattle.regex_tree.specs.Parsing.{Parsing, found, fault}
+use Rattle.regex_tree.specs.Letters.{letter_count}
+use Rattle.regex_tree.specs.Parse.{expression_of}
 use Rattle.positions.specs.Compiled.{form_of}
 use Rattle.alphabet.specs.Alphabet.{text_checks}
 

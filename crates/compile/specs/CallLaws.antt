@@ -10,13 +10,13 @@ use Rattle.refusal.specs.declared.Refusal.TheVariants as refusal
 use Rattle.refusal.specs.Verdict.{refused, check, unless, if_passed, first_refusal}
 use Rattle.refusal.specs.VerdictLaws.{unless_holds, unless_fails, first_refused, first_all}
 use Rattle.refusal.specs.declared.Checked.TheVariants as checks
-use Rattle.regex.specs.Tree.{Tree}
-use Rattle.regex.specs.Parsing.{Parsing, found, fault}
-use Rattle.regex.specs.Letters.{letter_count}
-use Rattle.regex.specs.SenseLaws.{sensible}
-use Rattle.regex.specs.Few.{few}
-use Rattle.regex.specs.Exact.{exact, expression_whole}
-use Rattle.regex.specs.Parse.{expression_of}
+use Rattle.regex_tree.specs.Tree.{Tree}
+use Rattle.regex_tree.specs.Parsing.{Parsing, found, fault}
+use Rattle.regex_tree.specs.Letters.{letter_count}
+use Rattle.regex_tree.specs.SenseLaws.{sensible}
+use Rattle.regex_tree.specs.Few.{few}
+use Rattle.regex_tree.specs.Exact.{exact, expression_whole}
+use Rattle.regex_tree.specs.Parse.{expression_of}
 use Rattle.positions.specs.Numbered.{automaton_of}
 use Rattle.automaton.specs.Form.{encode}
 use Rattle.positions.specs.Compiled.{form_of}

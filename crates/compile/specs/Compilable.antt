@@ -1,7 +1,7 @@
 -- A text that compiles over an alphabet.
 use Rattle.std.specs.Prelude.{ℕ, ◌≤◌, ◌≡◌, true, List}
-use Rattle.regex.specs.Letters.{letter_count}
-use Rattle.regex.specs.Parse.{expression_of}
+use Rattle.regex_tree.specs.Letters.{letter_count}
+use Rattle.regex_tree.specs.Parse.{expression_of}
 use Rattle.regex_bracket.specs.Answers.{is_found}
 use Rattle.positions_build.specs.Whole.{tree_of_text}
 

@@ -3,7 +3,7 @@
 use Rattle.std.specs.Prelude.{ℕ, ◌≤◌, not, ◌↔◌, length, ltb}
 use Rattle.std.proofs.Math.Path.{◌≡◌, refl, ap}
 use Rattle.std.proofs.Common.{sym, ◌∙◌, subst, arith, ltb-false, le-ltb}
-use Rattle.std.proofs.Math.Logic.{Iff·trans, Iff·symm}
+use mathlib.Core.Logic.Iff.{trans as iff_trans, symm as iff_symm}
 use mathlib.Core.List.{List, [], ◌∷◌}
 use Rattle.std.proofs.lemmas.Bool.{not-false}
 use Rattle.lists.specs.Lists.{in_range}
@@ -15,15 +15,15 @@ use Rattle.refusal.specs.declared.Checked.TheVariants.{Passed}
 use Rattle.alphabet.specs.Labels.{characters}
 use Rattle.automaton.specs.Automaton.{Accepts}
 use Rattle.automaton.specs.Form.{view}
-use Rattle.regex.specs.Tree.{Tree}
-use Rattle.regex.specs.Parsing.{Parsing, found, fault}
-use Rattle.regex.specs.Letters.{letter_count}
-use Rattle.regex.specs.Parse.{expression_of}
-use Rattle.regex.specs.Grammar.{TextOf}
-use Rattle.regex.specs.Exact.{exact, words_of_text, expression_whole}
-use Rattle.regex.specs.Characters.{CharacterWordsOf, SpellsWord}
-use Rattle.regex.specs.CharactersLaws.{words_of_spelt, all_spelt}
-use Rattle.regex.specs.SenseLaws.{sensible}
+use Rattle.regex_tree.specs.Tree.{Tree}
+use Rattle.regex_tree.specs.Parsing.{Parsing, found, fault}
+use Rattle.regex_tree.specs.Letters.{letter_count}
+use Rattle.regex_tree.specs.Parse.{expression_of}
+use Rattle.regex_tree.specs.Grammar.{TextOf}
+use Rattle.regex_tree.specs.Exact.{exact, words_of_text, expression_whole}
+use Rattle.regex_tree.specs.Characters.{CharacterWordsOf, SpellsWord}
+use Rattle.regex_tree.specs.CharactersLaws.{words_of_spelt, all_spelt}
+use Rattle.regex_tree.specs.SenseLaws.{sensible}
 use Rattle.positions.specs.Compiled.{form_of}
 use Rattle.positions.specs.CompiledLaws.{form_valid, form_alphabet, form_letters, form_words}
 use Rattle.alphabet.specs.Alphabet.{is_alphabet, text_checks}
@@ -48,7 +48,7 @@ module _ (A s : List ℕ) (room : ℕ) (f : List ℕ) where
         tree = t;
         text = (exact A s t).0 whole;
         letters = form_letters A t o low high few;
-        words = λ w. Iff·trans (form_words A t o low high few w) (Iff·symm (words_of_text A s t whole w));
+        words = λ w. iff_trans (form_words A t o low high few w) (iff_symm (words_of_text A s t whole w));
       })
 
   -- the theorem a user reads
@@ -68,7 +68,7 @@ module _ (A s : List ℕ) (room : ℕ) (f : List ℕ) where
   -- The same with words over characters: it accepts a list of labels exactly if their characters spell a word of the text, and the words of
   -- the text are what it accepts, spelt.
   pub compiled_spells : compile_call A s room ≡ passed f → (w : List ℕ) → Accepts (view f) w ↔ SpellsWord A s w
-  compiled_spells e w = Iff·trans ((compiled_means e).words w) (words_of_spelt A s w)
+  compiled_spells e w = iff_trans ((compiled_means e).words w) (words_of_spelt A s w)
 
   pub compiled_spelt :
       compile_call A s room ≡ passed f → (v : List ℕ) → CharacterWordsOf A s v ↔ ((w : List ℕ) × Accepts (view f) w × (characters A w ≡ v))

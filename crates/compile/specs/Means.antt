@@ -2,9 +2,9 @@
 use Rattle.std.specs.Prelude.{ℕ, ◌≡◌, true, ◌↔◌, List, length}
 use Rattle.automaton.specs.Automaton.{Accepts}
 use Rattle.automaton.specs.Form.{valid_form, view, letters_of, alphabet_of}
-use Rattle.regex.specs.Tree.{Tree}
-use Rattle.regex.specs.Letters.{letter_count}
-use Rattle.regex.specs.Grammar.{TextOf, WordsOf}
+use Rattle.regex_tree.specs.Tree.{Tree}
+use Rattle.regex_tree.specs.Letters.{letter_count}
+use Rattle.regex_tree.specs.Grammar.{TextOf, WordsOf}
 
 -- the form f is that of the text s over the alphabet A: valid, with its K and L, and with the text's words
 pub record Means (A s f : List ℕ) : Type 0 where

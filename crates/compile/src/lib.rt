@@ -1,7 +1,8 @@
 // Compile: from an alphabet and the text of an expression to its form (document 01, "Expression text", "Opening and the compiled form").
+#![tactic(auto)]
 ghost use Rattle.std.specs.Prelude.{◌≤◌, length};
 ghost use Rattle.refusal.specs.Fills.{reported, Fills};
-ghost use Rattle.regex.specs.Parse.{expression_of};
+ghost use Rattle.regex_tree.specs.Parse.{expression_of};
 ghost use Rattle.positions.specs.Numbered.{automaton_of};
 ghost use Rattle.form_encode.specs.Call.{form_call};
 ghost use Rattle.positions_build.specs.Whole.{tree_of_text};

@@ -4,7 +4,7 @@ use Rattle.std.specs.Prelude.{ℕ, ◌≤◌, ◌↔◌, List, [], ◌∷◌, le
 use Rattle.std.proofs.Math.Path.{◌≡◌, refl, ap}
 use Rattle.std.proofs.Common.{sym, subst, ◌∙◌, inl, arith, ltb-false, le-ltb}
 use Rattle.std.proofs.Math.Option.{some}
-use Rattle.std.proofs.Math.Logic.{Iff·trans, Iff·symm}
+use mathlib.Core.Logic.Iff.{trans as iff_trans, symm as iff_symm}
 use Rattle.lists.specs.Each.{Each}
 use Rattle.lists.specs.Lists.{Among}
 use Rattle.lists.specs.AmongLaws.{among_at, among_index, each_among}
@@ -84,7 +84,7 @@ module _ (A s : List ℕ) where
           alphabet = alphabet_same (length A) (prefix_tree A ws) proper some few k.0 k.1;
           letters = letters_same (length A) (prefix_tree A ws) proper some few k.0 k.1 ∙ n;
           lines = ((fault_exactly s).0 p.readable.no_fault).0;
-          accepts = λ w. Iff·trans (Iff·symm (encode_accepts (length A) (prefix_tree A ws) proper some few k.0 k.1 w)) (accepts_listed A ws w);
+          accepts = λ w. iff_trans (iff_symm (encode_accepts (length A) (prefix_tree A ws) proper some few k.0 k.1 w)) (accepts_listed A ws w);
         })
 
     -- the listed words are what the form accepts, spelt

@@ -1,4 +1,5 @@
 // CompileList: from an alphabet and a list of words, each closed by one newline, to their form (document 02, T-05 and T-07).
+#![tactic(auto)]
 ghost use Rattle.std.specs.Prelude.{◌≡◌, ◌≤◌, length};
 ghost use Rattle.refusal.specs.Verdict.{first_refusal};
 ghost use Rattle.refusal.specs.Fills.{reported, Fills};

@@ -4,6 +4,7 @@
 //     target/bin/confidence_table | tee crates/confidence_table/stdout > crates/confidence/src/table.rt
 //
 // The gate compares what is printed with both files; no contract can speak of it.
+#![tactic(auto)]
 use libc::STDOUT_FILENO;
 
 // The lines before the costs.

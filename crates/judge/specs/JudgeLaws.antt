@@ -2,7 +2,7 @@
 use Rattle.std.specs.Prelude.{ℕ, ◌≤◌, ◌≡◌, refl, Bool, true, false, ◌↔◌, List, [], ◌∷◌, length, get_or, leb}
 use Rattle.std.proofs.Common.{ap, ◌∙◌, arith, le-leb}
 use Rattle.std.proofs.Math.Bool.{not}
-use Rattle.std.proofs.Math.Logic.{Iff·trans}
+use mathlib.Core.Logic.Iff.{trans as iff_trans}
 use Rattle.lists.specs.Lists.{in_range}
 use Rattle.lists.specs.Each.{Each}
 use Rattle.lists.specs.OrderLaws.{and_both}
@@ -71,9 +71,9 @@ module _ (form word : List ℕ) where
 -- a first letter along arcs to a last letter spells it.
 module _ (form : List ℕ) (valid : valid_form form ≡ true) where
   pub judged_empty : (judged form [] ≡ passed true) ↔ (bit8 (get_or form 0 0) ≡ true)
-  judged_empty = Iff·trans (judged_exact form [] valid (omega arith) tt) (empty_accepted form)
+  judged_empty = iff_trans (judged_exact form [] valid (omega arith) tt) (empty_accepted form)
 
   pub judged_nonempty :
       (x : ℕ) (w : List ℕ) → length (x ∷ w) ≤ 255 → Each (λ y. (1 ≤ y) × (y ≤ alphabet_of form)) (x ∷ w)
       → (judged form (x ∷ w) ≡ passed true) ↔ WalkSpells form (x ∷ w)
-  judged_nonempty x w short labels = Iff·trans (judged_exact form (x ∷ w) valid short labels) (nonempty_accepted form valid x w)
+  judged_nonempty x w short labels = iff_trans (judged_exact form (x ∷ w) valid short labels) (nonempty_accepted form valid x w)

@@ -35,7 +35,7 @@ use Rattle.automaton.specs.ValidLaws.{valid_parts}
 use Rattle.automaton.specs.EncodeLaws.{encode_view}
 use Rattle.matrix.specs.Matrix.{Matrix}
 use Rattle.outcome.specs.Outcome.{Outcome}
-use Rattle.regex.specs.Grammar.{WordsOf}
+use Rattle.regex_tree.specs.Grammar.{WordsOf}
 use Rattle.compile.specs.Call.{compile_call}
 use Rattle.compile.specs.Meaning.{compiled_means}
 use Rattle.compile_list.specs.Call.{compile_list_call}

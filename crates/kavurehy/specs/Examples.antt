@@ -21,7 +21,7 @@ use Rattle.outcome.specs.OutcomeLaws.{outcome_same, outcome_unique}
 use Rattle.outcome.specs.ChoiceLaws.{not_after, preferred, better}
 use Rattle.outcome.specs.Exhaustive.{over, exhaustive, usable, decided, decided_outcome}
 use Rattle.text.specs.Bytes.{bytes}
-use Rattle.regex.specs.Grammar.{WordsOf}
+use Rattle.regex_tree.specs.Grammar.{WordsOf}
 use Rattle.compile.specs.Call.{compile_call}
 use Rattle.compile.specs.Meaning.{compiled_means}
 use Rattle.decode_valid.specs.Answers.{outcome_report, path_of, word_of, labels}

@@ -1,13 +1,13 @@
 -- The form of a tree is valid, and accepts exactly the words of the tree.
 use Rattle.std.specs.Prelude.{ℕ, ◌≤◌, ◌≡◌, ◌↔◌, true, List, length}
 use Rattle.std.proofs.Common.{◌∙◌, arith}
-use Rattle.std.proofs.Math.Logic.{Iff·trans, Iff·symm}
+use mathlib.Core.Logic.Iff.{trans as iff_trans, symm as iff_symm}
 use Rattle.automaton.specs.Automaton.{Accepts}
 use Rattle.automaton.specs.Form.{valid_form, view, alphabet_of, letters_of}
 use Rattle.automaton.specs.EncodeLaws.{encode_valid, encode_accepts, letters_same, alphabet_same}
-use Rattle.regex.specs.Tree.{Tree, Words}
-use Rattle.regex.specs.Letters.{letter_count}
-use Rattle.regex.specs.SenseLaws.{Sensible, letters_some}
+use Rattle.regex_tree.specs.Tree.{Tree, Words}
+use Rattle.regex_tree.specs.Letters.{letter_count}
+use Rattle.regex_tree.specs.SenseLaws.{Sensible, letters_some}
 use Rattle.positions.specs.LettersLaws.{opened_letters}
 use Rattle.positions.specs.Numbered.{position_automaton, automaton_of}
 use Rattle.positions.specs.Exact.{accepts_words, automaton_proper}
@@ -37,7 +37,7 @@ module _ (A : List ℕ) (t : Tree) (o : Sensible A t) (low : 1 ≤ length A) (hi
 
   pub form_words : (w : List ℕ) → Accepts (view (form_of A t)) w ↔ Words A t w
   form_words w =
-      Iff·trans
-      (Iff·symm (encode_accepts (length A) (automaton_of A t) (automaton_proper A t)
+      iff_trans
+      (iff_symm (encode_accepts (length A) (automaton_of A t) (automaton_proper A t)
       (omega (arith, automaton_letters A t o, letters_some A t o)) (omega (arith, automaton_letters A t o)) low high w))
       (accepts_words A t o w)

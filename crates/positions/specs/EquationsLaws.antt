@@ -6,7 +6,7 @@ use Rattle.std.proofs.Common.{sym, inl, inr, arith, length-append, eq-eqb, ne_eq
 use Rattle.std.proofs.Math.Bool.{or-false, and-true, and-false}
 use Rattle.std.proofs.lemmas.Bool.{lt-leb}
 use Rattle.lists.specs.OrderLaws.{lt_or_le, eq_or_ne}
-use Rattle.regex.specs.Tree.{Count, between, onward}
+use Rattle.regex_tree.specs.Tree.{Count, between, onward}
 use Rattle.positions.specs.Opened.{Opened, joining, alternation, optional, star, plus, empty, any_of, copies, nested, repeated, labels, letters}
 use Rattle.positions.specs.Numbered.{Positions, numbered}
 

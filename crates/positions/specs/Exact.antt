@@ -1,7 +1,7 @@
 -- The automaton of a tree is proper, and accepts exactly the tree's words.
 use Rattle.std.specs.Prelude.{ℕ, zero, suc, ◌+◌, ◌-◌, ◌≤◌, ◌<◌, ◌≡◌, ◌⊎◌, ◌↔◌, true, false, List, [], ◌++◌, length, get_or}
 use Rattle.std.proofs.Common.{ap, subst, ◌∙◌, inl, inr, ⊎_elim, length-append, get_or-append-add}
-use Rattle.std.proofs.Math.Logic.{Iff·trans, Iff·symm}
+use mathlib.Core.Logic.Iff.{trans as iff_trans, symm as iff_symm}
 use native.Mathlib.Omega.{arith}
 use Rattle.std.proofs.Math.ListN.{get_or-append}
 use Rattle.lists.specs.EachLaws.{each_append, each_at}
@@ -10,8 +10,8 @@ use Rattle.lists.specs.AmongLaws.{among_each}
 use Rattle.automaton.specs.Automaton.{Accepts}
 use Rattle.automaton.specs.Proper.{Proper}
 use Rattle.alphabet.specs.Labels.{Label}
-use Rattle.regex.specs.Tree.{Tree, set, group, times, join, either, Joined, Words}
-use Rattle.regex.specs.SenseLaws.{Sensible}
+use Rattle.regex_tree.specs.Tree.{Tree, set, group, times, join, either, Joined, Words}
+use Rattle.regex_tree.specs.SenseLaws.{Sensible}
 use Rattle.positions.specs.Opened.{Opened, letter, joining, alternation, optional, star, plus, empty, never, labels_of_set, opened, labels, letters}
 use Rattle.positions.specs.OpenedWords.{OpenedWords}
 use Rattle.positions.specs.Opening.{labels_in, opening_keeps_words}
@@ -86,7 +86,7 @@ module _ (c : ℕ) (label : ℕ → ℕ) where
   opened_exact n (optional r) l g = perhaps_words c label l (numbered_inside n r l) (OpenedWords r) (opened_exact n r l g)
   opened_exact n (star r) l g = λ w.
       let x = numbered_inside n r l in
-      Iff·trans
+      iff_trans
       (perhaps_words c label l (inside_again x) (OpenedWords (plus r))
       (again_words c label l x (OpenedWords r) (opened_exact n r l g)) w)
       (none_or_more (OpenedWords r) w)
@@ -100,7 +100,7 @@ accepts_opened r = opened_exact (letters r) (label_at r) 1 r (omega arith) (λ i
 
 -- The automaton of a tree accepts exactly the words of the tree.
 pub accepts_words : (A : List ℕ) (t : Tree) → Sensible A t → (w : List ℕ) → Accepts (automaton_of A t) w ↔ Words A t w
-accepts_words A t o w = Iff·trans (accepts_opened (opened A t) w) (Iff·symm (opening_keeps_words A t o w))
+accepts_words A t o w = iff_trans (accepts_opened (opened A t) w) (iff_symm (opening_keeps_words A t o w))
 
 each_kept : (P : ℕ → Type 0) → Kept (λ r. Each P (labels r))
 unfolding labels

@@ -4,11 +4,11 @@ use Prim.Native.Char.{code}
 use mathlib.Core.List.{List, [], ◌∷◌, map, flat_map}
 use Rattle.lists.specs.Lists.{keep, numbers}
 use Rattle.automaton.specs.Automaton.{Automaton}
-use Rattle.regex.specs.Tree.{range, only, except, between, onward, Tree, set, group, times, join, either}
+use Rattle.regex_tree.specs.Tree.{range, only, except, between, onward, Tree, set, group, times, join, either}
 use Rattle.positions.specs.Opened.{any_of, copies, nested, repeated, opened, labels}
 use Rattle.automaton.specs.Form.{encode}
 use Rattle.positions.specs.Compiled.{form_of}
-use Rattle.regex.specs.Letters.{labels_of, letter_count}
+use Rattle.regex_tree.specs.Letters.{labels_of, letter_count}
 use Rattle.positions.specs.Numbered.{numbered, position_automaton, automaton_of}
 
 -- the labels of the letters, whether the empty word is accepted, which letters may be first, which last, and where the arcs of each lead

@@ -5,8 +5,8 @@ use Rattle.std.specs.Prelude.{ℕ, zero, suc, ◌+◌, ◌≤◌, ◌≡◌, ref
 use Rattle.std.proofs.Common.{sym, ap, inl, inr, ⊎_elim, append-nil, append_assoc, arith, eqb-true}
 use Rattle.lists.specs.OrderLaws.{not_both, and_left, and_right, or_either}
 use Rattle.automaton.specs.Automaton.{Walk}
-use Rattle.regex.specs.Tree.{Tree, set, group, times, join, either, Joined}
-use Rattle.regex.specs.SenseLaws.{Sensible}
+use Rattle.regex_tree.specs.Tree.{Tree, set, group, times, join, either, Joined}
+use Rattle.regex_tree.specs.SenseLaws.{Sensible}
 use Rattle.positions.specs.Opened.{Opened, letter, joining, alternation, optional, star, plus, empty, never, any_of, labels_of_set, opened, letters}
 use Rattle.positions.specs.OpenedWords.{OpenedWords}
 use Rattle.positions.specs.LettersLaws.{labels_counted}

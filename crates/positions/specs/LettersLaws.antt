@@ -4,10 +4,10 @@ use Rattle.std.proofs.Common.{sym, ap, ◌∙◌, add-mul, arith, length-append}
 use Rattle.lists.specs.AmongLaws.{keep_same, keeping_length}
 use Rattle.lists.specs.Lists.{keep, numbers}
 use Rattle.lists.specs.AscendingLaws.{numbers_among}
-use Rattle.regex.specs.Tree.{Set, Count, between, onward, Tree, set, group, times, join, either, member}
-use Rattle.regex.specs.Letters.{labels_of, copies_of, letter_count}
-use Rattle.regex.specs.OwnCountsLaws.{InRange}
-use Rattle.regex.specs.SenseLaws.{Sensible}
+use Rattle.regex_tree.specs.Tree.{Set, Count, between, onward, Tree, set, group, times, join, either, member}
+use Rattle.regex_tree.specs.Letters.{labels_of, copies_of, letter_count}
+use Rattle.regex_tree.specs.OwnCountsLaws.{InRange}
+use Rattle.regex_tree.specs.SenseLaws.{Sensible}
 use Rattle.positions.specs.Opened.{Opened, plus, labels_of_set, any_of, copies, nested, repeated, opened, labels, letters}
 
 -- the labels of a set are counted, where the first character has label y

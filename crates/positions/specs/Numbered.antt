@@ -2,7 +2,7 @@
 -- letter; and the automaton of these letters (document 01, "Opening and the compiled form").
 use Rattle.std.specs.Prelude.{ℕ, zero, suc, ◌+◌, ◌-◌, Bool, true, false, ◌&&◌, ◌||◌, List, get_or, eqb}
 use Rattle.automaton.specs.Automaton.{Automaton}
-use Rattle.regex.specs.Tree.{Tree}
+use Rattle.regex_tree.specs.Tree.{Tree}
 use Rattle.positions.specs.Opened.{Opened, letter, joining, alternation, optional, star, plus, empty, never, opened, labels, letters}
 
 -- whether the empty word is a word; whether a letter may be first, or last, in a word (exactly if some word begins, or ends, with it:

@@ -2,7 +2,7 @@
 use Rattle.std.specs.Prelude.{ℕ, zero, suc, ◌-◌, List, [], ◌∷◌, ◌++◌, length}
 use Rattle.lists.specs.Lists.{keep, numbers}
 use Rattle.alphabet.specs.Labels.{character}
-use Rattle.regex.specs.Tree.{Set, Count, between, onward, Tree, set, group, times, join, either, member}
+use Rattle.regex_tree.specs.Tree.{Set, Count, between, onward, Tree, set, group, times, join, either, member}
 
 -- `empty` has the empty word alone and ends a chain of copies; `never` has no word and ends an alternation of labels. Neither has letters.
 pub data Opened : Type 0 where

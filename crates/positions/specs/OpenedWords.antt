@@ -1,6 +1,6 @@
 -- Which words an opened expression has, by its shape.
 use Rattle.std.specs.Prelude.{ℕ, suc, ◌≡◌, ◌⊎◌, List, [], ◌∷◌, ◌++◌}
-use Rattle.regex.specs.Tree.{Joined}
+use Rattle.regex_tree.specs.Tree.{Joined}
 use Rattle.positions.specs.Opened.{Opened, letter, joining, alternation, optional, star, plus, empty, never}
 
 abbrev pub OpenedWords : Opened → List ℕ → Type 0

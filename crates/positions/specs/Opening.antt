@@ -6,9 +6,9 @@ use Rattle.std.proofs.Math.Logic.{inl, inr}
 use native.Mathlib.Omega.{arith}
 use Rattle.lists.specs.Lists.{Among, Ascending}
 use Rattle.alphabet.specs.LabelsLaws.{labels_exactly, labels_in_order}
-use Rattle.regex.specs.Tree.{Set, Count, between, onward, Tree, set, group, times, join, either, member, Allows, Joined, HasLabel, Words}
-use Rattle.regex.specs.OwnCountsLaws.{InRange}
-use Rattle.regex.specs.SenseLaws.{Sensible}
+use Rattle.regex_tree.specs.Tree.{Set, Count, between, onward, Tree, set, group, times, join, either, member, Allows, Joined, HasLabel, Words}
+use Rattle.regex_tree.specs.OwnCountsLaws.{InRange}
+use Rattle.regex_tree.specs.SenseLaws.{Sensible}
 use Rattle.positions.specs.Opened.{Opened, plus, labels_of_set, any_of, copies, nested, repeated, opened}
 use Rattle.positions.specs.OpenedWords.{OpenedWords}
 

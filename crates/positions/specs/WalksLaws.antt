@@ -6,7 +6,7 @@ use Rattle.std.proofs.Math.Logic.{⊎_map}
 use Rattle.std.proofs.lemmas.List.{map-append}
 use Rattle.lists.specs.OrderLaws.{not_both, and_left, and_right, and_both, or_either, or_left, or_right}
 use Rattle.automaton.specs.Automaton.{Walk, Accepts}
-use Rattle.regex.specs.Tree.{Joined}
+use Rattle.regex_tree.specs.Tree.{Joined}
 use Rattle.positions.specs.Numbered.{Positions, bare, single, joint, choice, perhaps, again, follows, ending, assembled}
 use Rattle.positions.specs.InsideLaws.{Inside, goes_to, inside_perhaps, inside_again, again_ends, again_arcs, Agree, Apart, joint_ends, joint_arcs, joint_back, choice_front, choice_back}
 

@@ -2,14 +2,14 @@
 use Rattle.std.specs.Prelude.{◌≡◌, refl, List, ℕ}
 use Rattle.lists.specs.Lists.{keep, numbers}
 use Rattle.text.specs.Bytes.{bytes}
-use Rattle.regex.specs.Tree.{between, onward}
-use Rattle.regex.specs.Letters.{labels_of}
-use Rattle.regex.specs.Parsing.{then, enclosed}
+use Rattle.regex_tree.specs.Tree.{between, onward}
+use Rattle.regex_tree.specs.Letters.{labels_of}
+use Rattle.regex_tree.specs.Parsing.{then, enclosed}
 use Rattle.text.specs.Text.{split}
 use Rattle.lists.specs.Cases.{first_of, provided}
-use Rattle.regex.specs.Sets.{a_set, labelled_set}
-use Rattle.regex.specs.Repetition.{number, from_on, from_to, comma, counts, sign, repetition}
-use Rattle.regex.specs.Parse.{m_branch, m_piece, m_group, grouped, step, go, parse}
+use Rattle.regex_tree.specs.Sets.{a_set, labelled_set}
+use Rattle.regex_tree.specs.Repetition.{number, from_on, from_to, comma, counts, sign, repetition}
+use Rattle.regex_tree.specs.Parse.{m_branch, m_piece, m_group, grouped, step, go, parse}
 use Rattle.positions.specs.Opened.{Opened, letter, joining, alternation, optional, plus, empty, never, any_of, copies, nested, repeated, opened}
 use Rattle.positions_letters.specs.Found.{counted}
 use Rattle.positions_build.specs.Places.{end_at, opened_at, count_at, left_at}

@@ -2,16 +2,16 @@
 use Rattle.std.specs.Prelude.{◌≡◌, refl, List, [], Bool, true, false, ℕ, ◌+◌, ◌≤◌, ◌<◌, length, get_or, drop, eqb}
 use Rattle.std.proofs.Common.{sym, ap, subst, ◌∙◌, arith, length-drop, eq-eqb, ne_eqb}
 use Prim.Native.Char.{code}
-use Rattle.regex.specs.Tree.{only, Tree, set, join, either}
-use Rattle.regex.specs.Parsing.{Parsing, found, fault, then}
+use Rattle.regex_tree.specs.Tree.{only, Tree, set, join, either}
+use Rattle.regex_tree.specs.Parsing.{Parsing, found, fault, then}
 use Rattle.text.specs.Text.{next, rest}
 use Rattle.text.specs.Places.{place}
-use Rattle.regex.specs.Parse.{Mode, m_alternation, m_branch, m_piece, ends, step, parse}
-use Rattle.regex.specs.SaysLaws.{of_found}
-use Rattle.regex.specs.SenseLaws.{Sensible, sensible}
-use Rattle.regex.specs.FrontLaws.{Front, Stop}
-use Rattle.regex.specs.Sound.{parse_sound}
-use Rattle.regex.specs.StepsLaws.{parse_step, parse_forward}
+use Rattle.regex_tree.specs.Parse.{Mode, m_alternation, m_branch, m_piece, ends, step, parse}
+use Rattle.regex_tree.specs.SaysLaws.{of_found}
+use Rattle.regex_tree.specs.SenseLaws.{Sensible, sensible}
+use Rattle.regex_tree.specs.FrontLaws.{Front, Stop}
+use Rattle.regex_tree.specs.Sound.{parse_sound}
+use Rattle.regex_tree.specs.StepsLaws.{parse_step, parse_forward}
 use Rattle.text.specs.TextLaws.{beyond, next_at, rest_at}
 use Rattle.regex_bracket.specs.Answers.{is_found}
 use Rattle.positions_letters.specs.Found.{rest_of, tree_of}

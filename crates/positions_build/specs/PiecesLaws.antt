@@ -9,18 +9,18 @@ use native.Mathlib.Omega.{arith}
 use Rattle.std.proofs.Math.ListN.{drop}
 use Rattle.std.proofs.Math.Dec.{eqb}
 use Rattle.refusal.specs.declared.Refusal.TheVariants as refusal
-use Rattle.regex.specs.Tree.{Set, Count, between, Tree, set, group, times}
-use Rattle.regex.specs.Parsing.{Parsing, found, fault, then}
+use Rattle.regex_tree.specs.Tree.{Set, Count, between, Tree, set, group, times}
+use Rattle.regex_tree.specs.Parsing.{Parsing, found, fault, then}
 use Rattle.text.specs.Text.{next, rest}
 use Rattle.text.specs.Places.{place}
-use Rattle.regex.specs.Letters.{labels_of}
-use Rattle.regex.specs.Sets.{a_set, labelled_set}
-use Rattle.regex.specs.Repetition.{repeats, repetition}
-use Rattle.regex.specs.Parse.{m_alternation, m_piece, m_group, grouped, step, parse}
-use Rattle.regex.specs.SaysLaws.{Says}
-use Rattle.regex.specs.OwnLaws.{Here}
-use Rattle.regex.specs.OwnCountsLaws.{InRange, Repeating, repetition_says}
-use Rattle.regex.specs.StepsLaws.{parse_step}
+use Rattle.regex_tree.specs.Letters.{labels_of}
+use Rattle.regex_tree.specs.Sets.{a_set, labelled_set}
+use Rattle.regex_tree.specs.Repetition.{repeats, repetition}
+use Rattle.regex_tree.specs.Parse.{m_alternation, m_piece, m_group, grouped, step, parse}
+use Rattle.regex_tree.specs.SaysLaws.{Says}
+use Rattle.regex_tree.specs.OwnLaws.{Here}
+use Rattle.regex_tree.specs.OwnCountsLaws.{InRange, Repeating, repetition_says}
+use Rattle.regex_tree.specs.StepsLaws.{parse_step}
 use Rattle.positions.specs.Opened.{opened, repeated}
 use Rattle.text.specs.TextLaws.{place_drop, beyond, next_at, rest_at, byte_is}
 use Rattle.regex_bracket.specs.Answers.{is_found, set_of}

@@ -1,7 +1,7 @@
 -- The part that is parsed at a place of a text, if there is one: its tree, its end and how it opens; and the room to build it.
 use Rattle.std.specs.Prelude.{◌≡◌, List, true, Bool, ℕ, ◌-◌, ◌+◌, ◌≤◌, drop, length}
-use Rattle.regex.specs.Tree.{Count, Tree, between, onward}
-use Rattle.regex.specs.Parse.{Mode, m_group, parse}
+use Rattle.regex_tree.specs.Tree.{Count, Tree, between, onward}
+use Rattle.regex_tree.specs.Parse.{Mode, m_group, parse}
 use Rattle.positions.specs.Opened.{Opened, opened, repeated, labels}
 use Rattle.text.specs.Places.{place}
 use Rattle.regex_bracket.specs.Answers.{is_found}

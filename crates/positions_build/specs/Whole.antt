@@ -2,9 +2,9 @@
 use Rattle.std.specs.Prelude.{ℕ, ◌≤◌, ◌≡◌, Bool, true, false, List, length}
 use Rattle.lists.specs.Stored.{Stored}
 use Rattle.positions_follow.specs.Sets.{arc}
-use Rattle.regex.specs.Tree.{Tree}
-use Rattle.regex.specs.Letters.{letter_count}
-use Rattle.regex.specs.Parse.{expression_of}
+use Rattle.regex_tree.specs.Tree.{Tree}
+use Rattle.regex_tree.specs.Letters.{letter_count}
+use Rattle.regex_tree.specs.Parse.{expression_of}
 use Rattle.positions.specs.Opened.{opened, labels}
 use Rattle.positions.specs.Numbered.{numbered, automaton_of}
 use Rattle.automaton.specs.Arrays.{Tells}

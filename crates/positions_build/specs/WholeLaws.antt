@@ -7,9 +7,9 @@ use mathlib.Core.List.{List, [], ◌∷◌}
 use native.Mathlib.Omega.{arith}
 use Rattle.lists.specs.WrittenLaws.{stored_at}
 use Rattle.positions_follow.specs.Sets.{member, arc}
-use Rattle.regex.specs.Tree.{only, Tree, set}
-use Rattle.regex.specs.Letters.{letter_count}
-use Rattle.regex.specs.Parse.{m_alternation, parse, whole, expression_of}
+use Rattle.regex_tree.specs.Tree.{only, Tree, set}
+use Rattle.regex_tree.specs.Letters.{letter_count}
+use Rattle.regex_tree.specs.Parse.{m_alternation, parse, whole, expression_of}
 use Rattle.positions.specs.Opened.{Opened, labels}
 use Rattle.positions.specs.Numbered.{numbered, position_automaton}
 use Rattle.positions.specs.LettersLaws.{opened_letters}

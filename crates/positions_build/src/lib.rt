@@ -1,9 +1,10 @@
 // Builds the position automaton of a well-formed text as arrays (document 01, "Opening and the compiled form"): the label of each letter,
 // the letters that may follow it, and whether it may be first and last. Letter i is at index i - 1. Each call among alternation, branch,
 // piece and group is further on in the text, or asks for a smaller part or the next copy at the same place.
+#![tactic(auto)]
 ghost use Rattle.std.specs.Prelude.{◌<◌};
-ghost use Rattle.regex.specs.Letters.{copies_of};
-ghost use Rattle.regex.specs.Parse.{m_alternation, m_branch, m_piece, m_group};
+ghost use Rattle.regex_tree.specs.Letters.{copies_of};
+ghost use Rattle.regex_tree.specs.Parse.{m_alternation, m_branch, m_piece, m_group};
 ghost use Rattle.positions_letters.specs.Shows.{Builds};
 ghost use Rattle.positions_build.specs.Places.{PartAt, opened_at, end_at, count_at, left_at, Room};
 ghost use Rattle.positions_build.specs.Whole.{Buildable, BuildsWhole};

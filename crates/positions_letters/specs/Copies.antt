@@ -1,8 +1,8 @@
 -- A count as copies to build.
 use Rattle.std.specs.Prelude.{ℕ, Bool, true, false, List}
-use Rattle.regex.specs.Tree.{Count, between, onward}
-use Rattle.regex.specs.Parsing.{Parsing}
-use Rattle.regex.specs.Letters.{copies_of}
+use Rattle.regex_tree.specs.Tree.{Count, between, onward}
+use Rattle.regex_tree.specs.Parsing.{Parsing}
+use Rattle.regex_tree.specs.Letters.{copies_of}
 use Rattle.text.specs.Places.{place}
 use Rattle.positions_letters.specs.Found.{rest_of, count_of}
 use Rattle.positions_letters.specs.declared.Copies.{Copies}

@@ -1,8 +1,8 @@
 -- What the parser found, and the text that is left after it.
 use Rattle.std.specs.Prelude.{List, [], Bool, true, false, ℕ}
-use Rattle.regex.specs.Tree.{only, Count, between, Tree, set}
-use Rattle.regex.specs.Parsing.{Parsing, found, fault}
-use Rattle.regex.specs.Repetition.{repeats, repetition}
+use Rattle.regex_tree.specs.Tree.{only, Count, between, Tree, set}
+use Rattle.regex_tree.specs.Parsing.{Parsing, found, fault}
+use Rattle.regex_tree.specs.Repetition.{repeats, repetition}
 
 -- what was found; d if nothing was
 abbrev pub found_or : {X : Type 0} → X → Parsing X → X

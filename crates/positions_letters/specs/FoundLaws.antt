@@ -2,9 +2,9 @@
 use Rattle.std.specs.Prelude.{◌≡◌, List, true, false, ℕ}
 use Rattle.std.proofs.Math.Path.{refl}
 use Rattle.std.proofs.Common.{ap, arith}
-use Rattle.regex.specs.Tree.{between}
-use Rattle.regex.specs.Parsing.{Parsing, found, fault, then}
-use Rattle.regex.specs.Repetition.{repeats, repetition}
+use Rattle.regex_tree.specs.Tree.{between}
+use Rattle.regex_tree.specs.Parsing.{Parsing, found, fault, then}
+use Rattle.regex_tree.specs.Repetition.{repeats, repetition}
 use Rattle.regex_bracket.specs.Answers.{is_found}
 use Rattle.positions_letters.specs.Found.{found_or, rest_of, repetition_if, counted}
 

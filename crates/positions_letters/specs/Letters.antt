@@ -1,8 +1,8 @@
 -- A set of labels as letters: the room that it needs, the range of its letters, and what it means that it was built.
 use Rattle.std.specs.Prelude.{ℕ, suc, ◌+◌, ◌≤◌, ◌≡◌, Bool, List, length, drop}
 use Rattle.positions_follow.specs.Sets.{member}
-use Rattle.regex.specs.Tree.{Set}
-use Rattle.regex.specs.Sets.{a_set}
+use Rattle.regex_tree.specs.Tree.{Set}
+use Rattle.regex_tree.specs.Sets.{a_set}
 use Rattle.positions.specs.Opened.{labels_of_set, any_of}
 use Rattle.positions.specs.EquationsLaws.{alone}
 use Rattle.text.specs.Places.{place}

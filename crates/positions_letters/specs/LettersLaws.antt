@@ -11,7 +11,7 @@ use Rattle.lists.specs.AscendingLaws.{numbers_here, numbers_past}
 use Rattle.lists.specs.Stored.{Stored}
 use Rattle.positions_follow.specs.Sets.{member, arc}
 use Rattle.alphabet.specs.Labels.{character}
-use Rattle.regex.specs.Tree.{Set, member as member_of}
+use Rattle.regex_tree.specs.Tree.{Set, member as member_of}
 use Rattle.positions.specs.Opened.{labels_of_set, any_of}
 use Rattle.positions.specs.EquationsLaws.{alone, numbered_any_of}
 use Rattle.positions.specs.LettersLaws.{any_of_labels}

@@ -2,10 +2,10 @@
 use Rattle.std.specs.Prelude.{◌≡◌, List, Bool, true, false, ℕ, ◌≤◌, length, drop}
 use Rattle.std.proofs.Common.{sym, ap, ◌∙◌, arith}
 use Rattle.refusal.specs.declared.Refusal.{Refusal}
-use Rattle.regex.specs.Tree.{Set, Count, between, onward}
-use Rattle.regex.specs.Parsing.{Parsing, found, fault}
-use Rattle.regex.specs.Letters.{copies_of}
-use Rattle.regex.specs.Repetition.{repeats, repetition}
+use Rattle.regex_tree.specs.Tree.{Set, Count, between, onward}
+use Rattle.regex_tree.specs.Parsing.{Parsing, found, fault}
+use Rattle.regex_tree.specs.Letters.{copies_of}
+use Rattle.regex_tree.specs.Repetition.{repeats, repetition}
 use Rattle.regex_bracket.specs.declared.End.TheVariants as end
 use Rattle.regex_repetition.specs.declared.Repeats.TheVariants as count
 use Rattle.text.specs.TextLaws.{place_drop}

@@ -30,16 +30,16 @@ use Rattle.outcome.specs.OutcomeLaws.{outcome_same}
 use Rattle.outcome.specs.ChoiceLaws.{not_after, preferred, better}
 use Rattle.outcome.specs.Exhaustive.{over, exhaustive, usable, decided, decided_outcome}
 use Rattle.text.specs.Bytes.{bytes}
-use Rattle.regex.specs.Letters.{labels_of, letter_count}
-use Rattle.regex.specs.Classes.{classes, look_up, class_ranges}
-use Rattle.regex.specs.Parsing.{then, enclosed}
+use Rattle.regex_tree.specs.Letters.{labels_of, letter_count}
+use Rattle.regex_tree.specs.Classes.{classes, look_up, class_ranges}
+use Rattle.regex_tree.specs.Parsing.{then, enclosed}
 use Rattle.text.specs.Text.{split}
 use Rattle.lists.specs.Cases.{first_of, provided}
-use Rattle.regex.specs.Sets.{closed, reserved, items, members, ranges_of, known, inside, bracket, escaped, a_set, labelled_set}
-use Rattle.regex.specs.Repetition.{number, from_on, from_to, comma, counts, sign, repetition}
-use Rattle.regex.specs.Parse.{grouped, step, go, parse, whole, expression_of}
-use Rattle.regex.specs.Grammar.{WordsOf}
-use Rattle.regex.specs.Characters.{SpellsWord}
+use Rattle.regex_tree.specs.Sets.{closed, reserved, items, members, ranges_of, known, inside, bracket, escaped, a_set, labelled_set}
+use Rattle.regex_tree.specs.Repetition.{number, from_on, from_to, comma, counts, sign, repetition}
+use Rattle.regex_tree.specs.Parse.{grouped, step, go, parse, whole, expression_of}
+use Rattle.regex_tree.specs.Grammar.{WordsOf}
+use Rattle.regex_tree.specs.Characters.{SpellsWord}
 use Rattle.positions.specs.Opened.{any_of, copies, nested, repeated, opened, labels}
 use Rattle.positions.specs.Numbered.{numbered, position_automaton}
 use Rattle.compile.specs.Call.{compile_call}

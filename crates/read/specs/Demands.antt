@@ -20,8 +20,8 @@ use Rattle.alphabet.specs.Labels.{characters}
 use Rattle.automaton.specs.Automaton.{Accepts}
 use Rattle.automaton.specs.Form.{view, letters_of}
 use Rattle.matrix.specs.Matrix.{Matrix}
-use Rattle.regex.specs.Grammar.{WordsOf}
-use Rattle.regex.specs.Characters.{CharacterWordsOf, SpellsWord}
+use Rattle.regex_tree.specs.Grammar.{WordsOf}
+use Rattle.regex_tree.specs.Characters.{CharacterWordsOf, SpellsWord}
 use Rattle.compile.specs.Call.{compile_call}
 use Rattle.compile.specs.Meaning.{compiled_means, compiled_spells, compiled_spelt}
 use Rattle.compile.specs.Means.{Means}

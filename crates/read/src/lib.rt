@@ -1,5 +1,6 @@
 // Read: from an alphabet, the text of an expression and a matrix of costs to the cheapest path whose collapse is a word of the expression,
 // with the word as characters (demand 3).
+#![tactic(auto)]
 ghost use Rattle.answers.specs.Reading.{reported};
 ghost use Rattle.matrix.specs.View.{value};
 ghost use Rattle.matrix.specs.Matrix.{matrix};

@@ -7,7 +7,7 @@ use Rattle.refusal.specs.Report.{Report, turned_away}
 use Rattle.refusal.specs.Fills.{filling}
 use Rattle.automaton.specs.Form.{letters_of}
 use Rattle.matrix.specs.Matrix.{Matrix}
-use Rattle.regex.specs.Grammar.{WordsOf}
+use Rattle.regex_tree.specs.Grammar.{WordsOf}
 use Rattle.decode_checks.specs.Checks.{needed, matrix_checks}
 use Rattle.decode_valid.specs.Answers.{Answers}
 use Rattle.decode_valid.specs.Lent.{Lent, rooms}

@@ -15,7 +15,7 @@ use Rattle.automaton.specs.Automaton.{Accepts}
 use Rattle.automaton.specs.Form.{view, letters_of}
 use Rattle.matrix.specs.Matrix.{Matrix}
 use Rattle.outcome.specs.OutcomeLaws.{outcome_same}
-use Rattle.regex.specs.Grammar.{WordsOf}
+use Rattle.regex_tree.specs.Grammar.{WordsOf}
 use Rattle.compile.specs.Call.{compile_call}
 use Rattle.compile.specs.Meaning.{compiled_means}
 use Rattle.compile.specs.Means.{Means}

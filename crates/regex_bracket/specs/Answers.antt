@@ -3,9 +3,9 @@ use Rattle.std.proofs.Math.Option.{Option, some, none}
 use Rattle.std.specs.Prelude.{List, [], Bool, true, false, cond, ℕ, ◌+◌, length, get_or, drop, eqb, ltb}
 use Prim.Native.Char.{code}
 use Rattle.text.specs.Places.{place}
-use Rattle.regex.specs.Tree.{Set, only}
-use Rattle.regex.specs.Parsing.{Parsing, found, fault}
-use Rattle.regex.specs.Sets.{Sign, Item, members, bracket}
+use Rattle.regex_tree.specs.Tree.{Set, only}
+use Rattle.regex_tree.specs.Parsing.{Parsing, found, fault}
+use Rattle.regex_tree.specs.Sets.{Sign, Item, members, bracket}
 use Rattle.regex_bracket.specs.declared.End.{End}
 use Rattle.regex_bracket.specs.declared.End.TheVariants as end
 

@@ -15,9 +15,9 @@ use Rattle.lists.specs.OrderLaws.{lt_or_le, not_both}
 use Rattle.refusal.specs.declared.Refusal.TheVariants as refusal
 use Rattle.text.specs.Text.{rest}
 use Rattle.text.specs.TextLaws.{next_at, rest_at, place_drop}
-use Rattle.regex.specs.Tree.{Range, Set, only, except, member, among}
-use Rattle.regex.specs.Parsing.{Parsing, found, fault, then, enclosed}
-use Rattle.regex.specs.Sets.{Sign, closed, sign_bytes, reserved, Item, items, members, ranges_of, known, inside, bracket}
+use Rattle.regex_tree.specs.Tree.{Range, Set, only, except, member, among}
+use Rattle.regex_tree.specs.Parsing.{Parsing, found, fault, then, enclosed}
+use Rattle.regex_tree.specs.Sets.{Sign, closed, sign_bytes, reserved, Item, items, members, ranges_of, known, inside, bracket}
 use Rattle.regex_signs.specs.Signs.{sign, signs}
 use Rattle.regex_items.specs.Items.{Closing, left, resolved}
 use Rattle.regex_items.specs.LeftLoops.{left_first, closing_first}

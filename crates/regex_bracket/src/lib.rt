@@ -1,8 +1,9 @@
 // The bracket at a place of a text (document 01, "Brackets"; document 02, T-01): where it ends, and whether a byte is a member.
+#![tactic(auto)]
 ghost use Rattle.std.specs.Prelude.{◌≡◌, true, ◌<◌, ◌≤◌, length, drop};
 ghost use Rattle.lists.specs.Options.{is_some};
-ghost use Rattle.regex.specs.Sets.{closed};
-ghost use Rattle.regex.specs.Tree.{member as member_of};
+ghost use Rattle.regex_tree.specs.Sets.{closed};
+ghost use Rattle.regex_tree.specs.Tree.{member as member_of};
 ghost use Rattle.regex_bracket.specs.Answers.{is_found, end_of, set_of, opened, after, beyond, formed, bracket_at};
 
 use refusal::Refusal;

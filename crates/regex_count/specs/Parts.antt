@@ -2,9 +2,9 @@
 use Rattle.std.specs.Prelude.{List, cond, ℕ, ◌+◌, ◌*◌, get_or, eqb}
 use Prim.Native.Char.{code}
 use Rattle.refusal.specs.declared.Refusal.TheVariants as refusal
-use Rattle.regex.specs.Tree.{onward}
-use Rattle.regex.specs.Letters.{copies_of}
-use Rattle.regex.specs.Few.{few}
+use Rattle.regex_tree.specs.Tree.{onward}
+use Rattle.regex_tree.specs.Letters.{copies_of}
+use Rattle.regex_tree.specs.Few.{few}
 use Rattle.regex_set.specs.declared.Part.{Part}
 use Rattle.regex_set.specs.declared.Part.TheVariants as part
 use Rattle.regex_repetition.specs.declared.Repeats.{Repeats}

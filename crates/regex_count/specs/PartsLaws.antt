@@ -6,7 +6,7 @@ use Rattle.lists.specs.EachLaws.{drop_here, drop_all}
 use Rattle.refusal.specs.declared.Refusal.TheVariants as refusal
 use Rattle.text.specs.Bytes.{bytes}
 use Rattle.text.specs.Text.{one_of}
-use Rattle.regex.specs.Parse.{ends}
+use Rattle.regex_tree.specs.Parse.{ends}
 use Rattle.regex_set.specs.declared.Part.TheVariants as part
 use Rattle.regex_count.specs.Parts.{closed}
 

@@ -1,11 +1,12 @@
 // The letters of a part of the text, counted up to 128: parts joined, repeated, in parentheses; and whether a branch ends, or a repetition
 // begins, at a place (document 01, "Expression text"). The text may have any bytes.
+#![tactic(auto)]
 ghost use Rattle.std.specs.Prelude.{◌≡◌, ◌+◌, ◌*◌, drop};
-ghost use Rattle.regex.specs.Tree.{onward};
-ghost use Rattle.regex.specs.Letters.{copies_of};
-ghost use Rattle.regex.specs.Few.{few};
-ghost use Rattle.regex.specs.Repetition.{repeats as repeats_here};
-ghost use Rattle.regex.specs.Parse.{ends};
+ghost use Rattle.regex_tree.specs.Tree.{onward};
+ghost use Rattle.regex_tree.specs.Letters.{copies_of};
+ghost use Rattle.regex_tree.specs.Few.{few};
+ghost use Rattle.regex_tree.specs.Repetition.{repeats as repeats_here};
+ghost use Rattle.regex_tree.specs.Parse.{ends};
 ghost use Rattle.regex_count.specs.Parts.{add, repeated as repeated_of, closed as closed_of};
 
 use refusal::Refusal;

@@ -5,9 +5,9 @@ use Rattle.std.proofs.Math.Bool.{or-false}
 use Prim.Native.Char.{code}
 use Rattle.std.proofs.Math.Seq.{get_or-drop}
 use Rattle.lists.specs.Options.{is_some, listed}
-use Rattle.regex.specs.Tree.{range, within, among}
-use Rattle.regex.specs.Classes.{class_ranges}
-use Rattle.regex.specs.Sets.{item_ranges, begins}
+use Rattle.regex_tree.specs.Tree.{range, within, among}
+use Rattle.regex_tree.specs.Classes.{class_ranges}
+use Rattle.regex_tree.specs.Sets.{item_ranges, begins}
 use Rattle.regex_signs.specs.Signs.{name, opens}
 use Rattle.regex_signs.specs.SignsLaws.{first_at}
 use Rattle.regex_items.specs.Items.{ranges, upto, item, range_fits, fits}

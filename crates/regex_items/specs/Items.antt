@@ -5,8 +5,8 @@ use Prim.Native.Char.{code}
 use Rattle.lists.specs.Options.{is_some}
 use Rattle.text.specs.Bytes.{bytes}
 use Rattle.text.specs.Text.{next_of}
-use Rattle.regex.specs.Tree.{Range, range}
-use Rattle.regex.specs.Sets.{Item, ranged, classed, begins, closed, items, ranges_of}
+use Rattle.regex_tree.specs.Tree.{Range, range}
+use Rattle.regex_tree.specs.Sets.{Item, ranged, classed, begins, closed, items, ranges_of}
 use Rattle.regex_signs.specs.Signs.{name, opens, sign_width, signs}
 
 -- a range: a byte, `-` and a sign other than the closing `]`

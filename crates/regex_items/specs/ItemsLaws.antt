@@ -13,8 +13,8 @@ use Rattle.lists.specs.Cases.{provided}
 use Rattle.lists.specs.CasesLaws.{provided_none, provided_both, provided_true, provided_false}
 use Rattle.lists.specs.Options.{is_some}
 use Rattle.lists.specs.OrderLaws.{and_left, and_right, not_both}
-use Rattle.regex.specs.Tree.{range}
-use Rattle.regex.specs.Sets.{Sign, byte, class, closes, closed, ranged, classed, with, one, begins, is_hyphen, range_to, items}
+use Rattle.regex_tree.specs.Tree.{range}
+use Rattle.regex_tree.specs.Sets.{Sign, byte, class, closes, closed, ranged, classed, with, one, begins, is_hyphen, range_to, items}
 use Rattle.regex_signs.specs.Signs.{name, opens, sign, sign_width, signs}
 use Rattle.regex_signs.specs.SignsLaws.{closed_at, signs_at, first_at, opens_byte, opens_not}
 use Rattle.regex_items.specs.Items.{ranges, upto, item, width, range_fits, fits}

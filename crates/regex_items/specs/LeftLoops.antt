@@ -7,9 +7,9 @@ use Rattle.lists.specs.Cases.{provided}
 use Rattle.lists.specs.CasesLaws.{provided_true, provided_false}
 use Rattle.lists.specs.Options.{is_some, listed}
 use Rattle.lists.specs.OrderLaws.{and_right, not_both}
-use Rattle.regex.specs.Tree.{Range, among}
-use Rattle.regex.specs.Sets.{closes, closed, Item, with, items, item_ranges, together, ranges_of}
-use Rattle.regex.specs.RangesLaws.{together_known, together_among}
+use Rattle.regex_tree.specs.Tree.{Range, among}
+use Rattle.regex_tree.specs.Sets.{closes, closed, Item, with, items, item_ranges, together, ranges_of}
+use Rattle.regex_tree.specs.RangesLaws.{together_known, together_among}
 use Rattle.regex_signs.specs.Signs.{signs}
 use Rattle.regex_signs.specs.SignsLaws.{closed_at, first_at, found_within}
 use Rattle.regex_items.specs.Items.{item, width, fits, Closing, left, resolved}

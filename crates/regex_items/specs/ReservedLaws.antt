@@ -8,7 +8,7 @@ use Rattle.lists.specs.EachLaws.{drop_here, drop_all}
 use Rattle.text.specs.Bytes.{bytes}
 use Rattle.text.specs.Text.{one_of}
 use Rattle.text.specs.TextLaws.{next_of_at}
-use Rattle.regex.specs.Sets.{reserved}
+use Rattle.regex_tree.specs.Sets.{reserved}
 use Rattle.regex_items.specs.Items.{reserves}
 
 module _ (inside : List ℕ) (i : ℕ) where

@@ -1,12 +1,13 @@
 // The items inside a bracket (document 01, "Brackets"; document 02, T-01): whether they are well formed, whether each class among them has a
 // known name, and whether a byte is in one of them. The first sign inside is at `first` in the text.
+#![tactic(auto)]
 ghost use Rattle.std.specs.Prelude.{◌≡◌, true, ◌+◌, ◌<◌, length, get_or, drop, eqb};
 ghost use Rattle.lists.specs.Options.{is_some, listed};
-ghost use Rattle.regex.specs.Tree.{among, range, within};
-ghost use Rattle.regex.specs.Sets.{begins, reserved, item_ranges};
+ghost use Rattle.regex_tree.specs.Tree.{among, range, within};
+ghost use Rattle.regex_tree.specs.Sets.{begins, reserved, item_ranges};
 ghost use Rattle.regex_items.specs.Items.{ranges, upto as upto_of, item, width, range_fits, fits, reserves as reserves_of, Closing, left, resolved};
 
-use regex_class::{class_has, is_class};
+use regex_classes::{class_has, is_class};
 use regex_signs::{begins_class, class_name, closes, sign_end};
 use text::{one_of, peek};
 

@@ -9,16 +9,16 @@ use native.Mathlib.Omega.{arith}
 use Rattle.std.proofs.Math.ListN.{drop}
 use Rattle.refusal.specs.declared.Refusal.{Refusal}
 use Rattle.refusal.specs.declared.Refusal.TheVariants as refusal
-use Rattle.regex.specs.Tree.{Count, between, onward, Tree, group, times, join, either}
-use Rattle.regex.specs.Parsing.{Parsing, found, fault, then}
+use Rattle.regex_tree.specs.Tree.{Count, between, onward, Tree, group, times, join, either}
+use Rattle.regex_tree.specs.Parsing.{Parsing, found, fault, then}
 use Rattle.text.specs.Text.{next, rest}
 use Rattle.text.specs.Places.{place}
-use Rattle.regex.specs.Letters.{copies_of, letter_count}
-use Rattle.regex.specs.SenseLaws.{few_add}
-use Rattle.regex.specs.Few.{few}
-use Rattle.regex.specs.Repetition.{repeats, repetition}
-use Rattle.regex.specs.Parse.{Mode, m_alternation, m_branch, m_piece, m_group, ends, grouped, step, parse}
-use Rattle.regex.specs.StepsLaws.{parse_step}
+use Rattle.regex_tree.specs.Letters.{copies_of, letter_count}
+use Rattle.regex_tree.specs.SenseLaws.{few_add}
+use Rattle.regex_tree.specs.Few.{few}
+use Rattle.regex_tree.specs.Repetition.{repeats, repetition}
+use Rattle.regex_tree.specs.Parse.{Mode, m_alternation, m_branch, m_piece, m_group, ends, grouped, step, parse}
+use Rattle.regex_tree.specs.StepsLaws.{parse_step}
 use Rattle.regex_set.specs.declared.Part.{Part}
 use Rattle.regex_set.specs.declared.Part.TheVariants as part
 use Rattle.text.specs.TextLaws.{place_drop, next_at, rest_at, byte_is}

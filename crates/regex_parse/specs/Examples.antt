@@ -4,14 +4,14 @@ use mathlib.Core.List.{List, [], ◌∷◌, map, flat_map}
 use Prim.Native.String.{String}
 use Rattle.refusal.specs.declared.Refusal.TheVariants.{MisplacedSign, Depth, Count, Bracket, Foreign, ClassName}
 use Rattle.text.specs.Bytes.{bytes}
-use Rattle.regex.specs.Letters.{labels_of, letter_count}
-use Rattle.regex.specs.Classes.{classes, look_up, class_ranges}
-use Rattle.regex.specs.Parsing.{then, enclosed}
+use Rattle.regex_tree.specs.Letters.{labels_of, letter_count}
+use Rattle.regex_tree.specs.Classes.{classes, look_up, class_ranges}
+use Rattle.regex_tree.specs.Parsing.{then, enclosed}
 use Rattle.text.specs.Text.{split}
 use Rattle.lists.specs.Cases.{first_of, provided}
-use Rattle.regex.specs.Sets.{closed, reserved, items, members, ranges_of, known, inside, bracket, escaped, a_set, labelled_set}
-use Rattle.regex.specs.Repetition.{number, from_on, from_to, comma, counts, sign, repetition}
-use Rattle.regex.specs.Parse.{grouped, step, go, parse, whole, expression_of}
+use Rattle.regex_tree.specs.Sets.{closed, reserved, items, members, ranges_of, known, inside, bracket, escaped, a_set, labelled_set}
+use Rattle.regex_tree.specs.Repetition.{number, from_on, from_to, comma, counts, sign, repetition}
+use Rattle.regex_tree.specs.Parse.{grouped, step, go, parse, whole, expression_of}
 use Rattle.regex_parse.specs.declared.Parsed.{Parsed}
 use Rattle.regex_parse.specs.declared.Parsed.TheVariants.{Letters, Refused}
 use Rattle.regex_parse.specs.Parsed.{parsed}

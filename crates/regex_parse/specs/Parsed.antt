@@ -1,10 +1,10 @@
 -- What the checking parser answers: the letters of the expression, up to 128, or the refusal of its leftmost fault.
 use Rattle.std.specs.Prelude.{List, ℕ}
-use Rattle.regex.specs.Tree.{Tree}
-use Rattle.regex.specs.Parsing.{Parsing, found, fault}
-use Rattle.regex.specs.Letters.{letter_count}
-use Rattle.regex.specs.Few.{few}
-use Rattle.regex.specs.Parse.{expression_of}
+use Rattle.regex_tree.specs.Tree.{Tree}
+use Rattle.regex_tree.specs.Parsing.{Parsing, found, fault}
+use Rattle.regex_tree.specs.Letters.{letter_count}
+use Rattle.regex_tree.specs.Few.{few}
+use Rattle.regex_tree.specs.Parse.{expression_of}
 use Rattle.regex_parse.specs.declared.Parsed.{Parsed}
 use Rattle.regex_parse.specs.declared.Parsed.TheVariants.{Letters, Refused}
 

@@ -5,9 +5,9 @@ use Rattle.std.specs.Prelude.{List, ℕ, ◌≤◌, ◌<◌, length, drop}
 use Rattle.lists.specs.EachLaws.{drop_here, drop_all}
 use Rattle.refusal.specs.declared.Refusal.{Refusal}
 use Rattle.refusal.specs.declared.Refusal.TheVariants as refusal
-use Rattle.regex.specs.Tree.{Tree}
-use Rattle.regex.specs.Parsing.{Parsing, found, fault, then}
-use Rattle.regex.specs.Parse.{parse, m_alternation, whole, expression_of}
+use Rattle.regex_tree.specs.Tree.{Tree}
+use Rattle.regex_tree.specs.Parsing.{Parsing, found, fault, then}
+use Rattle.regex_tree.specs.Parse.{parse, m_alternation, whole, expression_of}
 use Rattle.regex_set.specs.declared.Part.TheVariants as part
 use Rattle.regex_set.specs.Answers.{part_of}
 use Rattle.regex_parse.specs.PartsLaws.{part_at, Found}

@@ -1,15 +1,15 @@
 -- The parts of a text at their places, as the parser answers them, and what is known of a parsed part.
 use Rattle.std.specs.Prelude.{◌≡◌, refl, List, ℕ, ◌≤◌, ◌<◌, length, drop}
 use Rattle.std.proofs.Common.{sym, ap, ◌∙◌, arith, length-drop}
-use Rattle.regex.specs.Tree.{Tree}
-use Rattle.regex.specs.Parsing.{Parsing, found, fault}
-use Rattle.regex.specs.Letters.{letter_count}
-use Rattle.regex.specs.Few.{few}
-use Rattle.regex.specs.Parse.{Mode, parse}
-use Rattle.regex.specs.SaysLaws.{of_found}
-use Rattle.regex.specs.FrontLaws.{Front, Stop}
-use Rattle.regex.specs.Sound.{parse_sound}
-use Rattle.regex.specs.StepsLaws.{parse_forward}
+use Rattle.regex_tree.specs.Tree.{Tree}
+use Rattle.regex_tree.specs.Parsing.{Parsing, found, fault}
+use Rattle.regex_tree.specs.Letters.{letter_count}
+use Rattle.regex_tree.specs.Few.{few}
+use Rattle.regex_tree.specs.Parse.{Mode, parse}
+use Rattle.regex_tree.specs.SaysLaws.{of_found}
+use Rattle.regex_tree.specs.FrontLaws.{Front, Stop}
+use Rattle.regex_tree.specs.Sound.{parse_sound}
+use Rattle.regex_tree.specs.StepsLaws.{parse_forward}
 use Rattle.regex_set.specs.declared.Part.{Part}
 use Rattle.regex_set.specs.declared.Part.TheVariants as part
 use Rattle.text.specs.TextLaws.{beyond}

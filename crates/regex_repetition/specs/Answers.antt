@@ -1,7 +1,7 @@
 -- What the functions of this crate answer, by the definitions of `regex`.
 use Rattle.std.specs.Prelude.{List, ℕ, ◌+◌, cond, ◌&&◌, leb, eqb, get_or, drop}
-use Rattle.regex.specs.Tree.{Count, between, onward}
-use Rattle.regex.specs.Parsing.{Parsing, found, fault, enclosed}
+use Rattle.regex_tree.specs.Tree.{Count, between, onward}
+use Rattle.regex_tree.specs.Parsing.{Parsing, found, fault, enclosed}
 use Rattle.text.specs.Text.{split}
 use Rattle.text.specs.Places.{place}
 use Rattle.regex_repetition.specs.declared.Repeats.{Repeats}
@@ -9,7 +9,7 @@ use Rattle.regex_repetition.specs.declared.Repeats.TheVariants as repeats
 use Rattle.std.proofs.Math.Option.{Option, some, none}
 use Rattle.refusal.specs.declared.Refusal.TheVariants as refusal
 use Prim.Native.Char.{code}
-use Rattle.regex.specs.Repetition.{counts}
+use Rattle.regex_tree.specs.Repetition.{counts}
 
 -- a count, and where it ends
 abbrev pub times : Count → ℕ → Repeats

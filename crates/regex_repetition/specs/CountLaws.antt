@@ -11,11 +11,11 @@ use borrow.Author.Tests.{le-leb, lt-leb, leb-true}
 use Rattle.lists.specs.EachLaws.{drop_here, drop_all}
 use Rattle.lists.specs.OrderLaws.{and_right, and_both}
 use Rattle.refusal.specs.declared.Refusal.TheVariants as refusal
-use Rattle.regex.specs.Tree.{Count, between}
+use Rattle.regex_tree.specs.Tree.{Count, between}
 use Rattle.text.specs.Text.{split}
 use Rattle.text.specs.Places.{until}
 use Rattle.lists.specs.Cases.{provided}
-use Rattle.regex.specs.Repetition.{number, from_on, from_to, comma, counts}
+use Rattle.regex_tree.specs.Repetition.{number, from_on, from_to, comma, counts}
 use Rattle.text.specs.Digits.{digits, value}
 use Rattle.text.specs.TextLaws.{split_found, split_missing}
 use Rattle.regex_repetition.specs.declared.Repeats.TheVariants as repeats

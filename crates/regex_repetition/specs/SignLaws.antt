@@ -12,13 +12,13 @@ use Rattle.lists.specs.EachLaws.{drop_here, drop_all}
 use Rattle.lists.specs.OrderLaws.{lt_or_le}
 use Rattle.refusal.specs.declared.Refusal.{Refusal}
 use Rattle.refusal.specs.declared.Refusal.TheVariants as refusal
-use Rattle.regex.specs.Tree.{Count, between, onward}
-use Rattle.regex.specs.Parsing.{Parsing, found, fault, then, enclosed}
+use Rattle.regex_tree.specs.Tree.{Count, between, onward}
+use Rattle.regex_tree.specs.Parsing.{Parsing, found, fault, then, enclosed}
 use Rattle.text.specs.Text.{next, rest, split}
 use Rattle.text.specs.Places.{until, place}
 use Rattle.lists.specs.Cases.{first_of}
-use Rattle.regex.specs.Repetition.{counts, sign, repetition}
-use Rattle.regex.specs.SaysLaws.{Says, first_says, enclosed_says}
+use Rattle.regex_tree.specs.Repetition.{counts, sign, repetition}
+use Rattle.regex_tree.specs.SaysLaws.{Says, first_says, enclosed_says}
 use Rattle.text.specs.TextLaws.{split_found, split_missing, byte_within, next_at, rest_at, place_drop}
 use Rattle.regex_repetition.specs.declared.Repeats.TheVariants as repeats
 use Rattle.regex_repetition.specs.Answers.{times, repeats_of, counted, braced, modified}

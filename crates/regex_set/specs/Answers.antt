@@ -1,10 +1,10 @@
 -- What the functions of this crate and of `regex_parse` answer, by the definitions of `regex`.
 use Rattle.std.specs.Prelude.{◌≡◌, List, true, ℕ, drop}
-use Rattle.regex.specs.Tree.{Set, Tree, set}
-use Rattle.regex.specs.Parsing.{Parsing, found, fault, then}
-use Rattle.regex.specs.Letters.{letter_count}
-use Rattle.regex.specs.Few.{few}
-use Rattle.regex.specs.Sets.{a_set, labelled_set}
+use Rattle.regex_tree.specs.Tree.{Set, Tree, set}
+use Rattle.regex_tree.specs.Parsing.{Parsing, found, fault, then}
+use Rattle.regex_tree.specs.Letters.{letter_count}
+use Rattle.regex_tree.specs.Few.{few}
+use Rattle.regex_tree.specs.Sets.{a_set, labelled_set}
 use Rattle.text.specs.Places.{place}
 use Rattle.regex_bracket.specs.Answers.{is_found, set_of}
 use Rattle.regex_set.specs.declared.Part.{Part}

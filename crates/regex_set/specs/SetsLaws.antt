@@ -10,12 +10,12 @@ use Rattle.lists.specs.EachLaws.{drop_here, drop_all}
 use Rattle.lists.specs.OrderLaws.{lt_or_le, not_both, same_truth, and_left, and_right, and_both}
 use Rattle.refusal.specs.declared.Refusal.{Refusal}
 use Rattle.refusal.specs.declared.Refusal.TheVariants as refusal
-use Rattle.regex.specs.Tree.{Set, except, Tree, set, member}
-use Rattle.regex.specs.Parsing.{Parsing, found, fault, then}
+use Rattle.regex_tree.specs.Tree.{Set, except, Tree, set, member}
+use Rattle.regex_tree.specs.Parsing.{Parsing, found, fault, then}
 use Rattle.lists.specs.Cases.{first_of}
-use Rattle.regex.specs.Letters.{labels_of, letter_count}
-use Rattle.regex.specs.Few.{few}
-use Rattle.regex.specs.Sets.{special, alone, escaped, bracket, a_set, labelled_set}
+use Rattle.regex_tree.specs.Letters.{labels_of, letter_count}
+use Rattle.regex_tree.specs.Few.{few}
+use Rattle.regex_tree.specs.Sets.{special, alone, escaped, bracket, a_set, labelled_set}
 use Rattle.text.specs.TextLaws.{place_drop, byte_within}
 use Rattle.text.specs.Places.{place}
 use Rattle.lists.specs.CasesLaws.{fourth}

@@ -1,10 +1,11 @@
 // The set at a place of an expression's text (document 01, "Expression text"): an ordinary character, `.` or a bracket. Each answer is that
 // of crate `regex`'s definition on the text from that place on. The text may have any bytes.
+#![tactic(auto)]
 ghost use Rattle.std.specs.Prelude.{◌≡◌, ◌+◌, ◌<◌, length, drop};
-ghost use Rattle.regex.specs.Tree.{member as member_of};
-ghost use Rattle.regex.specs.Letters.{labels_of};
-ghost use Rattle.regex.specs.Few.{few};
-ghost use Rattle.regex.specs.Sets.{special, escaped, a_set};
+ghost use Rattle.regex_tree.specs.Tree.{member as member_of};
+ghost use Rattle.regex_tree.specs.Letters.{labels_of};
+ghost use Rattle.regex_tree.specs.Few.{few};
+ghost use Rattle.regex_tree.specs.Sets.{special, escaped, a_set};
 ghost use Rattle.regex_bracket.specs.Answers.{end_of};
 ghost use Rattle.regex_set.specs.Answers.{part_of, set_tree, SetAt, set_at};
 

@@ -1,7 +1,7 @@
 -- The sign at the front of a text: a byte, or a class with its name, and how many bytes it takes.
 use Rattle.std.proofs.Math.Option.{Option, some, none}
 use Rattle.std.specs.Prelude.{List, [], ◌∷◌, Bool, cond, ℕ, ◌+◌, length, get_or, drop}
-use Rattle.regex.specs.Sets.{Sign, byte, class, class_begins, class_ends}
+use Rattle.regex_tree.specs.Sets.{Sign, byte, class, class_begins, class_ends}
 
 -- the bytes before the nearest `:]`, or all
 unfoldable pub name : List ℕ → List ℕ

@@ -7,7 +7,7 @@ use Rattle.refusal.specs.Verdict.{Verdict, passed, refused, first_refusal}
 use Rattle.automaton.specs.Form.{letters_of}
 use Rattle.matrix.specs.Matrix.{Matrix}
 use Rattle.outcome.specs.OutcomeLaws.{outcome_unique}
-use Rattle.regex.specs.Grammar.{WordsOf}
+use Rattle.regex_tree.specs.Grammar.{WordsOf}
 use Rattle.decode_checks.specs.Checks.{matrix_checks}
 use Rattle.sheet_read.specs.Answer.{lent_rooms, outcome_lines, PrintsOutcome, PrintsChecked, PrintsCompiled}
 

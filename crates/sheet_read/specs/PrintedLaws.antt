@@ -17,7 +17,7 @@ use Rattle.matrix.specs.Barred.{Unbarred}
 use Rattle.matrix.specs.Paths.{PathOf}
 use Rattle.matrix.specs.PathsLaws.{path_unbarred, path_price}
 use Rattle.outcome.specs.Outcome.{Outcome}
-use Rattle.regex.specs.Grammar.{WordsOf}
+use Rattle.regex_tree.specs.Grammar.{WordsOf}
 use Rattle.compile.specs.Call.{compile_call}
 use Rattle.compile.specs.Meaning.{compiled_means}
 use Rattle.decode_checks.specs.Checks.{matrix_checks}

@@ -22,7 +22,7 @@ use Rattle.ctc.specs.Collapse.{collapse}
 use Rattle.automaton.specs.Form.{letters_of}
 use Rattle.matrix.specs.Matrix.{Matrix, price}
 use Rattle.outcome.specs.Outcome.{Outcome}
-use Rattle.regex.specs.Grammar.{WordsOf}
+use Rattle.regex_tree.specs.Grammar.{WordsOf}
 use Rattle.compile.specs.Call.{compile_call}
 use Rattle.decode_checks.specs.Checks.{needed, matrix_checks}
 use Rattle.decode_valid.specs.Answers.{outcome_report, path_of, word_of, Answers}

@@ -1,6 +1,7 @@
 // One column of the trace: of the states that are reached those that lie on a cheapest path, the lowest label among them, and the states
 // of that label. A state lies on a cheapest path if its label's cost and its cost to go add up to v, what is left to pay. No label is lower
 // than the blank, so blanks are looked at first, and arcs only where no blanks are kept.
+#![tactic(auto)]
 ghost use Rattle.std.specs.Prelude.{◌*◌, ◌<◌, ◌≤◌, length};
 ghost use Rattle.lists.specs.Least.{Least};
 ghost use Rattle.lists.specs.Marks.{Has, Marks, Listed};

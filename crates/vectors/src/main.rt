@@ -12,6 +12,7 @@
 //   D NAME COSTS WIDTH COLUMNS PATH-ROOM WORD-ROOM WORK-ROOM LAST            Decode; the LAST work words are printed
 //   R TEXT COSTS WIDTH COLUMNS PATH-ROOM WORD-ROOM WORK-ROOM LAST ALPHABET   Read
 //   X NAME COSTS WIDTH COLUMNS WORK-ROOM LAST WORDS                          Compare with the form of these words, and the other way round
+#![tactic(auto)]
 mod calls;
 mod matrices;
 mod parts;

@@ -4,7 +4,7 @@ use lib.ListN.{length}
 use Rattle.refusal.specs.declared.Refusal.TheVariants.{Letters}
 use Rattle.refusal.specs.Fills.{reported, Fills}
 use Rattle.refusal.specs.ReportLaws.{fills_refused}
-use Rattle.regex.specs.Parse.{expression_of}
+use Rattle.regex_tree.specs.Parse.{expression_of}
 use Rattle.compile.specs.Call.{parsed_form}
 use Rattle.compile.specs.CallLaws.{text_refused, text_many, text_compilable, text_form}
 use borrow.Author.Rules.{rules}

@@ -2,7 +2,7 @@
 use borrow.Author.Rules.{rules}
 use mathlib.Core.Path.{sym, ◌∙◌}
 use lib.ListN.{drop}
-use Rattle.regex.specs.Sets.{a_set}
+use Rattle.regex_tree.specs.Sets.{a_set}
 use Rattle.positions_letters.specs.SetLaws.{end_is, end_refused}
 use Rattle.positions_letters.proofs.after_set.Statement.{statement}
 use Rattle.positions_letters.proofs.after_set.Tie as tie

@@ -5,7 +5,7 @@ use mathlib.Core.Path.{◌≡◌, sym, ◌∙◌}
 use mathlib.Core.Bool.{true}
 use lib.ListN.{length, drop}
 use lib.Dec.{eqb}
-use Rattle.regex.specs.Sets.{closed}
+use Rattle.regex_tree.specs.Sets.{closed}
 use Rattle.regex_signs.specs.SignsLaws.{sign_width_some}
 use Rattle.regex_bracket.specs.Answers.{after}
 use Rattle.regex_bracket.specs.ClosingLaws.{after_first, after_here, after_past, after_end}

@@ -2,7 +2,7 @@
 use borrow.Author.Rules.{rules}
 use mathlib.Core.Path.{ap, sym, ◌∙◌}
 use Prim.Native.Nat.{◌*◌}
-use Rattle.regex.specs.Few.{few}
+use Rattle.regex_tree.specs.Few.{few}
 use Rattle.regex_set.specs.declared.Part.TheVariants as part
 use Rattle.regex_count.specs.Parts.{repeated}
 use Rattle.regex_count.proofs.repeated.Statement.{statement}

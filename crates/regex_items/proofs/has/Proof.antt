@@ -5,7 +5,7 @@ use mathlib.Core.Path.{◌≡◌, refl, sym, ◌∙◌}
 use mathlib.Core.Bool.{true}
 use lib.ListN.{length, drop}
 use Rattle.lists.specs.Options.{is_some, listed}
-use Rattle.regex.specs.Tree.{among}
+use Rattle.regex_tree.specs.Tree.{among}
 use Rattle.regex_items.specs.Items.{left, resolved}
 use Rattle.regex_items.specs.ItemsLaws.{width_some}
 use Rattle.regex_items.specs.LeftLoops.{Inner, inner_within, among_end, inner_more, is_allowed, known_good, resolved_more, among_here, among_past}

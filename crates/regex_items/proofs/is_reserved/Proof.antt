@@ -3,7 +3,7 @@ use native.Mathlib.Omega.{arith}
 use Prim.Native.Nat.{◌≤◌, ◌-◌}
 use mathlib.Core.Path.{◌≡◌, refl, sym, ◌∙◌}
 use lib.ListN.{length, drop}
-use Rattle.regex.specs.Sets.{reserved}
+use Rattle.regex_tree.specs.Sets.{reserved}
 use Rattle.regex_items.specs.ReservedLaws.{reserved_here, reserved_more, reserved_end}
 use Rattle.regex_items.proofs.is_reserved.Statement.{statement}
 use Rattle.regex_items.proofs.is_reserved.Tie as tie

@@ -1,8 +1,8 @@
 -- `regex_items::item_has` meets its contract.
 use mathlib.Core.Path.{sym, ap, ◌∙◌}
 use Rattle.lists.specs.Options.{listed}
-use Rattle.regex.specs.Tree.{among}
-use Rattle.regex.specs.Classes.{class_ranges}
+use Rattle.regex_tree.specs.Tree.{among}
+use Rattle.regex_tree.specs.Classes.{class_ranges}
 use Rattle.regex_items.specs.ItemAtLaws.{has_class, has_range}
 use borrow.Author.Rules.{rules}
 use Rattle.regex_items.proofs.item_has.Statement.{statement}

@@ -1,7 +1,7 @@
 -- `regex_items::item_known` meets its contract.
 use mathlib.Core.Path.{sym, ap, ◌∙◌}
 use Rattle.lists.specs.Options.{is_some}
-use Rattle.regex.specs.Classes.{class_ranges}
+use Rattle.regex_tree.specs.Classes.{class_ranges}
 use Rattle.regex_items.specs.ItemAtLaws.{known_class, known_range}
 use borrow.Author.Rules.{rules}
 use Rattle.regex_items.proofs.item_known.Statement.{statement}

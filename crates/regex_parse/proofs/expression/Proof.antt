@@ -1,7 +1,7 @@
 -- `regex_parse::expression` meets its contract.
 use borrow.Author.Rules.{rules}
 use mathlib.Core.Path.{sym, ◌∙◌}
-use Rattle.regex.specs.Parse.{m_alternation}
+use Rattle.regex_tree.specs.Parse.{m_alternation}
 use Rattle.regex_parse.specs.PartsLaws.{part_found}
 use Rattle.regex_parse.specs.ParsedLaws.{parsed_refused, parsed_stray, parsed_letters}
 use Rattle.regex_parse.proofs.expression.Statement.{statement}

@@ -1,7 +1,7 @@
 -- `regex_repetition::repetition` meets its contract.
 use borrow.Author.Rules.{rules}
 use mathlib.Core.Path.{sym, ap, ◌∙◌}
-use Rattle.regex.specs.Tree.{between, onward}
+use Rattle.regex_tree.specs.Tree.{between, onward}
 use Rattle.regex_repetition.specs.Answers.{times}
 use Rattle.regex_repetition.specs.SignLaws.{repetition_refused, repetition_is}
 use Rattle.regex_repetition.proofs.repetition.Statement.{statement}

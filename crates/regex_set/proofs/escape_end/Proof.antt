@@ -2,7 +2,7 @@
 use borrow.Author.Rules.{rules}
 use mathlib.Core.Path.{sym, ap, ◌∙◌}
 use lib.ListN.{drop}
-use Rattle.regex.specs.Sets.{special}
+use Rattle.regex_tree.specs.Sets.{special}
 use Rattle.regex_set.specs.SetsLaws.{escape_ends, escape_refused}
 use Rattle.regex_set.proofs.escape_end.Statement.{statement}
 use Rattle.regex_set.proofs.escape_end.Tie as tie

@@ -2,7 +2,7 @@
 use mathlib.Core.Path.{sym, ◌∙◌}
 use native.Mathlib.Omega.{arith}
 use borrow.Author.Rules.{rules}
-use Rattle.regex.specs.Parse.{m_piece}
+use Rattle.regex_tree.specs.Parse.{m_piece}
 use Rattle.positions_build.specs.MadeLaws.{parsed_part, piece_found}
 use Rattle.positions_build.specs.BranchLaws.{first_copy, piece_room, next_found, next_room, branch_returns_piece, branch_returns_joint}
 use Prim.Native.Nat.{ℕ}

@@ -3,7 +3,7 @@ use mathlib.Core.Path.{sym, ap, ◌∙◌}
 use Prim.Native.Nat.{ℕ}
 use native.Mathlib.Omega.{arith}
 use borrow.Author.Rules.{rules}
-use Rattle.regex.specs.Parse.{m_branch}
+use Rattle.regex_tree.specs.Parse.{m_branch}
 use Rattle.text.specs.TextLaws.{byte_is}
 use Rattle.regex_count.specs.Parts.{add}
 use Rattle.regex_parse.specs.PartsLaws.{Found, part_found}

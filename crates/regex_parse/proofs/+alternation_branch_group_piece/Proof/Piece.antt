@@ -2,7 +2,7 @@
 use mathlib.Core.Path.{sym, ap, ◌∙◌}
 use Prim.Native.Nat.{ℕ}
 use borrow.Author.Rules.{rules}
-use Rattle.regex.specs.Parse.{m_group}
+use Rattle.regex_tree.specs.Parse.{m_group}
 use Rattle.regex_count.specs.Parts.{repeated}
 use Rattle.regex_parse.specs.PartsLaws.{Found, part_found}
 use Rattle.regex_parse.specs.CycleLaws.{piece_refused, piece_plain, piece_repeated}

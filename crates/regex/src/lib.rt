@@ -1,1 +1,0 @@
-// What an expression's text means: tree, words, grammar and parsing, as definitions and laws: see specs/.
