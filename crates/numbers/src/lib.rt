@@ -1,6 +1,7 @@
 // Small functions on numbers and truth values: conversions of bytes, 32-bit words and sizes; the lesser and the greater of two; a signed
 // difference, and a signed number without its sign; a range; a truth value as a number; either of two.
 #![tactic(auto)]
+
 ghost use Rattle.std.specs.Prelude.{◌≡◌, cond, ◌||◌, ◌<◌, ◌≤◌, ◌^◌, min, max, pos, nat_abs, ◌-ℤ◌};
 ghost use Rattle.lists.specs.Lists.{in_range};
 

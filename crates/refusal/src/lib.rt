@@ -1,5 +1,6 @@
 // What is turned away: the refusals of documents 01 and 02, and the answer of a call that fills one list.
 #![tactic(auto)]
+
 ghost use Rattle.std.specs.Prelude.{◌≡◌};
 ghost use Rattle.refusal.specs.Number.{number_of};
 

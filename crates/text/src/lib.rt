@@ -1,6 +1,7 @@
 // The bytes of a text: the byte at a place, whether a byte is one of some signs, where a sign occurs next, whether two texts are the same. A
 // text may have any bytes.
 #![tactic(auto)]
+
 ghost use Rattle.std.specs.Prelude.{◌≡◌, ◌+◌, get_or, drop};
 ghost use Rattle.lists.specs.Lists.{same_list};
 ghost use Rattle.text.specs.Text.{one_of};
