@@ -1,6 +1,7 @@
 // Is a list an alphabet (document 01, "Alphabet, labels, paths"), and is a list a text ("Expression text")? Refusals 1 to 3. How many labels
 // has a character?
 #![tactic(auto)]
+
 ghost use Rattle.std.specs.Prelude.{◌≡◌, length};
 ghost use Rattle.refusal.specs.Verdict.{first_refusal};
 ghost use Rattle.alphabet.specs.Labels.{labels_of_character};

@@ -1,5 +1,6 @@
 // What Judge, Decode and Read answer.
 #![tactic(auto)]
+
 use refusal::Refusal;
 
 // What Judge answers.

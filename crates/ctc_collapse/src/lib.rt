@@ -1,5 +1,6 @@
 // The call Collapse, on labels and lent memory (document 01, "Alphabet, labels, paths").
 #![tactic(auto)]
+
 ghost use Rattle.std.specs.Prelude.{◌+◌, ◌≤◌, length};
 ghost use Rattle.lists.specs.Memory.{Wrote};
 ghost use Rattle.lists.specs.Stored.{Stored};

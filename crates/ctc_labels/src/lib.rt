@@ -1,5 +1,6 @@
 // Lists of labels (document 01, "Alphabet, labels, paths"): are they in range, and which lists are turned away.
 #![tactic(auto)]
+
 ghost use Rattle.std.specs.Prelude.{◌≡◌};
 ghost use Rattle.lists.specs.Lists.{in_range};
 ghost use Rattle.lists.specs.Each.{all};

@@ -1,5 +1,6 @@
 // The lines of a text: where the line that begins at a place ends.
 #![tactic(auto)]
+
 ghost use Rattle.std.specs.Prelude.{◌≤◌, length};
 ghost use Rattle.text_lines.specs.Places.{LineEnd};
 

@@ -1,0 +1,18 @@
+-- `ctc_collapse::write_collapse` meets its contract: what is written, and what the rest of the path adds after the last label, make the
+-- whole.
+use Prim.Native.Nat.{◌≤◌, ◌+◌, ◌-◌}
+use mathlib.Core.Path.{subst}
+use native.Mathlib.Omega.{arith}
+use lib.ListN.{length, get_or, drop}
+use Rattle.lists.specs.FillingLoops.{Filling, filling_none, filling_stored, filling_room, filling_length, filling_all}
+use Rattle.ctc.specs.Collapse.{collapse}
+use Rattle.ctc.specs.CollapseLaws.{after, collapse_after, collapse_shorter}
+use Rattle.ctc_collapse.specs.Added.{added}
+use Rattle.ctc_collapse.specs.Loops.{after_step, after_end}
+use Rattle.ctc_collapse.proofs.write_collapse.Given as goal
+
+abbrev pub invariant-loop-i : goal.invariant-loop-i
+invariant-loop-i l = (l.i ≤ length l.path) × Filling (collapse l.path) l.initial.word l.word (after l.a (drop l.i l.path)) l.n
+
+abbrev pub decreases-loop-i : goal.decreases-loop-i
+decreases-loop-i l = length l.path - l.i

@@ -1,3 +1,0 @@
-pub mod PassedOn
-pub mod View
-pub mod Made
