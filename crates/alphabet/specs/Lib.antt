@@ -1,5 +1,2 @@
 pub mod Labels
-pub mod LabelsLaws
 pub mod Alphabet
-pub mod AlphabetLaws
-pub mod Examples

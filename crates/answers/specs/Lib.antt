@@ -2,4 +2,3 @@ pub mod Judgement
 pub mod Decision
 pub mod Decoded
 pub mod Reading
-pub mod Examples

@@ -1,13 +1,8 @@
 pub mod Automaton
 pub mod Proper
 pub mod Accepted
-pub mod AcceptedLaws
 pub mod Form
 pub mod WordsLaws
 pub mod Valid
-pub mod ValidLaws
 pub mod FormAccepts
-pub mod FormAcceptsLaws
-pub mod EncodeLaws
-pub mod Examples
 pub mod Arrays

@@ -2,9 +2,9 @@
 -- of fields.
 use Rattle.std.specs.Prelude.{ℕ, ◌/◌, ◌%◌, ◌<◌, ◌≤◌, ◌≡◌, Bool, true, false, ◌⊎◌, ltb, eqb}
 use Rattle.std.proofs.Common.{inl, inr, arith, eqb-true, lt-ltb, eq-eqb, le-ltb, ne_eqb}
-use Rattle.lists.specs.RangeLaws.{range_inside, range_true}
+use Rattle.lists.proofs.RangeLaws.{range_inside, range_true}
 use Rattle.lists.specs.Lists.{in_range}
-use Rattle.lists.specs.OrderLaws.{and_left, and_right, and_both, and_three, and_all_three, lt_or_le, eq_or_ne}
+use Rattle.lists.proofs.OrderLaws.{and_left, and_right, and_both, and_three, and_all_three, lt_or_le, eq_or_ne}
 use Rattle.automaton.specs.Form.{bit, head_word, letter_word, arc_word, byte0, byte2, bit8, bit9, source, target, is_head, is_letter, is_arc, before}
 
 pub record Head (w : ℕ) : Type 0 where

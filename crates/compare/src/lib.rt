@@ -1,5 +1,6 @@
 // Compare: two forms over one matrix, and the price of the first one's reading less that of the second's (document 02, T-04).
 #![tactic(auto)]
+
 ghost use Rattle.std.specs.Prelude.{◌≡◌};
 ghost use Rattle.refusal.specs.Verdict.{first_refusal};
 ghost use Rattle.matrix.specs.Matrix.{matrix};

@@ -3,15 +3,15 @@ use Rattle.std.specs.Prelude.{ℕ, ◌+◌, ◌*◌, ◌≤◌, ◌<◌, max, �
 use Rattle.std.proofs.Common.{sym, ap, ap₂, ◌∙◌, mul-le-mul_left, arith}
 use Rattle.std.proofs.Math.Option.{Option, some, none}
 use Rattle.lists.specs.Stored.{Outside}
-use Rattle.lists.specs.OutsideLaws.{outside_then, outside_wider}
+use Rattle.lists.proofs.OutsideLaws.{outside_then, outside_wider}
 use Rattle.refusal.specs.declared.Refusal.TheVariants.{NoReading}
 use Rattle.automaton.specs.Automaton.{Accepts}
 use Rattle.automaton.specs.Form.{letters_of, view}
-use Rattle.automaton.specs.ValidLaws.{valid_at, view_proper}
+use Rattle.automaton.proofs.ValidLaws.{valid_at, view_proper}
 use Rattle.matrix.specs.Matrix.{Matrix, price}
 use Rattle.outcome.specs.Outcome.{Outcome}
 use Rattle.trellis.specs.Impossible.{TOP}
-use Rattle.trellis.specs.OutcomeLaws.{Pays, outcome_exists, outcome_pays}
+use Rattle.trellis.proofs.OutcomeLaws.{Pays, outcome_exists, outcome_pays}
 use Rattle.trellis_table.specs.Fill.{Sized, Filled, states}
 use Rattle.comparison.specs.Comparison.{Comparison, compared, turned_away}
 use Rattle.comparison.specs.Checks.{larger_need}

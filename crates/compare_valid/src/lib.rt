@@ -1,5 +1,6 @@
 // Compare of an input that passes its checks (document 02, T-04).
 #![tactic(auto)]
+
 ghost use Rattle.std.specs.Prelude.{length};
 ghost use Rattle.matrix.specs.Matrix.{matrix};
 ghost use Rattle.comparison.specs.Comparison.{reported};

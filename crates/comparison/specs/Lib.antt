@@ -1,10 +1,5 @@
 pub mod Comparison
 pub mod Checks
 pub mod Passing
-pub mod PassingLaws
 pub mod Promise
-pub mod ExchangeLaws
-pub mod BoundsLaws
 pub mod Demand
-pub mod Demands
-pub mod Examples

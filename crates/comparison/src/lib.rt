@@ -1,5 +1,6 @@
 // What Compare answers (document 02, T-04).
 #![tactic(auto)]
+
 use refusal::Refusal;
 
 // The price of the first form's reading less that of the second's, or why the input was turned away.

@@ -1,5 +1,6 @@
 // Compile: from an alphabet and the text of an expression to its form (document 01, "Expression text", "Opening and the compiled form").
 #![tactic(auto)]
+
 ghost use Rattle.std.specs.Prelude.{◌≤◌, length};
 ghost use Rattle.refusal.specs.Fills.{reported, Fills};
 ghost use Rattle.regex_tree.specs.Parse.{expression_of};
@@ -54,7 +55,7 @@ fn compile_text(alphabet: &[u8], text: &[u8], form: &mut [u32]) -> Counted
     }
 }
 
-// Document 01's Compile. What it writes means the text's words: `compiled_means` of specs/Meaning.antt.
+// Document 01's Compile. What it writes means the text's words: `compiled_means` of proofs/Meaning.antt.
 pub fn compile(alphabet: &[u8], text: &[u8], form: &mut [u32]) -> Counted
     ensures { Fills (compile_call alphabet.now text.now (length form.old)) (reported result) form.old form.new }
 {

@@ -1,5 +1,6 @@
 // CompileList: from an alphabet and a list of words, each closed by one newline, to their form (document 02, T-05 and T-07).
 #![tactic(auto)]
+
 ghost use Rattle.std.specs.Prelude.{◌≡◌, ◌≤◌, length};
 ghost use Rattle.refusal.specs.Verdict.{first_refusal};
 ghost use Rattle.refusal.specs.Fills.{reported, Fills};
@@ -101,7 +102,7 @@ fn check_list(alphabet: &[u8], list: &[u8]) -> Checked
     Checked::Passed
 }
 
-// Document 02's call for word lists. What it writes accepts the listed words: `list_means` of specs/Meaning.antt.
+// Document 02's call for word lists. What it writes accepts the listed words: `list_means` of proofs/Meaning.antt.
 pub fn compile_list(alphabet: &[u8], list: &[u8], form: &mut [u32]) -> Counted
     ensures { Fills (compile_list_call alphabet.now list.now (length form.old)) (reported result) form.old form.new }
 {

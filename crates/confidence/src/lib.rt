@@ -1,6 +1,7 @@
 // The call Costs: the cost of each confidence of a list, from a table (document 01, "Confidences and the sheet program"; document 02,
 // T-03). The program `confidence_table` prints the table's file.
 #![tactic(auto)]
+
 mod table;
 
 ghost use Rattle.std.specs.Prelude.{◌≡◌, ◌≤◌, map, length};

@@ -1,5 +1,1 @@
 pub mod Cost
-pub mod Examples
-pub mod Rule
-pub mod Never
-pub mod Loops

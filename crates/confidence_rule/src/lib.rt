@@ -1,6 +1,7 @@
 // The cost of a confidence byte, computed by the eighth-power rule (document 01, "Confidences and the sheet program"); that of 0 is the cost
 // of a barred label (document 02, T-06). The program `confidence_table` computes the table of costs by this crate.
 #![tactic(auto)]
+
 ghost use Rattle.std.specs.Prelude.{◌≡◌, ◌*◌, ◌^◌, ◌≤◌};
 ghost use Rattle.confidence_rule.specs.Cost.{shift, cost_of};
 

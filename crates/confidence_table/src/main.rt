@@ -5,6 +5,7 @@
 //
 // The gate compares what is printed with both files; no contract can speak of it.
 #![tactic(auto)]
+
 use libc::STDOUT_FILENO;
 
 // The lines before the costs.

@@ -1,4 +1,2 @@
 pub mod Calls
 pub mod Added
-pub mod Loops
-pub mod Examples

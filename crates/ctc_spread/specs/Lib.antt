@@ -1,4 +1,2 @@
 pub mod Calls
 pub mod Spaced
-pub mod Loops
-pub mod Examples

@@ -7,7 +7,7 @@ use Rattle.refusal.specs.declared.Refusal.{Refusal}
 use Rattle.refusal.specs.declared.Refusal.TheVariants.{BadForm}
 use Rattle.refusal.specs.declared.Checked.TheVariants.{Passed, Refused}
 use Rattle.refusal.specs.Verdict.{first_refusal}
-use Rattle.refusal.specs.VerdictLaws.{first_passed}
+use Rattle.refusal.proofs.VerdictLaws.{first_passed}
 use Rattle.refusal.specs.Report.{Report, turned_away}
 use Rattle.automaton.specs.Automaton.{Accepts}
 use Rattle.automaton.specs.Form.{valid_form, view, letters_of, alphabet_of}
@@ -18,7 +18,7 @@ use Rattle.decode_valid.specs.Answers.{labels, DecodeAnswers}
 use Rattle.decode_valid.specs.Lent.{Lent, rooms}
 use Rattle.decode_valid.specs.Demand.{BestOrNone}
 use Rattle.decode_valid.specs.Kept.{Kept}
-use Rattle.decode_valid.specs.DemandLaws.{answers_as_demanded, none_exactly, rival_reads}
+use Rattle.decode_valid.proofs.DemandLaws.{answers_as_demanded, none_exactly, rival_reads}
 use Rattle.decode.specs.Promise.{Decodes}
 
 module _ (f : List ℕ) (M : Matrix) (before after : Lent) (answer : Report) (decodes : Decodes f M before after answer) where

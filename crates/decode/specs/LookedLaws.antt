@@ -8,14 +8,14 @@ use Rattle.refusal.specs.declared.Checked.{Checked}
 use Rattle.refusal.specs.declared.Checked.TheVariants.{Passed, Refused}
 use Rattle.refusal.specs.Number.{number_of}
 use Rattle.refusal.specs.Verdict.{first_refusal}
-use Rattle.refusal.specs.VerdictLaws.{first_of, first_passed}
+use Rattle.refusal.proofs.VerdictLaws.{first_of, first_passed}
 use Rattle.refusal.specs.Checks.{Checks}
 use Rattle.refusal.specs.Report.{Report, turned_away}
 use Rattle.automaton.specs.Form.{valid_form, letters_of, alphabet_of}
 use Rattle.matrix.specs.Matrix.{Matrix}
 use Rattle.decode_checks.specs.Checks.{matrix_checks, decode_checks}
 use Rattle.decode_checks.specs.Passing.{Fits}
-use Rattle.decode_checks.specs.PassingLaws.{fits}
+use Rattle.decode_checks.proofs.PassingLaws.{fits}
 use Rattle.decode_valid.specs.Answers.{DecodeAnswers}
 use Rattle.decode_valid.specs.Lent.{Lent, rooms}
 use Rattle.decode.specs.Promise.{Decodes}

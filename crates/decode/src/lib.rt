@@ -1,6 +1,7 @@
 // Decode: the cheapest path whose collapse the form accepts, and among equals the first by labels (document 01, "Extended states and
 // decoding").
 #![tactic(auto)]
+
 ghost use Rattle.answers.specs.Decoded.{reported};
 ghost use Rattle.matrix.specs.Matrix.{matrix};
 ghost use Rattle.matrix.specs.View.{value};

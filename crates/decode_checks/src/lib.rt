@@ -1,6 +1,7 @@
 // The checks of the matrix and of the lent memory that Decode and Read make, in their order (document 01, "What is turned away",
 // refusals 12 to 15).
 #![tactic(auto)]
+
 ghost use Rattle.std.specs.Prelude.{◌≡◌, ◌≤◌};
 ghost use Rattle.lists.specs.Each.{all};
 ghost use Rattle.refusal.specs.Verdict.{first_refusal};

@@ -1,5 +1,6 @@
 // Decode of an input that passes its checks (document 01, "Extended states and decoding").
 #![tactic(auto)]
+
 ghost use Rattle.answers.specs.Decoded.{reported};
 ghost use Rattle.automaton.specs.Form.{alphabet_of, letters_of};
 ghost use Rattle.automaton.specs.Valid.{Valid};

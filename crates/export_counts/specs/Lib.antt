@@ -1,3 +1,1 @@
 pub mod Handed
-pub mod HandedLaws
-pub mod Examples

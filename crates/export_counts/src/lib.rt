@@ -1,5 +1,6 @@
 // An answer handed back: 0 or the number of the refusal, and one count in an array, 0 at a refusal.
 #![tactic(auto)]
+
 ghost use Rattle.std.specs.Prelude.{◌≡◌, ◌<◌, ◌^◌};
 ghost use Rattle.refusal.specs.Fills.{reported};
 ghost use Rattle.answers.specs.Judgement.{reported as judgement};

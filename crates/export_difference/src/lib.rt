@@ -1,5 +1,6 @@
 // Compare's answer handed back: 0 or the number of the refusal, and the difference in an array, 0 at a refusal.
 #![tactic(auto)]
+
 ghost use Rattle.comparison.specs.Comparison.{reported};
 ghost use Rattle.export_difference.specs.Handed.{HandsDifference};
 

@@ -1,5 +1,6 @@
 // Decode's and Read's answers handed back: 0 or the number of the refusal, and the price and lengths in an array, zeros at a refusal.
 #![tactic(auto)]
+
 ghost use Rattle.std.specs.Prelude.{◌<◌, ◌^◌};
 ghost use Rattle.answers.specs.Decoded.{reported as decoded};
 ghost use Rattle.answers.specs.Reading.{reported as read};

@@ -1,12 +1,12 @@
 -- Laws: a letter that has the arcs of the letter before it may be followed by the same letters.
 use Rattle.std.specs.Prelude.{ℕ, ◌+◌, ◌-◌, ◌<◌, ◌≤◌, ◌≡◌, Bool, true, false, ◌⊎◌, List, length, get_or, replicate}
 use Rattle.std.proofs.Common.{sym, ap, subst, ◌∙◌, inl, inr, arith}
-use Rattle.lists.specs.OrderLaws.{same_truth}
+use Rattle.lists.proofs.OrderLaws.{same_truth}
 use Rattle.lists.specs.Marks.{Has}
-use Rattle.lists.specs.MarksLaws.{has_none}
+use Rattle.lists.proofs.MarksLaws.{has_none}
 use Rattle.automaton.specs.Form.{letters_of, follow_of, target}
 use Rattle.automaton.specs.Valid.{Valid}
-use Rattle.automaton.specs.ValidLaws.{follow_arc, arc_follow}
+use Rattle.automaton.proofs.ValidLaws.{follow_arc, arc_follow}
 use Rattle.form_starts.specs.Starts.{StartsAt, ArcStarts}
 use Rattle.form_starts.specs.Loops.{range_source, range_rises, source_range}
 use Rattle.form_arcs.specs.Equal.{SameTargets, SameArcs, Shares, EqualArcs}

@@ -1,9 +1,9 @@
 -- The letters that share their arcs, one iteration of a loop at a time.
 use Rattle.std.specs.Prelude.{ℕ, ◌+◌, ◌<◌, ◌≡◌, refl, Bool, true, false, ◌⊎◌, List, length, get_or, set, replicate}
 use Rattle.std.proofs.Common.{sym, subst, inl, inr, arith}
-use Rattle.lists.specs.OrderLaws.{eq_or_ne}
+use Rattle.lists.proofs.OrderLaws.{eq_or_ne}
 use Rattle.lists.specs.Marks.{Marks, Iterations}
-use Rattle.lists.specs.MarksLaws.{marks_none, marks_one, marks_same}
+use Rattle.lists.proofs.MarksLaws.{marks_none, marks_one, marks_same}
 use Rattle.automaton.specs.Form.{letters_of, target}
 use Rattle.form_arcs.specs.Equal.{SameTargets, SameArcs, Shares, SharesAt, EqualArcs}
 

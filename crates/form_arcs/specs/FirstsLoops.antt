@@ -1,10 +1,10 @@
 -- The list of the letters that may be first, one iteration of the loop over letters at a time.
 use Rattle.std.specs.Prelude.{ℕ, ◌+◌, ◌<◌, ◌≤◌, ◌≡◌, true, false, ◌⊎◌, List, length, get_or, set}
 use Rattle.std.proofs.Common.{sym, subst, ◌∙◌, inl, inr, arith, length-set, get_or-set_same, get_or-set_other}
-use Rattle.lists.specs.OrderLaws.{eq_or_ne, not_both}
+use Rattle.lists.proofs.OrderLaws.{eq_or_ne, not_both}
 use Rattle.lists.specs.Marks.{Listed}
 use Rattle.automaton.specs.Form.{follow_of}
-use Rattle.automaton.specs.ValidLaws.{first_letter}
+use Rattle.automaton.proofs.ValidLaws.{first_letter}
 use Rattle.form_arcs.specs.Firsts.{FirstsBelow}
 
 pub firsts_none : (f list : List ℕ) → length list ≡ 128 → FirstsBelow f 1 list 0

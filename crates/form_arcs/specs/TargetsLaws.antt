@@ -1,7 +1,7 @@
 -- Laws: how many words a valid form has at most; so its targets fit into the list.
 use Rattle.std.specs.Prelude.{ℕ, zero, suc, ◌+◌, ◌*◌, ◌<◌, ◌≤◌, ◌≡◌, ◌⊎◌, List, length, get_or}
 use Rattle.std.proofs.Common.{inl, inr, arith}
-use Rattle.lists.specs.OrderLaws.{lt_or_le}
+use Rattle.lists.proofs.OrderLaws.{lt_or_le}
 use Rattle.automaton.specs.Form.{letters_of, source, target}
 use Rattle.automaton.specs.WordsLaws.{Arc}
 use Rattle.automaton.specs.Valid.{Valid}

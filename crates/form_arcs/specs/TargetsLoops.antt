@@ -1,8 +1,8 @@
 -- The targets of a form's words, one iteration of the loop over words at a time.
 use Rattle.std.specs.Prelude.{ℕ, ◌+◌, ◌<◌, ◌≡◌, ◌⊎◌, List, length, get_or, set}
 use Rattle.std.proofs.Common.{sym, subst, ◌∙◌, inl, inr, arith, get_or-set_same, get_or-set_other}
-use Rattle.lists.specs.OrderLaws.{eq_or_ne}
-use Rattle.lists.specs.OutsideLaws.{outside_none, outside_set, outside_then, outside_wider}
+use Rattle.lists.proofs.OrderLaws.{eq_or_ne}
+use Rattle.lists.proofs.OutsideLaws.{outside_none, outside_set, outside_then, outside_wider}
 use Rattle.automaton.specs.Form.{target}
 use Rattle.form_arcs.specs.Targets.{TargetsBelow}
 

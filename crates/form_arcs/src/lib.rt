@@ -1,6 +1,7 @@
 // What a search looks up once in a form: which letters have arcs to the same letters as the letter before them, a list of the letters that
 // may be first, and the targets of all arcs as bytes.
 #![tactic(auto)]
+
 ghost use Rattle.std.specs.Prelude.{◌≡◌, ◌+◌, ◌≤◌, length};
 ghost use Rattle.lists.specs.Marks.{Marks};
 ghost use Rattle.automaton.specs.Form.{letters_of};

@@ -7,9 +7,9 @@ use Rattle.std.proofs.Math.Bool.{true, false, and_assoc, and-true}
 use mathlib.Core.List.{List, [], ◌∷◌}
 use Rattle.std.proofs.Math.Dec.{ltb}
 use Rattle.std.proofs.Math.ListN.{length}
-use Rattle.lists.specs.OrderLaws.{eq_or_ne}
+use Rattle.lists.proofs.OrderLaws.{eq_or_ne}
 use Rattle.lists.specs.Lists.{in_range}
-use Rattle.lists.specs.EachLaws.{drop_here, drop_all}
+use Rattle.lists.proofs.EachLaws.{drop_here, drop_all}
 use Rattle.lists.specs.Each.{all}
 use Rattle.automaton.specs.Form.{bit, bit8, bit9, byte0, byte2, source, target, head_word, letter_word, arc_word, is_head, is_letter, is_arc, before, ordered, valid_form, letters_of, alphabet_of, letter_words, arc_words}
 use Rattle.automaton.specs.WordsLaws.{Arc, arc_true, before_less}

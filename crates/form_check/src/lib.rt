@@ -1,5 +1,6 @@
 // The check of a form (document 01, "Opening and the compiled form"): one pass over the list.
 #![tactic(auto)]
+
 ghost use Rattle.std.specs.Prelude.{◌≡◌, ◌&&◌};
 ghost use Rattle.lists.specs.Each.{all};
 ghost use Rattle.automaton.specs.Form.{is_head, is_letter, is_arc, ordered, valid_form};

@@ -7,7 +7,7 @@ use Rattle.refusal.specs.Verdict.{unless, passed, refused}
 use Rattle.automaton.specs.Form.{encode}
 use Rattle.automaton.specs.Arrays.{arrayed}
 use Rattle.form_encode.specs.Call.{form_call}
-use Rattle.automaton.specs.Examples.{ab*_by_arrays}
+use Rattle.automaton.proofs.Examples.{ab*_by_arrays}
 
 four_words : form_call 2 ab*_by_arrays 4 ≡ refused FormMemory
 unfolding encode keep numbers flat_map arrayed ab*_by_arrays form_call unless

@@ -6,9 +6,9 @@ use Rattle.std.proofs.Math.Path.{ap, ap₂}
 use mathlib.Core.List.{List, [], ◌∷◌, ◌++◌, map}
 use Rattle.std.proofs.Math.ListN.{get_or}
 use Rattle.lists.specs.Lists.{in_range, numbers}
-use Rattle.lists.specs.AmongLaws.{keep_same, map_same, flat_same}
-use Rattle.lists.specs.AscendingLaws.{numbers_among}
-use Rattle.lists.specs.RemainingLoops.{from, from_first}
+use Rattle.lists.proofs.AmongLaws.{keep_same, map_same, flat_same}
+use Rattle.lists.proofs.AscendingLaws.{numbers_among}
+use Rattle.lists.proofs.RemainingLoops.{from, from_first}
 use Rattle.automaton.specs.Automaton.{Automaton}
 use Rattle.automaton.specs.Form.{head_word, letter_word, arc_word, letter_of, arcs_from, encode}
 use Rattle.form_encode_arcs.specs.Arcs.{letter_arcs, letter_arcs_at, arcs_by}

@@ -2,9 +2,9 @@
 use Rattle.std.specs.Prelude.{ℕ, ◌+◌, ◌≤◌, ◌≡◌, Bool, List, [], ◌∷◌, ◌++◌, length, set}
 use Rattle.std.proofs.Common.{ap, subst, ◌∙◌, append-nil, arith, length-append}
 use Rattle.std.proofs.lemmas.List.{length-map}
-use Rattle.lists.specs.AscendingLaws.{length_numbers}
+use Rattle.lists.proofs.AscendingLaws.{length_numbers}
 use Rattle.lists.specs.Lists.{numbers}
-use Rattle.lists.specs.FillingLoops.{Filling, filling_none, filling_more, filling_stored, filling_room, filling_all}
+use Rattle.lists.proofs.FillingLoops.{Filling, filling_none, filling_more, filling_stored, filling_room, filling_all}
 use Rattle.lists.specs.Memory.{Wrote}
 use Rattle.lists.specs.Stored.{Stored}
 use Rattle.automaton.specs.Form.{encode}

@@ -1,5 +1,6 @@
 // Writes an automaton that is given by arrays as a compiled form (document 01, "Opening and the compiled form").
 #![tactic(auto)]
+
 ghost use Rattle.std.specs.Prelude.{◌≡◌, ◌+◌, ◌≤◌, length};
 ghost use Rattle.lists.specs.Memory.{Wrote};
 ghost use Rattle.lists.specs.Stored.{Stored};

@@ -6,7 +6,7 @@ use mathlib.Core.List.{List, [], ◌++◌, map, flat_map}
 use Rattle.std.proofs.Math.ListN.{length, length-append}
 use Rattle.std.proofs.lemmas.List.{length-map}
 use Rattle.lists.specs.Lists.{keep, keeping, numbers}
-use Rattle.lists.specs.RemainingLoops.{from, from_first, keep_here, keep_past, flat_here, flat_past, length_keeping, map_keeping}
+use Rattle.lists.proofs.RemainingLoops.{from, from_first, keep_here, keep_past, flat_here, flat_past, length_keeping, map_keeping}
 use Rattle.automaton.specs.Form.{bit, arc_word}
 use Rattle.form_encode_arcs.specs.Arcs.{letter_arcs, letter_arcs_at, arcs_by}
 use Rattle.automaton.specs.Arrays.{has}

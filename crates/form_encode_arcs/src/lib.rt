@@ -1,6 +1,7 @@
 // The arcs of a follow relation as the words of a compiled form (document 01, "Opening and the compiled form"), counted and written letter
 // by letter. The relation is given by an array: for each letter the set of letters that may follow it.
 #![tactic(auto)]
+
 ghost use Rattle.std.specs.Prelude.{◌≡◌, ◌+◌, ◌≤◌, [], length};
 ghost use Rattle.lists.specs.Stored.{Stored};
 ghost use Rattle.lists.specs.Lists.{keep, keeping, numbers};

@@ -1,17 +1,17 @@
 -- What one iteration of each loop over sets of letters marks, and how such sets decide whether a word is accepted.
 use Rattle.std.specs.Prelude.{ℕ, zero, suc, ◌+◌, ◌<◌, ◌≤◌, ◌≡◌, refl, Bool, true, false, ◌⊎◌, ◌↔◌, List, [], ◌∷◌, length, get_or, drop, set, replicate}
 use Rattle.std.proofs.Common.{sym, ap, subst, ◌∙◌, inl, inr, arith}
-use Rattle.lists.specs.OrderLaws.{same_truth, not_both}
-use Rattle.lists.specs.EachLaws.{drop_here, drop_all}
-use Rattle.lists.specs.MarksLaws.{has_none, marks_none, marks_one, marks_same}
+use Rattle.lists.proofs.OrderLaws.{same_truth, not_both}
+use Rattle.lists.proofs.EachLaws.{drop_here, drop_all}
+use Rattle.lists.proofs.MarksLaws.{has_none, marks_none, marks_one, marks_same}
 use Rattle.lists.specs.Marks.{Has, Marks, Iterations}
 use Rattle.automaton.specs.Automaton.{Automaton, Spells, Accepts}
 use Rattle.automaton.specs.Proper.{Proper}
 use Rattle.automaton.specs.Accepted.{accepts}
-use Rattle.automaton.specs.AcceptedLaws.{accepts_decides, spells_letter, letter_spells}
+use Rattle.automaton.proofs.AcceptedLaws.{accepts_decides, spells_letter, letter_spells}
 use Rattle.automaton.specs.Form.{letters_of, label_of, follow_of, view}
 use Rattle.automaton.specs.Valid.{Valid}
-use Rattle.automaton.specs.ValidLaws.{follow_arc, arc_follow, first_letter, follow_source}
+use Rattle.automaton.proofs.ValidLaws.{follow_arc, arc_follow, first_letter, follow_source}
 use Rattle.form_starts.specs.Starts.{StartsAt}
 use Rattle.form_starts.specs.Loops.{range_source, source_range}
 use Rattle.form_sets.specs.Sets.{Enters, Advanced, EndsIn, no_letter, Labelled, Begun, Reached}

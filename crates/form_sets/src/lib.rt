@@ -1,5 +1,6 @@
 // Sets of letters, with 0 for 'no letter yet': the set after one more label, and whether a word may end there.
 #![tactic(auto)]
+
 ghost use Rattle.std.specs.Prelude.{◌≡◌, ◌↔◌, true, ◌+◌, ◌<◌, ◌≤◌, length};
 ghost use Rattle.lists.specs.Marks.{Marks, Iterations};
 ghost use Rattle.automaton.specs.Form.{letters_of, view};

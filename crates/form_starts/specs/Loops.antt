@@ -1,7 +1,7 @@
 -- What one iteration of each loop of this crate shows of the starts; and that a letter's arcs are those from its start up to the next.
 use Rattle.std.specs.Prelude.{ℕ, ◌+◌, ◌<◌, ◌≤◌, ◌≡◌, ◌⊎◌, List, length, get_or, set}
 use Rattle.std.proofs.Common.{sym, subst, inl, inr, arith, get_or-set_same, get_or-set_other}
-use Rattle.lists.specs.OrderLaws.{lt_or_le, eq_or_ne}
+use Rattle.lists.proofs.OrderLaws.{lt_or_le, eq_or_ne}
 use Rattle.automaton.specs.Form.{letters_of, source}
 use Rattle.automaton.specs.WordsLaws.{Arc}
 use Rattle.automaton.specs.Valid.{Valid}

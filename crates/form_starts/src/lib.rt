@@ -1,5 +1,6 @@
 // Where each letter's arcs start: arcs are in the order of their sources.
 #![tactic(auto)]
+
 ghost use Rattle.std.specs.Prelude.{◌≤◌, length};
 ghost use Rattle.automaton.specs.Valid.{Valid};
 ghost use Rattle.form_starts.specs.Starts.{Skipped, ArcStarts};

@@ -1,5 +1,6 @@
 // The words of a compiled form (document 01, "Opening and the compiled form"): their fields, and what they say of its automaton.
 #![tactic(auto)]
+
 ghost use Rattle.std.specs.Prelude.{◌≡◌, ◌<◌, ◌≤◌, length, get_or};
 ghost use Rattle.automaton.specs.Form.{source as source_of, target as target_of, letters_of, alphabet_of, label_of, follow_of, ends_of};
 

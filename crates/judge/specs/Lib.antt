@@ -1,3 +1,1 @@
 pub mod Judge
-pub mod JudgeLaws
-pub mod Examples

@@ -1,5 +1,6 @@
 // The call Judge: does a form accept a word (document 01, "Opening and the compiled form")?
 #![tactic(auto)]
+
 ghost use Rattle.std.specs.Prelude.{◌≡◌, true};
 ghost use Rattle.answers.specs.Judgement.{report, reported};
 ghost use Rattle.automaton.specs.Form.{valid_form, view};

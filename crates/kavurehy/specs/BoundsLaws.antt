@@ -9,39 +9,39 @@ use native.Mathlib.Omega.{arith}
 use Rattle.std.proofs.lemmas.List.{length-map}
 use Rattle.lists.specs.Lists.{in_range, keep, numbers}
 use Rattle.lists.specs.Each.{all}
-use Rattle.lists.specs.OrderLaws.{or_neither}
-use Rattle.lists.specs.AmongLaws.{keep_shorter, flat_length}
-use Rattle.lists.specs.AscendingLaws.{length_numbers}
+use Rattle.lists.proofs.OrderLaws.{or_neither}
+use Rattle.lists.proofs.AmongLaws.{keep_shorter, flat_length}
+use Rattle.lists.proofs.AscendingLaws.{length_numbers}
 use Rattle.refusal.specs.declared.Refusal.{Refusal}
 use Rattle.refusal.specs.declared.Refusal.TheVariants.{BadForm, OutputMemory, Label}
 use Rattle.refusal.specs.declared.Checked.{Checked}
 use Rattle.refusal.specs.declared.Checked.TheVariants.{Passed, Refused}
 use Rattle.refusal.specs.Verdict.{Verdict, passed, refused, check, unless, first_refusal}
-use Rattle.refusal.specs.VerdictLaws.{first_passed}
+use Rattle.refusal.proofs.VerdictLaws.{first_passed}
 use Rattle.refusal.specs.Checks.{Checks}
 use Rattle.refusal.specs.Report.{Report, turned_away}
 use Rattle.refusal.specs.Fills.{report, Fills}
 use Rattle.ctc.specs.Collapse.{collapse}
-use Rattle.ctc.specs.CollapseLaws.{collapse_shorter}
+use Rattle.ctc.proofs.CollapseLaws.{collapse_shorter}
 use Rattle.ctc.specs.Spread.{spread}
-use Rattle.ctc.specs.SpreadLaws.{spread_length}
+use Rattle.ctc.proofs.SpreadLaws.{spread_length}
 use Rattle.ctc_labels.specs.Calls.{label_fault}
 use Rattle.ctc_collapse.specs.Calls.{collapse_call}
 use Rattle.ctc_spread.specs.Calls.{spread_call}
-use Rattle.ctc_spread.specs.Loops.{few_pairs_in}
+use Rattle.ctc_spread.proofs.Loops.{few_pairs_in}
 use Rattle.automaton.specs.Automaton.{Accepts}
 use Rattle.automaton.specs.Form.{valid_form, view, letters_of, alphabet_of, arc_word, letter_of, arcs_from, encode}
-use Rattle.automaton.specs.ValidLaws.{valid_parts}
-use Rattle.automaton.specs.EncodeLaws.{encode_view}
+use Rattle.automaton.proofs.ValidLaws.{valid_parts}
+use Rattle.automaton.proofs.EncodeLaws.{encode_view}
 use Rattle.matrix.specs.Matrix.{Matrix}
 use Rattle.outcome.specs.Outcome.{Outcome}
 use Rattle.regex_tree.specs.Grammar.{WordsOf}
 use Rattle.compile.specs.Call.{compile_call}
-use Rattle.compile.specs.Meaning.{compiled_means}
+use Rattle.compile.proofs.Meaning.{compiled_means}
 use Rattle.compile_list.specs.Call.{compile_list_call}
-use Rattle.compile_list.specs.Meaning.{list_means}
+use Rattle.compile_list.proofs.Meaning.{list_means}
 use Rattle.decode_checks.specs.Checks.{needed, matrix_checks, decode_checks}
-use Rattle.decode_checks.specs.PassingLaws.{fits}
+use Rattle.decode_checks.proofs.PassingLaws.{fits}
 use Rattle.decode_valid.specs.Answers.{labels, Answers, outcome_report}
 use Rattle.decode_valid.specs.Lent.{Lent, rooms}
 use Rattle.decode.specs.Promise.{Decodes}

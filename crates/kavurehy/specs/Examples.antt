@@ -12,23 +12,23 @@ use Rattle.refusal.specs.Fills.{filling}
 use Rattle.ctc.specs.Collapse.{merge, without_blanks, collapse}
 use Rattle.automaton.specs.Automaton.{Accepts}
 use Rattle.automaton.specs.Form.{ordered, valid_form, view, follow_of, ends_of}
-use Rattle.automaton.specs.ValidLaws.{view_proper}
+use Rattle.automaton.proofs.ValidLaws.{view_proper}
 use Rattle.automaton.specs.Accepted.{spells, accepts}
-use Rattle.automaton.specs.AcceptedLaws.{accepts_decides}
+use Rattle.automaton.proofs.AcceptedLaws.{accepts_decides}
 use Rattle.matrix.specs.Matrix.{Matrix, matrix}
 use Rattle.outcome.specs.Outcome.{Outcome}
-use Rattle.outcome.specs.OutcomeLaws.{outcome_same, outcome_unique}
-use Rattle.outcome.specs.ChoiceLaws.{not_after, preferred, better}
-use Rattle.outcome.specs.Exhaustive.{over, exhaustive, usable, decided, decided_outcome}
+use Rattle.outcome.proofs.OutcomeLaws.{outcome_same, outcome_unique}
+use Rattle.outcome.proofs.ChoiceLaws.{not_after, preferred, better}
+use Rattle.outcome.proofs.Exhaustive.{over, exhaustive, usable, decided, decided_outcome}
 use Rattle.text.specs.Bytes.{bytes}
 use Rattle.regex_tree.specs.Grammar.{WordsOf}
 use Rattle.compile.specs.Call.{compile_call}
-use Rattle.compile.specs.Meaning.{compiled_means}
+use Rattle.compile.proofs.Meaning.{compiled_means}
 use Rattle.decode_valid.specs.Answers.{outcome_report, path_of, word_of, labels}
 use Rattle.decode_valid.specs.Lent.{Lent}
 use Rattle.alphabet.specs.Labels.{characters}
 use Rattle.judge.specs.Judge.{judged}
-use Rattle.read.specs.Cases.{cases, cases_stated}
+use Rattle.read.proofs.Cases.{cases, cases_stated}
 use Rattle.comparison.specs.Comparison.{Comparison}
 use Rattle.comparison.specs.Promise.{difference_report}
 use Rattle.kavurehy.specs.Handed.{FillsCounted, FillsPlain, Judges, DecodesCounted, ReadsCounted, ComparesHanded}

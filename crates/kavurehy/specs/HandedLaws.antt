@@ -7,7 +7,7 @@ use Rattle.refusal.specs.Fills.{Fills}
 use Rattle.export_counts.specs.Handed.{length_alone, Hands}
 use Rattle.matrix.specs.Matrix.{Matrix}
 use Rattle.comparison.specs.Comparison.{Comparison}
-use Rattle.comparison.specs.ExchangeLaws.{exchange}
+use Rattle.comparison.proofs.ExchangeLaws.{exchange}
 use Rattle.kavurehy.specs.Handed.{FillsCounted, FillsPlain, ComparesHanded}
 
 module _ {verdict : Verdict (List ℕ)} {answer : Report} {before after : List ℕ} (fills : Fills verdict answer before after) where

@@ -1,6 +1,7 @@
 // The calls exported for C and Rust, and nothing else. A list is passed as a pointer and a length; each call returns 0 or the number of
 // the refusal, and hands its counts back through an array, zeros at a refusal.
 #![tactic(auto)]
+
 ghost use Rattle.std.specs.Prelude.{length};
 ghost use Rattle.ctc_collapse.specs.Calls.{collapse_call};
 ghost use Rattle.ctc_spread.specs.Calls.{spread_call};

@@ -1,5 +1,6 @@
 // The matrix as one thing: a view of lent costs with their column width and their number of columns.
 #![tactic(auto)]
+
 ghost use Rattle.std.specs.Prelude.{◌≡◌};
 ghost use Rattle.matrix.specs.Matrix.{matrix};
 ghost use Rattle.matrix.specs.View.{value};

@@ -3,7 +3,7 @@ use Rattle.std.specs.Prelude.{ℕ, zero, suc, ◌-◌, ◌^◌, ◌<◌, ◌≤�
 use Rattle.std.proofs.Common.{sym, subst, inl, inr, arith, SFits, lt-ltb, le-ltb}
 use Rattle.std.proofs.Math.IntN.{sub_ℕ}
 use Rattle.std.specs.Int.{w32}
-use Rattle.lists.specs.OrderLaws.{lt_or_le}
+use Rattle.lists.proofs.OrderLaws.{lt_or_le}
 
 -- no further than the greater of the two
 pub difference_bound : (a b n : ℕ) → a ≤ n → b ≤ n → nat_abs (pos a -ℤ pos b) ≤ n

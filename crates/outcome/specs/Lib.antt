@@ -1,11 +1,4 @@
 pub mod Best
-pub mod BestLaws
 pub mod Order
-pub mod OrderLaws
 pub mod Outcome
 pub mod Plain
-pub mod OutcomeLaws
-pub mod ChoiceLaws
-pub mod Exhaustive
-pub mod ColumnsLaws
-pub mod Examples

@@ -1,14 +1,4 @@
 pub mod Opened
 pub mod OpenedWords
-pub mod Opening
-pub mod LettersLaws
 pub mod Numbered
-pub mod InsideLaws
-pub mod WalksLaws
-pub mod Exact
-pub mod EquationsLaws
 pub mod Compiled
-pub mod CompiledLaws
-pub mod Examples
-pub mod MarkedLaws
-pub mod FirstLast

@@ -5,14 +5,14 @@ use Rattle.std.proofs.Math.Path.{ap}
 use Rattle.std.proofs.Common.{◌∙◌, inl, inr, arith}
 use Prim.Native.Char.{code}
 use Rattle.std.proofs.Math.ListN.{length}
-use Rattle.lists.specs.OrderLaws.{eq_or_ne, true_or_false}
+use Rattle.lists.proofs.OrderLaws.{eq_or_ne, true_or_false}
 use Rattle.regex_tree.specs.Tree.{Tree, join, either}
 use Rattle.regex_tree.specs.Parsing.{Parsing}
 use Rattle.regex_tree.specs.Letters.{copies_of}
-use Rattle.regex_tree.specs.SenseLaws.{copies_some}
+use Rattle.regex_tree.proofs.SenseLaws.{copies_some}
 use Rattle.regex_tree.specs.Parse.{m_alternation, m_branch, m_piece, m_group, ends, parse}
 use Rattle.positions.specs.Opened.{opened, repeated, labels}
-use Rattle.positions.specs.EquationsLaws.{letters_joining, letters_alternation}
+use Rattle.positions.proofs.EquationsLaws.{letters_joining, letters_alternation}
 use Rattle.text.specs.Places.{place}
 use Rattle.positions_parts.specs.Together.{Chosen, Joined}
 use Rattle.positions_parts.specs.declared.Built.{Built}

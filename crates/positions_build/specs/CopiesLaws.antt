@@ -5,13 +5,13 @@ use Rattle.std.specs.Prelude.{◌≡◌, refl, ◌⊎◌, Bool, true, false, leb
 use Rattle.std.proofs.Common.{sym, ◌∙◌, inl, inr, append-nil, le-leb}
 use native.Mathlib.Omega.{arith}
 use Rattle.std.proofs.lemmas.Bool.{lt-leb}
-use Rattle.lists.specs.OrderLaws.{lt_or_le}
+use Rattle.lists.proofs.OrderLaws.{lt_or_le}
 use Rattle.regex_tree.specs.Tree.{Count, between, onward}
 use Rattle.regex_tree.specs.Letters.{copies_of}
-use Rattle.regex_tree.specs.OwnCountsLaws.{InRange}
+use Rattle.regex_tree.proofs.OwnCountsLaws.{InRange}
 use Rattle.positions.specs.Opened.{Opened, joining, optional, plus, star, empty, labels, repeated}
 use Rattle.positions.specs.Numbered.{numbered}
-use Rattle.positions.specs.EquationsLaws.{Same, between_none, between_needed, between_spare, onward_more, onward_one, onward_none, joined_empty}
+use Rattle.positions.proofs.EquationsLaws.{Same, between_none, between_needed, between_spare, onward_more, onward_one, onward_none, joined_empty}
 use Rattle.positions_letters.specs.Copies.{least_of, is_onward}
 use Rattle.positions_build.specs.Places.{fewer}
 

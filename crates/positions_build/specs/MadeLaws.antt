@@ -7,12 +7,12 @@ use Rattle.regex_tree.specs.Parsing.{Parsing, found, fault, then}
 use Rattle.text.specs.Text.{next, rest}
 use Rattle.text.specs.Places.{place}
 use Rattle.regex_tree.specs.Parse.{Mode, m_alternation, m_branch, m_piece, ends, step, parse}
-use Rattle.regex_tree.specs.SaysLaws.{of_found}
-use Rattle.regex_tree.specs.SenseLaws.{Sensible, sensible}
-use Rattle.regex_tree.specs.FrontLaws.{Front, Stop}
-use Rattle.regex_tree.specs.Sound.{parse_sound}
-use Rattle.regex_tree.specs.StepsLaws.{parse_step, parse_forward}
-use Rattle.text.specs.TextLaws.{beyond, next_at, rest_at}
+use Rattle.regex_tree.proofs.SaysLaws.{of_found}
+use Rattle.regex_tree.proofs.SenseLaws.{Sensible, sensible}
+use Rattle.regex_tree.proofs.FrontLaws.{Front, Stop}
+use Rattle.regex_tree.proofs.Sound.{parse_sound}
+use Rattle.regex_tree.proofs.StepsLaws.{parse_step, parse_forward}
+use Rattle.text.proofs.TextLaws.{beyond, next_at, rest_at}
 use Rattle.regex_bracket.specs.Answers.{is_found}
 use Rattle.positions_letters.specs.Found.{rest_of, tree_of}
 use Rattle.positions_letters.specs.FoundLaws.{not_found, then_first, then_is}

@@ -5,12 +5,12 @@ use Rattle.std.proofs.Math.Path.{sym, ap}
 use Rattle.std.proofs.Common.{subst, ◌∙◌, inl, inr, arith}
 use Rattle.std.proofs.Math.Bool.{false}
 use Prim.Native.Char.{code}
-use Rattle.lists.specs.OrderLaws.{lt_or_le}
+use Rattle.lists.proofs.OrderLaws.{lt_or_le}
 use Rattle.regex_tree.specs.Letters.{copies_of}
 use Rattle.regex_tree.specs.Parse.{m_alternation, m_piece, m_group, parse}
 use Rattle.positions.specs.Opened.{Opened, joining, opened, labels, labels_of_set, any_of}
-use Rattle.positions.specs.EquationsLaws.{letters_joining}
-use Rattle.positions.specs.LettersLaws.{any_of_labels}
+use Rattle.positions.proofs.EquationsLaws.{letters_joining}
+use Rattle.positions.proofs.LettersLaws.{any_of_labels}
 use Rattle.text.specs.Places.{place}
 use Rattle.regex_bracket.specs.Answers.{is_found}
 use Rattle.regex_set.specs.Answers.{SetAt, set_at}

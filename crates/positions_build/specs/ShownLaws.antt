@@ -5,12 +5,12 @@ use Rattle.std.proofs.Common.{ap, subst, ◌∙◌, arith}
 use Rattle.std.proofs.Math.Path.{ap₂}
 use Rattle.std.proofs.Math.Bool.{true, false, ◌&&◌, ◌||◌, or_assoc, or-false}
 use Rattle.std.proofs.Math.ListN.{length}
-use Rattle.lists.specs.WrittenLaws.{stored_then, stored_size}
+use Rattle.lists.proofs.WrittenLaws.{stored_then, stored_size}
 use Rattle.lists.specs.Stored.{Stored}
 use Rattle.positions_follow.specs.Sets.{member, arc, Linked}
 use Rattle.positions.specs.Opened.{Opened, joining, alternation, labels}
 use Rattle.positions.specs.Numbered.{Positions, joint, choice, again, numbered}
-use Rattle.positions.specs.EquationsLaws.{Same}
+use Rattle.positions.proofs.EquationsLaws.{Same}
 use Rattle.positions_parts.specs.Together.{United, Chosen, Joined, Looped, Spared}
 use Rattle.positions_parts.specs.declared.Built.{Built}
 use Rattle.positions_letters.specs.Shows.{Shows, Builds}

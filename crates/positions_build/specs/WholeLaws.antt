@@ -5,14 +5,14 @@ use Rattle.std.proofs.Math.Path.{refl, sym, ap}
 use Rattle.std.proofs.Common.{◌∙◌}
 use mathlib.Core.List.{List, [], ◌∷◌}
 use native.Mathlib.Omega.{arith}
-use Rattle.lists.specs.WrittenLaws.{stored_at}
+use Rattle.lists.proofs.WrittenLaws.{stored_at}
 use Rattle.positions_follow.specs.Sets.{member, arc}
 use Rattle.regex_tree.specs.Tree.{only, Tree, set}
 use Rattle.regex_tree.specs.Letters.{letter_count}
 use Rattle.regex_tree.specs.Parse.{m_alternation, parse, whole, expression_of}
 use Rattle.positions.specs.Opened.{Opened, labels}
 use Rattle.positions.specs.Numbered.{numbered, position_automaton}
-use Rattle.positions.specs.LettersLaws.{opened_letters}
+use Rattle.positions.proofs.LettersLaws.{opened_letters}
 use Rattle.text.specs.Places.{place}
 use Rattle.automaton.specs.Arrays.{has, Tells}
 use Rattle.regex_bracket.specs.Answers.{is_found}

@@ -2,6 +2,7 @@
 // the letters that may follow it, and whether it may be first and last. Letter i is at index i - 1. Each call among alternation, branch,
 // piece and group is further on in the text, or asks for a smaller part or the next copy at the same place.
 #![tactic(auto)]
+
 ghost use Rattle.std.specs.Prelude.{◌<◌};
 ghost use Rattle.regex_tree.specs.Letters.{copies_of};
 ghost use Rattle.regex_tree.specs.Parse.{m_alternation, m_branch, m_piece, m_group};

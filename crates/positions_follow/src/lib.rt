@@ -1,5 +1,6 @@
 // Sets of letters as arrays of bools, and the follow relation as an array of such sets, one for each letter. Letter i is at index i - 1.
 #![tactic(auto)]
+
 ghost use Rattle.std.specs.Prelude.{◌≤◌, length};
 ghost use Rattle.positions_follow.specs.Sets.{Union, Linked};
 

@@ -4,7 +4,7 @@ use Rattle.positions_follow.specs.Sets.{member}
 use Rattle.regex_tree.specs.Tree.{Set}
 use Rattle.regex_tree.specs.Sets.{a_set}
 use Rattle.positions.specs.Opened.{labels_of_set, any_of}
-use Rattle.positions.specs.EquationsLaws.{alone}
+use Rattle.positions.proofs.EquationsLaws.{alone}
 use Rattle.text.specs.Places.{place}
 use Rattle.regex_set.specs.Answers.{set_at}
 use Rattle.positions_parts.specs.declared.Built.{Built}

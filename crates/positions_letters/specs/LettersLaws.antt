@@ -5,16 +5,16 @@ use Rattle.std.proofs.Common.{sym, ◌∙◌, inl, inr, arith, get_or-set_same, 
 use Rattle.std.proofs.Math.Bool.{true, false, or-false, and-false}
 use mathlib.Core.List.{List, [], ◌++◌}
 use Rattle.std.proofs.lemmas.Bool.{lt-leb}
-use Rattle.lists.specs.OrderLaws.{lt_or_le, eq_or_ne}
+use Rattle.lists.proofs.OrderLaws.{lt_or_le, eq_or_ne}
 use Rattle.lists.specs.Lists.{keep, keeping, numbers}
-use Rattle.lists.specs.AscendingLaws.{numbers_here, numbers_past}
+use Rattle.lists.proofs.AscendingLaws.{numbers_here, numbers_past}
 use Rattle.lists.specs.Stored.{Stored}
 use Rattle.positions_follow.specs.Sets.{member, arc}
 use Rattle.alphabet.specs.Labels.{character}
 use Rattle.regex_tree.specs.Tree.{Set, member as member_of}
 use Rattle.positions.specs.Opened.{labels_of_set, any_of}
-use Rattle.positions.specs.EquationsLaws.{alone, numbered_any_of}
-use Rattle.positions.specs.LettersLaws.{any_of_labels}
+use Rattle.positions.proofs.EquationsLaws.{alone, numbered_any_of}
+use Rattle.positions.proofs.LettersLaws.{any_of_labels}
 use Rattle.positions_letters.specs.Shows.{Builds}
 use Rattle.positions_letters.specs.Letters.{Ranged}
 

@@ -8,7 +8,7 @@ use Rattle.regex_tree.specs.Letters.{copies_of}
 use Rattle.regex_tree.specs.Repetition.{repeats, repetition}
 use Rattle.regex_bracket.specs.declared.End.TheVariants as end
 use Rattle.regex_repetition.specs.declared.Repeats.TheVariants as count
-use Rattle.text.specs.TextLaws.{place_drop}
+use Rattle.text.proofs.TextLaws.{place_drop}
 use Rattle.text.specs.Places.{place}
 use Rattle.regex_bracket.specs.Answers.{is_found, end_of}
 use Rattle.regex_repetition.specs.Answers.{repeats_of}

@@ -1,6 +1,7 @@
 // A set or a repetition at a place of the text, for the builder: a set as letters, one for each of its labels, a repetition as copies.
 // Letter i is at index i - 1.
 #![tactic(auto)]
+
 ghost use Rattle.std.specs.Prelude.{◌≡◌, true, [], ◌+◌, ◌<◌, ◌≤◌, length, drop};
 ghost use Rattle.lists.specs.Stored.{Stored};
 ghost use Rattle.lists.specs.Lists.{keeping};

@@ -1,6 +1,7 @@
 // Puts parts of an automaton together: unites sets of letters and adds arcs (document 01, "Opening and the compiled form"). Letter i is at
 // index i - 1.
 #![tactic(auto)]
+
 ghost use Rattle.std.specs.Prelude.{◌≡◌, ◌&&◌, ◌≤◌, length};
 ghost use Rattle.positions_parts.specs.Together.{United, Chosen, Joined, Looped, Spared, Ended};
 

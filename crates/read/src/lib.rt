@@ -1,6 +1,7 @@
 // Read: from an alphabet, the text of an expression and a matrix of costs to the cheapest path whose collapse is a word of the expression,
 // with the word as characters (demand 3).
 #![tactic(auto)]
+
 ghost use Rattle.answers.specs.Reading.{reported};
 ghost use Rattle.matrix.specs.View.{value};
 ghost use Rattle.matrix.specs.Matrix.{matrix};
@@ -25,7 +26,7 @@ use read_text::read_parts;
 // After refusals 12 to 16 too, `form` begins with the compiled form. Success and refusal 16 may change (T + 1) × (2L + 1) words of `work`.
 // Memory after these, and after what is written, is as it was.
 //
-// `Reads` is this promise (read_text, specs/Promise.antt), by the words over labels; specs/Demands.antt has what it means for a caller, as
+// `Reads` is this promise (read_text, specs/Promise.antt), by the words over labels; proofs/Demands.antt has what it means for a caller, as
 // theorems, with rivals as document 01 has them and words over characters. Nothing in it speaks of states. Demand 3 in `Reads`, clause by clause:
 // - the cheapest rival: the field `is` of `Answers`, an `Outcome` for the words of the text; where it is a path, `Best` says of it
 //   `qualifies` (a rival: one label for each column, none of them barred, its collapse a word) and `least`;

@@ -2,9 +2,9 @@
 use Rattle.std.specs.Prelude.{ℕ, ◌+◌, ◌≤◌, ◌<◌, ◌≡◌, List, ◌∷◌, length, get_or, take, drop, set}
 use Rattle.std.proofs.Common.{ap, ◌∙◌, arith, get_or-take, length-take-le}
 use Rattle.std.proofs.lemmas.List.{length-map}
-use Rattle.lists.specs.EachLaws.{each_at, drop_here, drop_all}
-use Rattle.lists.specs.WrittenLaws.{written_beyond}
-use Rattle.lists.specs.FillingLoops.{Filling, filling_none, filling_more, filling_all, filling_length}
+use Rattle.lists.proofs.EachLaws.{each_at, drop_here, drop_all}
+use Rattle.lists.proofs.WrittenLaws.{written_beyond}
+use Rattle.lists.proofs.FillingLoops.{Filling, filling_none, filling_more, filling_all, filling_length}
 use Rattle.alphabet.specs.Labels.{Label, character, characters}
 use Rattle.read_spelling.specs.InPlace.{Labels, Spelt}
 

@@ -1,5 +1,6 @@
 // A word's labels as characters of the alphabet, written in place of the labels (demand 3).
 #![tactic(auto)]
+
 ghost use Rattle.read_spelling.specs.InPlace.{Labels, Spelt};
 
 use numbers::wide;

@@ -1,12 +1,12 @@
 -- Laws: from the answer by the words of a compiled form to what Read promises by the words of the text.
 use Rattle.std.specs.Prelude.{ℕ, ◌≤◌, ◌≡◌, refl, List, length, take}
 use Rattle.std.proofs.Common.{sym, ap, ◌∙◌, arith}
-use Rattle.lists.specs.WrittenLaws.{take_written, written_fits}
+use Rattle.lists.proofs.WrittenLaws.{take_written, written_fits}
 use Rattle.lists.specs.Memory.{written}
 use Rattle.refusal.specs.declared.Refusal.{Refusal}
 use Rattle.refusal.specs.declared.Checked.{Checked}
 use Rattle.refusal.specs.declared.Checked.TheVariants.{Passed, Refused}
-use Rattle.refusal.specs.NumberLaws.{number_between}
+use Rattle.refusal.proofs.NumberLaws.{number_between}
 use Rattle.refusal.specs.Verdict.{Verdict, passed, refused, first_refusal}
 use Rattle.refusal.specs.Checks.{Checks}
 use Rattle.refusal.specs.Report.{Report, turned_away}
@@ -14,14 +14,14 @@ use Rattle.refusal.specs.Fills.{counted, report, filling, Fills}
 use Rattle.automaton.specs.Automaton.{Accepts}
 use Rattle.automaton.specs.Form.{view, letters_of}
 use Rattle.matrix.specs.Matrix.{Matrix}
-use Rattle.outcome.specs.OutcomeLaws.{outcome_same}
+use Rattle.outcome.proofs.OutcomeLaws.{outcome_same}
 use Rattle.regex_tree.specs.Grammar.{WordsOf}
 use Rattle.compile.specs.Call.{compile_call}
-use Rattle.compile.specs.Meaning.{compiled_means}
+use Rattle.compile.proofs.Meaning.{compiled_means}
 use Rattle.compile.specs.Means.{Means}
 use Rattle.decode_checks.specs.Checks.{needed, matrix_checks}
 use Rattle.decode_valid.specs.Answers.{Answers}
-use Rattle.decode_valid.specs.AnswersLaws.{answers_same}
+use Rattle.decode_valid.proofs.AnswersLaws.{answers_same}
 use Rattle.decode_valid.specs.Lent.{Lent, rooms}
 use Rattle.alphabet.specs.Labels.{characters}
 use Rattle.read_valid.specs.Accepted.{ReadsAccepted}

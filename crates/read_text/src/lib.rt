@@ -1,5 +1,6 @@
 // The work of Read, for a matrix by its parts: Compile, the checks, and the best path by the compiled form (demand 3).
 #![tactic(auto)]
+
 ghost use Rattle.std.specs.Prelude.{◌≡◌, length};
 ghost use Rattle.answers.specs.Reading.{reported};
 ghost use Rattle.automaton.specs.Form.{alphabet_of};

@@ -3,20 +3,20 @@ use Rattle.std.specs.Prelude.{ℕ, ◌+◌, ◌≤◌, ◌≡◌, List, length, 
 use Rattle.std.proofs.Common.{ap, ap₂, ◌∙◌, arith}
 use Rattle.std.proofs.Math.Option.{Option, some, none}
 use Rattle.std.proofs.lemmas.List.{length-map}
-use Rattle.lists.specs.WrittenLaws.{length_written, written_over, take_written}
+use Rattle.lists.proofs.WrittenLaws.{length_written, written_over, take_written}
 use Rattle.lists.specs.Memory.{written}
 use Rattle.refusal.specs.declared.Refusal.{Refusal}
-use Rattle.refusal.specs.NumberLaws.{number_between}
+use Rattle.refusal.proofs.NumberLaws.{number_between}
 use Rattle.refusal.specs.Report.{Report, turned_away}
 use Rattle.answers.specs.Decoded.{read}
 use Rattle.ctc.specs.Collapse.{collapse}
-use Rattle.ctc.specs.CollapseLaws.{collapse_shorter}
+use Rattle.ctc.proofs.CollapseLaws.{collapse_shorter}
 use Rattle.alphabet.specs.Labels.{character, characters}
 use Rattle.automaton.specs.Automaton.{Accepts}
 use Rattle.automaton.specs.Form.{view}
 use Rattle.matrix.specs.Matrix.{Matrix, price}
 use Rattle.outcome.specs.Outcome.{Best, Outcome}
-use Rattle.outcome.specs.OutcomeLaws.{collapse_labels}
+use Rattle.outcome.proofs.OutcomeLaws.{collapse_labels}
 use Rattle.decode_valid.specs.Answers.{outcome_report, path_of, word_of, labels, DecodeAnswers}
 use Rattle.decode_valid.specs.Lent.{Lent}
 use Rattle.read_spelling.specs.InPlace.{Labels, Spelt}

@@ -1,5 +1,6 @@
 // Read of an input that passes its checks (demand 3).
 #![tactic(auto)]
+
 ghost use Rattle.std.specs.Prelude.{◌≡◌, length};
 ghost use Rattle.answers.specs.Reading.{reported};
 ghost use Rattle.automaton.specs.Form.{alphabet_of, letters_of};

@@ -1,10 +1,5 @@
 pub mod Number
-pub mod NumberLaws
 pub mod Verdict
-pub mod VerdictLaws
 pub mod Checks
-pub mod ChecksLaws
 pub mod Report
 pub mod Fills
-pub mod ReportLaws
-pub mod Examples

@@ -10,11 +10,11 @@ use native.Mathlib.Omega.{arith}
 use Rattle.std.proofs.Math.ListN.{length}
 use Rattle.lists.specs.Cases.{provided}
 use Rattle.lists.specs.Options.{is_some, listed}
-use Rattle.lists.specs.OptionsLaws.{some_found, none_found}
-use Rattle.lists.specs.OrderLaws.{lt_or_le, not_both}
+use Rattle.lists.proofs.OptionsLaws.{some_found, none_found}
+use Rattle.lists.proofs.OrderLaws.{lt_or_le, not_both}
 use Rattle.refusal.specs.declared.Refusal.TheVariants as refusal
 use Rattle.text.specs.Text.{rest}
-use Rattle.text.specs.TextLaws.{next_at, rest_at, place_drop}
+use Rattle.text.proofs.TextLaws.{next_at, rest_at, place_drop}
 use Rattle.regex_tree.specs.Tree.{Range, Set, only, except, member, among}
 use Rattle.regex_tree.specs.Parsing.{Parsing, found, fault, then, enclosed}
 use Rattle.regex_tree.specs.Sets.{Sign, closed, sign_bytes, reserved, Item, items, members, ranges_of, known, inside, bracket}

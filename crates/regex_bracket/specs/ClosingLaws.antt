@@ -9,11 +9,11 @@ use Prim.Native.Char.{code}
 use Rattle.std.proofs.Math.ListN.{drop}
 use Rattle.std.proofs.Math.Seq.{take-append_seam}
 use Rattle.lists.specs.Cases.{provided}
-use Rattle.lists.specs.EachLaws.{drop_all}
+use Rattle.lists.proofs.EachLaws.{drop_all}
 use Rattle.lists.specs.Options.{is_some}
 use Rattle.text.specs.Text.{in_front}
 use Rattle.regex_tree.specs.Sets.{Sign, closes, closed, sign_bytes, reserved, members}
-use Rattle.regex_tree.specs.ClosedLaws.{Written, closed_written}
+use Rattle.regex_tree.proofs.ClosedLaws.{Written, closed_written}
 use Rattle.regex_signs.specs.Signs.{sign, sign_width, signs}
 use Rattle.regex_signs.specs.SignsLaws.{closed_at, step_at, sign_width_some}
 use Rattle.regex_items.specs.Items.{Closing, left}

@@ -1,5 +1,6 @@
 // The bracket at a place of a text (document 01, "Brackets"; document 02, T-01): where it ends, and whether a byte is a member.
 #![tactic(auto)]
+
 ghost use Rattle.std.specs.Prelude.{◌≡◌, true, ◌<◌, ◌≤◌, length, drop};
 ghost use Rattle.lists.specs.Options.{is_some};
 ghost use Rattle.regex_tree.specs.Sets.{closed};

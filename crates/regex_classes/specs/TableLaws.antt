@@ -6,11 +6,11 @@ use Rattle.std.proofs.Math.Option.{Option, some, none}
 use Rattle.std.proofs.lemmas.List.{length-map}
 use Rattle.std.proofs.Math.ListN.{get_or-map}
 use Rattle.lists.specs.Each.{all}
-use Rattle.lists.specs.EachLaws.{all_each, drop_here, drop_all}
-use Rattle.lists.specs.AmongLaws.{each_among}
-use Rattle.lists.specs.AscendingLaws.{among_numbers}
-use Rattle.lists.specs.OrderLaws.{and_left, and_right}
-use Rattle.lists.specs.SameLaws.{same_list_true, same_list_length, same_list_here, same_list_not, same_list_end}
+use Rattle.lists.proofs.EachLaws.{all_each, drop_here, drop_all}
+use Rattle.lists.proofs.AmongLaws.{each_among}
+use Rattle.lists.proofs.AscendingLaws.{among_numbers}
+use Rattle.lists.proofs.OrderLaws.{and_left, and_right}
+use Rattle.lists.proofs.SameLaws.{same_list_true, same_list_length, same_list_here, same_list_not, same_list_end}
 use Rattle.lists.specs.Lists.{same_list, numbers}
 use Rattle.regex_tree.specs.Tree.{Range, within, among}
 use Rattle.regex_tree.specs.Classes.{classes, look_up, class_ranges}

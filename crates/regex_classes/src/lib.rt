@@ -1,6 +1,7 @@
 // The classes of characters (document 02, T-01): whether a name is that of a class, and whether a byte is in the class of a name, from a
 // constant table.
 #![tactic(auto)]
+
 mod table;
 
 ghost use Rattle.std.specs.Prelude.{◌≡◌, true, ◌<◌};

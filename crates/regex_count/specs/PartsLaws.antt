@@ -2,7 +2,7 @@
 use Rattle.std.specs.Prelude.{◌≡◌, List, true, ℕ, ◌+◌, ◌≤◌, ◌<◌, length, get_or, drop}
 use Rattle.std.proofs.Common.{sym, ap, eq-eqb, ne_eqb}
 use Prim.Native.Char.{code}
-use Rattle.lists.specs.EachLaws.{drop_here, drop_all}
+use Rattle.lists.proofs.EachLaws.{drop_here, drop_all}
 use Rattle.refusal.specs.declared.Refusal.TheVariants as refusal
 use Rattle.text.specs.Bytes.{bytes}
 use Rattle.text.specs.Text.{one_of}

@@ -3,7 +3,7 @@ use Rattle.std.specs.Prelude.{◌≡◌, refl, ℕ, zero, suc, ◌*◌, ◌≤�
 use Rattle.std.proofs.Common.{ap, arith, mul-le-mul_right, mul-le-mul_left}
 use Rattle.regex_tree.specs.Tree.{onward}
 use Rattle.regex_tree.specs.Letters.{copies_of}
-use Rattle.regex_tree.specs.SenseLaws.{few_mul}
+use Rattle.regex_tree.proofs.SenseLaws.{few_mul}
 use Rattle.regex_tree.specs.Few.{few}
 
 pub few_times : (k n : ℕ) → few (k * few n) ≡ few (k * n)

@@ -1,6 +1,7 @@
 // The letters of a part of the text, counted up to 128: parts joined, repeated, in parentheses; and whether a branch ends, or a repetition
 // begins, at a place (document 01, "Expression text"). The text may have any bytes.
 #![tactic(auto)]
+
 ghost use Rattle.std.specs.Prelude.{◌≡◌, ◌+◌, ◌*◌, drop};
 ghost use Rattle.regex_tree.specs.Tree.{onward};
 ghost use Rattle.regex_tree.specs.Letters.{copies_of};

@@ -10,9 +10,9 @@ use native.Mathlib.Omega.{arith}
 use Rattle.std.proofs.Math.Dec.{eqb}
 use borrow.Author.Tests.{eqb-true, not-true, not-false}
 use Rattle.lists.specs.Cases.{provided}
-use Rattle.lists.specs.CasesLaws.{provided_none, provided_both, provided_true, provided_false}
+use Rattle.lists.proofs.CasesLaws.{provided_none, provided_both, provided_true, provided_false}
 use Rattle.lists.specs.Options.{is_some}
-use Rattle.lists.specs.OrderLaws.{and_left, and_right, not_both}
+use Rattle.lists.proofs.OrderLaws.{and_left, and_right, not_both}
 use Rattle.regex_tree.specs.Tree.{range}
 use Rattle.regex_tree.specs.Sets.{Sign, byte, class, closes, closed, ranged, classed, with, one, begins, is_hyphen, range_to, items}
 use Rattle.regex_signs.specs.Signs.{name, opens, sign, sign_width, signs}

@@ -4,12 +4,12 @@ use Rattle.std.proofs.Common.{sym, ◌∙◌, arith, drop-drop, eq-eqb, ne_eqb}
 use Rattle.std.proofs.Math.Path.{ap}
 use Rattle.std.proofs.Math.Option.{Option, some, none}
 use Rattle.lists.specs.Cases.{provided}
-use Rattle.lists.specs.CasesLaws.{provided_true, provided_false}
+use Rattle.lists.proofs.CasesLaws.{provided_true, provided_false}
 use Rattle.lists.specs.Options.{is_some, listed}
-use Rattle.lists.specs.OrderLaws.{and_right, not_both}
+use Rattle.lists.proofs.OrderLaws.{and_right, not_both}
 use Rattle.regex_tree.specs.Tree.{Range, among}
 use Rattle.regex_tree.specs.Sets.{closes, closed, Item, with, items, item_ranges, together, ranges_of}
-use Rattle.regex_tree.specs.RangesLaws.{together_known, together_among}
+use Rattle.regex_tree.proofs.RangesLaws.{together_known, together_among}
 use Rattle.regex_signs.specs.Signs.{signs}
 use Rattle.regex_signs.specs.SignsLaws.{closed_at, first_at, found_within}
 use Rattle.regex_items.specs.Items.{item, width, fits, Closing, left, resolved}

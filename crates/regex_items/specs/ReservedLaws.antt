@@ -4,10 +4,10 @@ use Rattle.std.proofs.Common.{sym, ◌∙◌, eq-eqb, ne_eqb}
 use Rattle.std.proofs.Math.Path.{ap}
 use Prim.Native.Char.{code}
 use Rattle.std.proofs.Math.Dec.{eqb}
-use Rattle.lists.specs.EachLaws.{drop_here, drop_all}
+use Rattle.lists.proofs.EachLaws.{drop_here, drop_all}
 use Rattle.text.specs.Bytes.{bytes}
 use Rattle.text.specs.Text.{one_of}
-use Rattle.text.specs.TextLaws.{next_of_at}
+use Rattle.text.proofs.TextLaws.{next_of_at}
 use Rattle.regex_tree.specs.Sets.{reserved}
 use Rattle.regex_items.specs.Items.{reserves}
 

@@ -1,6 +1,7 @@
 // The items inside a bracket (document 01, "Brackets"; document 02, T-01): whether they are well formed, whether each class among them has a
 // known name, and whether a byte is in one of them. The first sign inside is at `first` in the text.
 #![tactic(auto)]
+
 ghost use Rattle.std.specs.Prelude.{◌≡◌, true, ◌+◌, ◌<◌, length, get_or, drop, eqb};
 ghost use Rattle.lists.specs.Options.{is_some, listed};
 ghost use Rattle.regex_tree.specs.Tree.{among, range, within};

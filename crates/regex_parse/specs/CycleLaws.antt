@@ -14,14 +14,14 @@ use Rattle.regex_tree.specs.Parsing.{Parsing, found, fault, then}
 use Rattle.text.specs.Text.{next, rest}
 use Rattle.text.specs.Places.{place}
 use Rattle.regex_tree.specs.Letters.{copies_of, letter_count}
-use Rattle.regex_tree.specs.SenseLaws.{few_add}
+use Rattle.regex_tree.proofs.SenseLaws.{few_add}
 use Rattle.regex_tree.specs.Few.{few}
 use Rattle.regex_tree.specs.Repetition.{repeats, repetition}
 use Rattle.regex_tree.specs.Parse.{Mode, m_alternation, m_branch, m_piece, m_group, ends, grouped, step, parse}
-use Rattle.regex_tree.specs.StepsLaws.{parse_step}
+use Rattle.regex_tree.proofs.StepsLaws.{parse_step}
 use Rattle.regex_set.specs.declared.Part.{Part}
 use Rattle.regex_set.specs.declared.Part.TheVariants as part
-use Rattle.text.specs.TextLaws.{place_drop, next_at, rest_at, byte_is}
+use Rattle.text.proofs.TextLaws.{place_drop, next_at, rest_at, byte_is}
 use Rattle.regex_set.specs.Answers.{part_of, set_tree}
 use Rattle.regex_repetition.specs.Answers.{repeats_of}
 use Rattle.regex_count.specs.SumsLaws.{few_times}

@@ -2,7 +2,7 @@
 use Rattle.std.proofs.Math.Path.{◌≡◌, sym, ap}
 use Rattle.std.proofs.Common.{◌∙◌, arith}
 use Rattle.std.specs.Prelude.{List, ℕ, ◌≤◌, ◌<◌, length, drop}
-use Rattle.lists.specs.EachLaws.{drop_here, drop_all}
+use Rattle.lists.proofs.EachLaws.{drop_here, drop_all}
 use Rattle.refusal.specs.declared.Refusal.{Refusal}
 use Rattle.refusal.specs.declared.Refusal.TheVariants as refusal
 use Rattle.regex_tree.specs.Tree.{Tree}

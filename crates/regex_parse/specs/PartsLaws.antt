@@ -6,13 +6,13 @@ use Rattle.regex_tree.specs.Parsing.{Parsing, found, fault}
 use Rattle.regex_tree.specs.Letters.{letter_count}
 use Rattle.regex_tree.specs.Few.{few}
 use Rattle.regex_tree.specs.Parse.{Mode, parse}
-use Rattle.regex_tree.specs.SaysLaws.{of_found}
-use Rattle.regex_tree.specs.FrontLaws.{Front, Stop}
-use Rattle.regex_tree.specs.Sound.{parse_sound}
-use Rattle.regex_tree.specs.StepsLaws.{parse_forward}
+use Rattle.regex_tree.proofs.SaysLaws.{of_found}
+use Rattle.regex_tree.proofs.FrontLaws.{Front, Stop}
+use Rattle.regex_tree.proofs.Sound.{parse_sound}
+use Rattle.regex_tree.proofs.StepsLaws.{parse_forward}
 use Rattle.regex_set.specs.declared.Part.{Part}
 use Rattle.regex_set.specs.declared.Part.TheVariants as part
-use Rattle.text.specs.TextLaws.{beyond}
+use Rattle.text.proofs.TextLaws.{beyond}
 use Rattle.text.specs.Places.{place}
 use Rattle.regex_set.specs.Answers.{part_of}
 

@@ -2,6 +2,7 @@
 // into, counted up to 128. The text may have any bytes. Alternation, branch, piece and group call each other; each call has less text to
 // parse, or the same text and the next closer part.
 #![tactic(auto)]
+
 ghost use Rattle.std.specs.Prelude.{◌≡◌, drop};
 ghost use Rattle.regex_tree.specs.Parse.{parse, m_alternation, m_branch, m_piece, m_group};
 ghost use Rattle.regex_set.specs.Answers.{part_of};

@@ -8,8 +8,8 @@ use Prim.Native.Char.{code}
 use native.Mathlib.Omega.{arith}
 use Rattle.std.proofs.Math.ListN.{drop}
 use borrow.Author.Tests.{le-leb, lt-leb, leb-true}
-use Rattle.lists.specs.EachLaws.{drop_here, drop_all}
-use Rattle.lists.specs.OrderLaws.{and_right, and_both}
+use Rattle.lists.proofs.EachLaws.{drop_here, drop_all}
+use Rattle.lists.proofs.OrderLaws.{and_right, and_both}
 use Rattle.refusal.specs.declared.Refusal.TheVariants as refusal
 use Rattle.regex_tree.specs.Tree.{Count, between}
 use Rattle.text.specs.Text.{split}
@@ -17,7 +17,7 @@ use Rattle.text.specs.Places.{until}
 use Rattle.lists.specs.Cases.{provided}
 use Rattle.regex_tree.specs.Repetition.{number, from_on, from_to, comma, counts}
 use Rattle.text.specs.Digits.{digits, value}
-use Rattle.text.specs.TextLaws.{split_found, split_missing}
+use Rattle.text.proofs.TextLaws.{split_found, split_missing}
 use Rattle.regex_repetition.specs.declared.Repeats.TheVariants as repeats
 use Rattle.regex_repetition.specs.Answers.{number_or, ranged, counted}
 

@@ -8,8 +8,8 @@ use Prim.Native.Char.{code}
 use Rattle.std.proofs.Math.ListN.{length, drop}
 use Rattle.std.proofs.Math.Dec.{eqb}
 use borrow.Author.Tests.{eqb-true, eq-eqb, ne_eqb}
-use Rattle.lists.specs.EachLaws.{drop_here, drop_all}
-use Rattle.lists.specs.OrderLaws.{lt_or_le}
+use Rattle.lists.proofs.EachLaws.{drop_here, drop_all}
+use Rattle.lists.proofs.OrderLaws.{lt_or_le}
 use Rattle.refusal.specs.declared.Refusal.{Refusal}
 use Rattle.refusal.specs.declared.Refusal.TheVariants as refusal
 use Rattle.regex_tree.specs.Tree.{Count, between, onward}
@@ -18,11 +18,11 @@ use Rattle.text.specs.Text.{next, rest, split}
 use Rattle.text.specs.Places.{until, place}
 use Rattle.lists.specs.Cases.{first_of}
 use Rattle.regex_tree.specs.Repetition.{counts, sign, repetition}
-use Rattle.regex_tree.specs.SaysLaws.{Says, first_says, enclosed_says}
-use Rattle.text.specs.TextLaws.{split_found, split_missing, byte_within, next_at, rest_at, place_drop}
+use Rattle.regex_tree.proofs.SaysLaws.{Says, first_says, enclosed_says}
+use Rattle.text.proofs.TextLaws.{split_found, split_missing, byte_within, next_at, rest_at, place_drop}
 use Rattle.regex_repetition.specs.declared.Repeats.TheVariants as repeats
 use Rattle.regex_repetition.specs.Answers.{times, repeats_of, counted, braced, modified}
-use Rattle.lists.specs.CasesLaws.{fourth}
+use Rattle.lists.proofs.CasesLaws.{fourth}
 
 module _ (text : List ℕ) (at e : ℕ) (is : e ≡ at + 1 + until (code "}") (drop (at + 1) text)) (l : at < length text) where
   pub braces_unclosed : length text ≤ e → repeats.Refused refusal.Count ≡ braced text at

@@ -1,5 +1,6 @@
 // The repetition at a place of a text (document 01, "Repetitions"): how many words it joins, and where it ends.
 #![tactic(auto)]
+
 ghost use Rattle.std.specs.Prelude.{◌≡◌, ◌+◌, ◌<◌, length, drop};
 ghost use Rattle.regex_tree.specs.Repetition.{number as number_of, counts as counts_of, sign as sign_of, repetition as repetition_of};
 ghost use Rattle.regex_repetition.specs.Answers.{repeats_of, number_or, ranged, counted, braced, modified};

@@ -6,8 +6,8 @@ use Rattle.std.proofs.Math.Bool.{cond, or-false}
 use Prim.Native.Char.{code}
 use native.Mathlib.Omega.{arith}
 use Rattle.std.proofs.Math.ListN.{length}
-use Rattle.lists.specs.EachLaws.{drop_here, drop_all}
-use Rattle.lists.specs.OrderLaws.{lt_or_le, not_both, same_truth, and_left, and_right, and_both}
+use Rattle.lists.proofs.EachLaws.{drop_here, drop_all}
+use Rattle.lists.proofs.OrderLaws.{lt_or_le, not_both, same_truth, and_left, and_right, and_both}
 use Rattle.refusal.specs.declared.Refusal.{Refusal}
 use Rattle.refusal.specs.declared.Refusal.TheVariants as refusal
 use Rattle.regex_tree.specs.Tree.{Set, except, Tree, set, member}
@@ -16,9 +16,9 @@ use Rattle.lists.specs.Cases.{first_of}
 use Rattle.regex_tree.specs.Letters.{labels_of, letter_count}
 use Rattle.regex_tree.specs.Few.{few}
 use Rattle.regex_tree.specs.Sets.{special, alone, escaped, bracket, a_set, labelled_set}
-use Rattle.text.specs.TextLaws.{place_drop, byte_within}
+use Rattle.text.proofs.TextLaws.{place_drop, byte_within}
 use Rattle.text.specs.Places.{place}
-use Rattle.lists.specs.CasesLaws.{fourth}
+use Rattle.lists.proofs.CasesLaws.{fourth}
 use Rattle.regex_bracket.specs.declared.End.TheVariants as end
 use Rattle.regex_bracket.specs.Answers.{end_of, is_found, set_of, bracket_at}
 use Rattle.regex_set.specs.declared.Part.TheVariants as part

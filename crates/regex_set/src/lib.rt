@@ -1,6 +1,7 @@
 // The set at a place of an expression's text (document 01, "Expression text"): an ordinary character, `.` or a bracket. Each answer is that
 // of crate `regex`'s definition on the text from that place on. The text may have any bytes.
 #![tactic(auto)]
+
 ghost use Rattle.std.specs.Prelude.{◌≡◌, ◌+◌, ◌<◌, length, drop};
 ghost use Rattle.regex_tree.specs.Tree.{member as member_of};
 ghost use Rattle.regex_tree.specs.Letters.{labels_of};

@@ -8,13 +8,13 @@ use Prim.Native.Char.{code}
 use native.Mathlib.Omega.{arith}
 use Rattle.std.proofs.Math.ListN.{length}
 use Rattle.std.proofs.Math.Seq.{get_or-drop}
-use Rattle.lists.specs.EachLaws.{drop_here, drop_all}
-use Rattle.lists.specs.OrderLaws.{and_right, lt_or_le, not_both}
+use Rattle.lists.proofs.EachLaws.{drop_here, drop_all}
+use Rattle.lists.proofs.OrderLaws.{and_right, lt_or_le, not_both}
 use Rattle.lists.specs.Options.{is_some}
 use Rattle.text.specs.Text.{in_front}
-use Rattle.text.specs.TextLaws.{byte_is}
+use Rattle.text.proofs.TextLaws.{byte_is}
 use Rattle.regex_tree.specs.Sets.{Sign, byte, class, class_begins, class_ends, closes, closed, naming}
-use Rattle.regex_tree.specs.ClosedLaws.{closed_here, closed_class, closed_byte, closed_last, naming_here, naming_more}
+use Rattle.regex_tree.proofs.ClosedLaws.{closed_here, closed_class, closed_byte, closed_last, naming_here, naming_more}
 use Rattle.regex_signs.specs.Signs.{name, opens, sign, sign_width, signs}
 
 name_short : (s : List ℕ) → length (name s) ≤ length s

@@ -1,6 +1,7 @@
 // The signs inside a bracket (document 01, "Brackets"; document 02, T-01): a byte, or a class, `[:`, its name and the nearest `:]`. The
 // text may have any bytes.
 #![tactic(auto)]
+
 ghost use Rattle.std.specs.Prelude.{◌≡◌, true, ◌+◌, ◌<◌, length, get_or, drop, eqb};
 ghost use Rattle.regex_tree.specs.Sets.{class_ends, closes as closes_of};
 ghost use Rattle.regex_signs.specs.Signs.{name, opens, sign_width};

@@ -3,6 +3,7 @@
 // fails ends the program. Both give exit code 0: the answer is what is printed. If nobody reads the output pipe any more, the system ends
 // the program as it ends any other.
 #![tactic(auto)]
+
 ghost use Rattle.std.specs.Prelude.{◌<◌, ◌≤◌, length};
 ghost use Rattle.sheet_format.specs.Sheet.{most_bytes};
 ghost use Rattle.sheet_read.specs.Answer.{longest};

@@ -5,7 +5,7 @@ use Rattle.std.proofs.Math.Option.{Option, some, none}
 use Rattle.compile.specs.Call.{compile_call}
 use Rattle.sheet_format.specs.Sheet.{Sheet, sheet_of, matrix_of}
 use Rattle.sheet_read.specs.Answer.{form_room}
-use Rattle.sheet_read.specs.AnswerLaws.{compiled_same}
+use Rattle.sheet_read.proofs.AnswerLaws.{compiled_same}
 use Rattle.sheet_answer.specs.Answer.{PrintsSheet, Prints}
 
 sheet_same : (o : Option Sheet) (a b : List ℕ) → PrintsSheet o a → PrintsSheet o b → a ≡ b

@@ -20,13 +20,13 @@ use Rattle.regex_tree.specs.Parse.{grouped, step, go, parse, whole, expression_o
 use Rattle.positions.specs.Opened.{any_of, copies, nested, repeated, opened, labels}
 use Rattle.positions.specs.Numbered.{numbered, position_automaton}
 use Rattle.compile.specs.Call.{compile_call}
-use Rattle.read.specs.Cases.{cases, cases_stated}
+use Rattle.read.proofs.Cases.{cases, cases_stated}
 use Rattle.text_lines.specs.Lines.{onto, pieces, both, closed}
 use Rattle.sheet_format.specs.Sheet.{every, numeral_of, cost_of, column_of, laid, sheet_from, sheet_of}
 use Rattle.sheet_decimal.specs.Numerals.{digits, decimal}
 use Rattle.sheet_path.specs.Labels.{following, spaced}
 use Rattle.sheet_read.specs.Promise.{Answers}
-use Rattle.sheet_read.specs.PromiseLaws.{answers_printed}
+use Rattle.sheet_read.proofs.PromiseLaws.{answers_printed}
 use Rattle.sheet_answer.specs.Answer.{Prints}
 use Rattle.sheet_answer.specs.AnswerLaws.{prints_unique}
 

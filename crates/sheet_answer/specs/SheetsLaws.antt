@@ -2,12 +2,12 @@
 use Rattle.std.specs.Prelude.{ℕ, ◌+◌, ◌-◌, ◌*◌, ◌≤◌, ◌≡◌, refl, List, length, take, drop}
 use Rattle.std.proofs.Common.{sym, ap, ap₂, ◌∙◌, arith}
 use Rattle.std.proofs.Math.Option.{Option, some, none}
-use Rattle.lists.specs.WrittenLaws.{take_written, written_fits}
+use Rattle.lists.proofs.WrittenLaws.{take_written, written_fits}
 use Rattle.refusal.specs.declared.Refusal.TheVariants as refusal
 use Rattle.refusal.specs.Number.{number_of}
 use Rattle.matrix.specs.Matrix.{matrix}
 use Rattle.sheet_format.specs.Sheet.{Sheet, sheet_of, matrix_of}
-use Rattle.sheet_format.specs.PartsLaws.{sheet_within, sheet_alphabet, sheet_text, sheet_costs, sheet_area}
+use Rattle.sheet_format.proofs.PartsLaws.{sheet_within, sheet_alphabet, sheet_text, sheet_costs, sheet_area}
 use Rattle.sheet_scan.specs.Answers.{answer_of, Scans}
 use Rattle.sheet_scan.specs.AnswersLaws.{answered}
 use Rattle.sheet_scan.specs.declared.Scanned.TheVariants as scanned

@@ -1,5 +1,6 @@
 // From the bytes of a sheet to the bytes that are printed for it (document 01, "Confidences and the sheet program").
 #![tactic(auto)]
+
 ghost use Rattle.std.specs.Prelude.{◌≤◌, length};
 ghost use Rattle.sheet_read.specs.Answer.{longest};
 ghost use Rattle.sheet_read.specs.Promise.{Answers};

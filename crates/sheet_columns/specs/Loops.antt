@@ -8,13 +8,13 @@ use Rattle.std.proofs.Math.Bool.{true}
 use Rattle.std.proofs.Math.ListN.{length-append}
 use Rattle.std.proofs.lemmas.List.Edits.{sets}
 use borrow.Author.Tests.{eq-eqb, ne_eqb, eqb-true}
-use Rattle.lists.specs.EachLaws.{drop_all}
+use Rattle.lists.proofs.EachLaws.{drop_all}
 use Rattle.lists.specs.Each.{all}
-use Rattle.lists.specs.OrderLaws.{and_left, and_right, and_both}
-use Rattle.lists.specs.WrittenLaws.{stored_size, stored_then}
+use Rattle.lists.proofs.OrderLaws.{and_left, and_right, and_both}
+use Rattle.lists.proofs.WrittenLaws.{stored_size, stored_then}
 use Rattle.lists.specs.Stored.{Stored}
 use Rattle.text_lines.specs.Lines.{both}
-use Rattle.sheet_format.specs.ColumnLinesLaws.{columns_in_end, columns_in_some, beside, put}
+use Rattle.sheet_format.proofs.ColumnLinesLaws.{columns_in_end, columns_in_some, beside, put}
 use Rattle.sheet_format.specs.ColumnLines.{columns_in}
 use Rattle.sheet_number.specs.Items.{ReadCost}
 use Rattle.sheet_number.specs.CostsLaws.{cost_begins}

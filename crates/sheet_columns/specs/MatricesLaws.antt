@@ -7,13 +7,13 @@ use mathlib.Core.List.{List, [], ◌∷◌, ◌++◌, flatten}
 use Rattle.std.proofs.Math.Bool.{true}
 use Rattle.std.proofs.Math.ListN.{length-append}
 use Rattle.std.proofs.lemmas.List.Edits.{sets, sets-eq}
-use Rattle.lists.specs.EachLaws.{drop_all}
-use Rattle.lists.specs.OrderLaws.{and_left, and_right, and_both}
-use Rattle.lists.specs.WrittenLaws.{written_none, stored_then}
+use Rattle.lists.proofs.EachLaws.{drop_all}
+use Rattle.lists.proofs.OrderLaws.{and_left, and_right, and_both}
+use Rattle.lists.proofs.WrittenLaws.{written_none, stored_then}
 use Rattle.lists.specs.Memory.{written}
 use Rattle.text_lines.specs.Lines.{both}
 use Rattle.sheet_format.specs.Sheet.{equal_columns, fitting}
-use Rattle.sheet_format.specs.ColumnLinesLaws.{columns_in_end, columns_in_some}
+use Rattle.sheet_format.proofs.ColumnLinesLaws.{columns_in_end, columns_in_some}
 use Rattle.sheet_format.specs.ColumnLines.{columns_in}
 use Rattle.sheet_columns.specs.Storing.{StoredColumn, StoredColumns, wide}
 use Rattle.sheet_columns.specs.Loops.{spoilt_stored, both_back, flatten_more}

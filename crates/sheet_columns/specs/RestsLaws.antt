@@ -4,16 +4,16 @@ use Rattle.std.specs.Prelude.{◌≡◌, List, [], ◌∷◌, ◌++◌, true, �
 use Rattle.std.proofs.Common.{sym, ap, ◌∙◌, inl, inr, ⊎_elim, arith, length-append, length-drop, get_or-drop, eqb-true, eq-eqb}
 use Rattle.std.proofs.Math.Option.{some}
 use Rattle.std.proofs.Math.Seq.{take-append_seam, get_or-append_seam}
-use Rattle.lists.specs.EachLaws.{drop_here}
-use Rattle.lists.specs.OrderLaws.{and_left, and_right, or_either, or_left, or_right}
+use Rattle.lists.proofs.EachLaws.{drop_here}
+use Rattle.lists.proofs.OrderLaws.{and_left, and_right, or_either, or_left, or_right}
 use Rattle.text.specs.Digits.{digits, digit}
 use Rattle.sheet_format.specs.Sheet.{cost_of}
-use Rattle.sheet_format.specs.CostLaws.{cost_exactly}
-use Rattle.sheet_format.specs.ColumnLinesLaws.{FirstCost, columns_in_back, put, columns_in_put}
+use Rattle.sheet_format.proofs.CostLaws.{cost_exactly}
+use Rattle.sheet_format.proofs.ColumnLinesLaws.{FirstCost, columns_in_back, put, columns_in_put}
 use Rattle.text_lines.specs.Lines.{Free}
 use Rattle.sheet_format.specs.ColumnLines.{columns_in}
 use Rattle.text_lines.specs.Places.{part}
-use Rattle.text_lines.specs.PlacesLaws.{part_rest}
+use Rattle.text_lines.proofs.PlacesLaws.{part_rest}
 use Rattle.sheet_number.specs.Items.{separator, CostAt, ReadCost}
 use Rattle.sheet_number.specs.DigitsLaws.{digit_range, numeral_back}
 use Rattle.sheet_number.specs.CostsLaws.{cost_begins}

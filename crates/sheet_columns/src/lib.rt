@@ -1,5 +1,6 @@
 // The column lines of a sheet (document 01, "Confidences and the sheet program"): their costs into lent memory, their width and count.
 #![tactic(auto)]
+
 ghost use Rattle.std.specs.Prelude.{◌≤◌, length};
 ghost use Rattle.sheet_columns.specs.Storing.{StoredColumn, StoredColumns};
 ghost use Rattle.sheet_columns.specs.Matrices.{StoredMatrix};

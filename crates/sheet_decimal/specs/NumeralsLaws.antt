@@ -2,9 +2,9 @@
 use Rattle.std.specs.Prelude.{ℕ, zero, suc, ◌+◌, ◌/◌, ◌%◌, ◌^◌, ◌<◌, ◌≤◌, ◌≡◌, refl, true, [], ◌∷◌, ◌++◌, leb, length, get_or}
 use Rattle.std.proofs.Common.{sym, ap, ◌∙◌, ⊎_elim, pow-suc, arith, lt-ltb, le-ltb, le-leb, length-append}
 use Rattle.std.proofs.Math.ListN.{get_or-append}
-use Rattle.lists.specs.OrderLaws.{lt_or_le, and_both}
+use Rattle.lists.proofs.OrderLaws.{lt_or_le, and_both}
 use Rattle.text.specs.Digits.{value, digit as a_digit, digits as all_digits}
-use Rattle.text.specs.DigitsLaws.{digits_append, value_append}
+use Rattle.text.proofs.DigitsLaws.{digits_append, value_append}
 use Rattle.sheet_decimal.specs.Numerals.{digit, digits, decimal}
 
 digits_one : (k n : ℕ) → n < 10 → digits (suc k) n ≡ digit n ∷ []

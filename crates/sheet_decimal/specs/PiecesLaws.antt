@@ -1,7 +1,7 @@
 -- Two pieces written one after the other.
 use Rattle.std.specs.Prelude.{ℕ, ◌+◌, ◌≤◌, ◌≡◌, List, ◌++◌, length}
 use Rattle.std.proofs.Common.{ap, arith, length-append}
-use Rattle.lists.specs.WrittenLaws.{stored_then, stored_size}
+use Rattle.lists.proofs.WrittenLaws.{stored_then, stored_size}
 use Rattle.lists.specs.Stored.{Stored}
 
 -- front and back are the whole: there is room for both, and what is stored then

@@ -1,5 +1,6 @@
 // Bytes, and numbers in decimal, into lent memory (document 01, "Output in full").
 #![tactic(auto)]
+
 ghost use Rattle.std.specs.Prelude.{◌≡◌, [], ◌∷◌, ◌+◌, ◌<◌, ◌≤◌, length};
 ghost use Rattle.lists.specs.Stored.{Stored};
 ghost use Rattle.sheet_decimal.specs.Numerals.{digit, decimal};

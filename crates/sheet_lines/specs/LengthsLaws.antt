@@ -2,12 +2,12 @@
 use Rattle.std.specs.Prelude.{ℕ, ◌+◌, ◌<◌, ◌≤◌, ◌≡◌, List, [], ◌∷◌, ◌++◌, length}
 use Rattle.std.proofs.Common.{append-nil, arith, length-append}
 use Rattle.lists.specs.Each.{Each}
-use Rattle.lists.specs.FillingLoops.{filling_none, filling_stored, filling_all}
+use Rattle.lists.proofs.FillingLoops.{filling_none, filling_stored, filling_all}
 use Rattle.lists.specs.Memory.{Wrote}
 use Rattle.lists.specs.Stored.{Stored}
 use Rattle.refusal.specs.declared.Refusal.{Refusal}
 use Rattle.refusal.specs.Number.{number_of}
-use Rattle.refusal.specs.NumberLaws.{number_between}
+use Rattle.refusal.proofs.NumberLaws.{number_between}
 use Rattle.sheet_decimal.specs.Numerals.{decimal}
 use Rattle.sheet_decimal.specs.NumeralsLaws.{decimal_short}
 use Rattle.sheet_path.specs.Labels.{spaced}

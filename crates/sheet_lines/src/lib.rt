@@ -1,5 +1,6 @@
 // The bytes that the sheet program prints (document 01, "Output in full").
 #![tactic(auto)]
+
 ghost use Rattle.std.specs.Prelude.{◌+◌, ◌≤◌, length};
 ghost use Rattle.lists.specs.Memory.{Wrote};
 ghost use Rattle.lists.specs.Stored.{Stored};

@@ -3,12 +3,12 @@ use Rattle.std.specs.Prelude.{◌≡◌, List, [], ◌∷◌, ◌++◌, true, fa
 use Rattle.std.proofs.Math.Path.{refl}
 use Rattle.std.proofs.Common.{sym, ap, ◌∙◌, inl, inr, ⊎_elim, arith, eqb-true, eq-eqb, ne_eqb}
 use Rattle.lists.specs.Cases.{provided}
-use Rattle.lists.specs.OrderLaws.{and_left, and_right, and_both, not_both}
+use Rattle.lists.proofs.OrderLaws.{and_left, and_right, and_both, not_both}
 use Rattle.matrix.specs.Matrix.{BARRED}
 use Rattle.sheet_format.specs.Sheet.{numeral_of, cost_of}
-use Rattle.sheet_format.specs.CostLaws.{bar, cost_exactly}
+use Rattle.sheet_format.proofs.CostLaws.{bar, cost_exactly}
 use Rattle.text_lines.specs.Places.{part}
-use Rattle.text_lines.specs.PlacesLaws.{part_none, part_more, part_at, part_length}
+use Rattle.text_lines.proofs.PlacesLaws.{part_none, part_more, part_at, part_length}
 use Rattle.sheet_number.specs.Items.{separator, NumberAt, ReadNumber, CostAt, ReadCost, bar_at}
 use Rattle.sheet_number.specs.ItemsLaws.{item_begins, separator_within}
 use Rattle.sheet_number.specs.declared.Cost.{Cost}

@@ -4,18 +4,18 @@ use Rattle.std.proofs.Common.{sym, ap, ap₂, ◌∙◌, subst, ⊎_elim, arith,
 use Rattle.std.proofs.Math.Option.{some}
 use Rattle.std.proofs.Math.Nat.{pow-le-pow_right}
 use Rattle.std.proofs.lemmas.Bool.{not-true}
-use Rattle.lists.specs.OrderLaws.{and_left, and_right, and_three, or_either, not_both, lt_or_le}
+use Rattle.lists.proofs.OrderLaws.{and_left, and_right, and_three, or_either, not_both, lt_or_le}
 use Rattle.lists.specs.Cases.{provided}
 use Rattle.text.specs.Digits.{digits, value, digit}
 use Rattle.sheet_format.specs.Sheet.{extra_zero, numeral_of}
-use Rattle.sheet_format.specs.PartsLaws.{provided_back}
+use Rattle.sheet_format.proofs.PartsLaws.{provided_back}
 use Rattle.text_lines.specs.Places.{part}
-use Rattle.text_lines.specs.PlacesLaws.{part_none, part_more, part_at, part_length}
+use Rattle.text_lines.proofs.PlacesLaws.{part_none, part_more, part_at, part_length}
 use Rattle.sheet_number.specs.declared.Cost.TheVariants.{Is, Not}
 use Rattle.sheet_number.specs.Digits.{padded, Begun, Digits}
 use Rattle.sheet_number.specs.Items.{separator, NumberAt, ReadNumber}
 use Rattle.sheet_number.specs.ItemsLaws.{item_begins}
-use Rattle.text.specs.DigitsLaws.{digits_append, value_append}
+use Rattle.text.proofs.DigitsLaws.{digits_append, value_append}
 
 pub digit_range : (b : ℕ) → digit b ≡ true → (48 ≤ b) × (b ≤ 57)
 digit_range b e = (leb-true 48 b (and_left (leb 48 b) (leb b 57) e), leb-true b 57 (and_right (leb 48 b) (leb b 57) e))

@@ -3,8 +3,8 @@ use Rattle.std.specs.Prelude.{◌≡◌, List, [], true, ℕ, ◌<◌, ◌≤◌
 use Rattle.std.proofs.Common.{ap, ◌∙◌, ⊎_elim, arith}
 use Rattle.std.proofs.Math.Option.{Option, none}
 use Rattle.std.proofs.Math.ListN.{get_or-eq_default}
-use Rattle.lists.specs.OrderLaws.{lt_or_le}
-use Rattle.text_lines.specs.PlacesLaws.{part_none}
+use Rattle.lists.proofs.OrderLaws.{lt_or_le}
+use Rattle.text_lines.proofs.PlacesLaws.{part_none}
 use Rattle.sheet_number.specs.Items.{separator, ItemAt}
 
 pub item_begins : (of : List ℕ → Option ℕ) → of [] ≡ none → (input : List ℕ) (at e v : ℕ) → ItemAt of input at e v → at < e

@@ -1,5 +1,6 @@
 // One number of a sheet (document 01, "Confidences and the sheet program"): the cost that is written at a place.
 #![tactic(auto)]
+
 ghost use Rattle.std.specs.Prelude.{◌≡◌, ◌≤◌, length};
 ghost use Rattle.sheet_number.specs.Items.{separator, ReadNumber, ReadCost, bar_at};
 ghost use Rattle.sheet_number.specs.Digits.{padded, Digits as DigitsOf};

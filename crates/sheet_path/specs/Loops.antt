@@ -2,7 +2,7 @@
 use Rattle.std.specs.Prelude.{ℕ, ◌+◌, ◌-◌, ◌*◌, ◌<◌, ◌≤◌, ◌≡◌, refl, length, get_or, drop}
 use Rattle.std.proofs.Common.{ap, arith, lit≤, length-append}
 use mathlib.Core.List.{List, [], ◌∷◌, ◌++◌, flat_map}
-use Rattle.lists.specs.EachLaws.{drop_here, drop_all}
+use Rattle.lists.proofs.EachLaws.{drop_here, drop_all}
 use Rattle.lists.specs.Each.{Each}
 use Rattle.sheet_decimal.specs.Numerals.{decimal}
 use Rattle.sheet_decimal.specs.NumeralsLaws.{decimal_short}

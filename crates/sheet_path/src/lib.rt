@@ -1,5 +1,6 @@
 // A path as text (document 01, "Output in full"): its labels in decimal, one space between, into lent memory.
 #![tactic(auto)]
+
 ghost use Rattle.std.specs.Prelude.{◌∷◌, ◌+◌, ◌≤◌, length, drop};
 ghost use Rattle.lists.specs.Stored.{Stored};
 ghost use Rattle.sheet_decimal.specs.Numerals.{decimal};

@@ -1,6 +1,7 @@
 // What is printed for Read's answer: the line of a refusal, or the lines of a reading, whose word and path are in lent memory
 // (document 01, "Output in full").
 #![tactic(auto)]
+
 ghost use Rattle.std.specs.Prelude.{◌≤◌, length};
 ghost use Rattle.lists.specs.Memory.{Wrote};
 ghost use Rattle.sheet_print.specs.Printed.{Shown, answer_lines};

@@ -1,6 +1,7 @@
 // Read, and its answer printed: what the sheet program does for an alphabet, a text and a matrix (document 01, "Confidences and the sheet
 // program").
 #![tactic(auto)]
+
 ghost use Rattle.std.specs.Prelude.{◌≤◌, length};
 ghost use Rattle.matrix.specs.Matrix.{matrix};
 ghost use Rattle.sheet_read.specs.Answer.{longest, PrintsReading};

@@ -7,14 +7,14 @@ use mathlib.Core.List.{List, []}
 use Rattle.std.proofs.Math.Bool.{true}
 use Rattle.std.proofs.Math.Logic.{⊎_elim}
 use Rattle.std.proofs.lemmas.Bool.{lt-leb}
-use Rattle.lists.specs.OrderLaws.{eq_or_ne, true_or_false}
+use Rattle.lists.proofs.OrderLaws.{eq_or_ne, true_or_false}
 use Rattle.lists.specs.Memory.{written}
 use Rattle.lists.specs.Cases.{provided}
 use Rattle.text_lines.specs.Lines.{both, lines_of}
 use Rattle.sheet_format.specs.Sheet.{Sheet, fitting, laid, sheet_from, most_bytes, sheet_of, width_or, matrix_of}
 use Rattle.sheet_format.specs.ColumnLines.{columns_of, columns_in}
 use Rattle.text_lines.specs.Places.{part, LineEnd}
-use Rattle.text_lines.specs.PlacesLaws.{part_length, lines_at, line_unclosed, lines_past}
+use Rattle.text_lines.proofs.PlacesLaws.{part_length, lines_at, line_unclosed, lines_past}
 use Rattle.sheet_columns.specs.Matrices.{StoredMatrix}
 use Rattle.sheet_columns.specs.declared.Body.TheVariants as body
 use Rattle.sheet_scan.specs.Answers.{answer_of, Scans}

@@ -1,5 +1,6 @@
 // The sheet's input layout (document 01, "Confidences and the sheet program"): where its lines end, and its costs into lent memory.
 #![tactic(auto)]
+
 ghost use Rattle.std.specs.Prelude.{◌≡◌, length};
 ghost use Rattle.sheet_scan.specs.Answers.{Scans};
 

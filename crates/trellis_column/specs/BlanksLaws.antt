@@ -5,9 +5,9 @@ use Rattle.automaton.specs.Automaton.{Automaton}
 use Rattle.automaton.specs.Proper.{Proper}
 use Rattle.trellis.specs.Impossible.{plus}
 use Rattle.trellis.specs.Extended.{Step, stay, pass, arc, rest, leave}
-use Rattle.trellis.specs.ExtendedLaws.{AtLetter, at_letter}
+use Rattle.trellis.proofs.ExtendedLaws.{AtLetter, at_letter}
 use Rattle.trellis.specs.Reached.{entering}
-use Rattle.trellis.specs.ReachedLaws.{entering_blanks}
+use Rattle.trellis.proofs.ReachedLaws.{entering_blanks}
 use Rattle.trellis_steps.specs.Steps.{ColumnReady, KeptOf, Within}
 use Rattle.trellis_column.specs.Column.{blank_after, Blanks, BlanksInside, OfLabel}
 

@@ -1,12 +1,12 @@
 -- Laws of one column of the trace: kept states that are low enough have the lowest label of all, and the states of that label.
 use Rattle.std.specs.Prelude.{ℕ, ◌*◌, ◌-◌, ◌≤◌, ◌<◌, ◌≡◌, refl, Bool, List, ◌⊎◌, get_or}
 use Rattle.std.proofs.Common.{sym, ap, inl, inr, arith}
-use Rattle.lists.specs.OrderLaws.{lt_or_le}
+use Rattle.lists.proofs.OrderLaws.{lt_or_le}
 use Rattle.lists.specs.Least.{Least}
 use Rattle.lists.specs.Marks.{Has, Marks, Listed}
 use Rattle.automaton.specs.Form.{letters_of, alphabet_of, view}
-use Rattle.automaton.specs.ValidLaws.{valid_proper}
-use Rattle.trellis.specs.ExtendedLaws.{step_within}
+use Rattle.automaton.proofs.ValidLaws.{valid_proper}
+use Rattle.trellis.proofs.ExtendedLaws.{step_within}
 use Rattle.trellis.specs.Reached.{entering}
 use Rattle.trellis_steps.specs.Loops.{entering_high}
 use Rattle.trellis_members.specs.Members.{Members}

@@ -1,9 +1,9 @@
 -- One column of the trace, one iteration of a loop over states at a time.
 use Rattle.std.specs.Prelude.{ℕ, ◌*◌, ◌-◌, ◌≤◌, ◌<◌, ◌≡◌, refl, Bool, List, eqb, get_or}
 use Rattle.std.proofs.Common.{sym, ap, ◌∙◌, arith, eqb-true, eq-eqb}
-use Rattle.lists.specs.LeastLaws.{least_one, least_same}
+use Rattle.lists.proofs.LeastLaws.{least_one, least_same}
 use Rattle.lists.specs.Least.{Least, Among}
-use Rattle.lists.specs.MarksLaws.{marks_none, marks_same}
+use Rattle.lists.proofs.MarksLaws.{marks_none, marks_same}
 use Rattle.lists.specs.Marks.{Marks, Iterations, Listed}
 use Rattle.automaton.specs.Automaton.{Automaton}
 use Rattle.automaton.specs.Form.{letters_of, view}

@@ -2,6 +2,7 @@
 // of that label. A state lies on a cheapest path if its label's cost and its cost to go add up to v, what is left to pay. No label is lower
 // than the blank, so blanks are looked at first, and arcs only where no blanks are kept.
 #![tactic(auto)]
+
 ghost use Rattle.std.specs.Prelude.{◌*◌, ◌<◌, ◌≤◌, length};
 ghost use Rattle.lists.specs.Least.{Least};
 ghost use Rattle.lists.specs.Marks.{Has, Marks, Listed};

@@ -1,5 +1,6 @@
 // TOP, the value that means 'impossible'; what there is to pay where no column is left; a sum that is not held at TOP.
 #![tactic(auto)]
+
 ghost use Rattle.std.specs.Prelude.{◌≡◌, ◌+◌, ◌*◌, ◌/◌, ◌<◌, ◌≤◌};
 ghost use Rattle.automaton.specs.Form.{letters_of, ends_of};
 ghost use Rattle.automaton.specs.Valid.{Valid};

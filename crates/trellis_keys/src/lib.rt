@@ -1,6 +1,7 @@
 // The keys of a column. A letter's key is one number for what a step to it costs and for its label, so that the least key gives the least
 // price and a label that has it.
 #![tactic(auto)]
+
 ghost use Rattle.std.specs.Prelude.{◌≡◌, ◌≤◌, length};
 ghost use Rattle.automaton.specs.Form.{letters_of};
 ghost use Rattle.trellis_keys.specs.Keys.{Ahead, key_for, KeysFilled};

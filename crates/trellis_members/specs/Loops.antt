@@ -2,7 +2,7 @@
 use Rattle.std.specs.Prelude.{ℕ, ◌+◌, ◌<◌, ◌≡◌, refl, Bool, false, ◌⊎◌, List, length, get_or, set as put}
 use Rattle.std.proofs.Common.{sym, ap, ◌∙◌, inl, inr, arith, length-set, get_or-set_same, get_or-set_other}
 use Rattle.std.proofs.lemmas.Bool.{false≢true}
-use Rattle.lists.specs.OrderLaws.{eq_or_ne}
+use Rattle.lists.proofs.OrderLaws.{eq_or_ne}
 use Rattle.lists.specs.Marks.{Has, Listed}
 use Rattle.trellis_members.specs.Members.{Members}
 use Rattle.trellis_members.specs.MembersLaws.{members_empty}

@@ -3,8 +3,8 @@ use Rattle.std.specs.Prelude.{ℕ, zero, suc, ◌+◌, ◌<◌, ◌≤◌, ◌�
 use Rattle.std.proofs.Common.{sym, ap, subst, ◌∙◌, inl, inr, arith, length-set, get_or-set_same, get_or-set_other}
 use Rattle.std.proofs.lemmas.Bool.{false≢true}
 use Rattle.std.proofs.lemmas.List.{length-replicate, set-get_or}
-use Rattle.lists.specs.OrderLaws.{eq_or_ne}
-use Rattle.lists.specs.MarksLaws.{has_none, marks_none, marks_one, marks_same}
+use Rattle.lists.proofs.OrderLaws.{eq_or_ne}
+use Rattle.lists.proofs.MarksLaws.{has_none, marks_none, marks_one, marks_same}
 use Rattle.lists.specs.Marks.{Has, Marks, Listed}
 use Rattle.trellis_members.specs.Members.{trues, Members, Just, JustIf}
 

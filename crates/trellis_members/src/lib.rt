@@ -1,6 +1,7 @@
 // A set of states as an array of truth values, and the list of its members beside it, so that loops go over members only. The list has
 // one place more than there are states, so that the place after its last member can always be written.
 #![tactic(auto)]
+
 ghost use Rattle.std.specs.Prelude.{◌<◌};
 ghost use Rattle.lists.specs.Marks.{Marks};
 ghost use Rattle.trellis_members.specs.Members.{Members, JustIf};

@@ -2,11 +2,11 @@
 -- label is the least of the other labels; its price is the least price.
 use Rattle.std.specs.Prelude.{ℕ, ◌+◌, ◌/◌, ◌%◌, ◌<◌, ◌≤◌, min, ◌≡◌, refl, true, List, get_or}
 use Rattle.std.proofs.Common.{sym, ap, ◌∙◌, arith}
-use Rattle.lists.specs.LeastLaws.{least_same}
+use Rattle.lists.proofs.LeastLaws.{least_same}
 use Rattle.lists.specs.Least.{Least, Among}
 use Rattle.automaton.specs.Form.{letters_of, label_of, follow_of, target, view}
 use Rattle.automaton.specs.Valid.{Valid}
-use Rattle.automaton.specs.ValidLaws.{first_letter, follow_arc, arc_follow, follow_target}
+use Rattle.automaton.proofs.ValidLaws.{first_letter, follow_arc, arc_follow, follow_target}
 use Rattle.form_starts.specs.Starts.{StartsAt}
 use Rattle.form_starts.specs.Loops.{range_source, range_rises, source_range}
 use Rattle.form_arcs.specs.Firsts.{Firsts}

@@ -2,7 +2,7 @@
 use Rattle.std.specs.Prelude.{ℕ, ◌+◌, ◌-◌, ◌%◌, ◌<◌, ◌≤◌, min, ◌≡◌, refl, Bool, true, false, cond, List, length, get_or, eqb}
 use Rattle.std.proofs.Common.{sym, subst, arith, eqb-true}
 use Rattle.std.proofs.lemmas.Bool.{eqb-false}
-use Rattle.lists.specs.LeastLaws.{least_none, least_held, least_start, least_more}
+use Rattle.lists.proofs.LeastLaws.{least_none, least_held, least_start, least_more}
 use Rattle.lists.specs.Least.{Least, Among}
 use Rattle.trellis_offers.specs.Offers.{FAR, key_at, Looked, KeyAt, OtherAt, unless_own}
 

@@ -1,6 +1,7 @@
 // What letters offer to a state: the least key along a letter's arcs, with or without those to its own label, and the least key of the
 // letters that may be first.
 #![tactic(auto)]
+
 ghost use Rattle.std.specs.Prelude.{◌≡◌, ◌-◌, ◌%◌, ◌<◌, length, get_or};
 ghost use Rattle.lists.specs.Least.{Least, Among};
 ghost use Rattle.automaton.specs.Form.{label_of};

@@ -1,8 +1,8 @@
 -- The cells of a row, one iteration of the loop over letters at a time.
 use Rattle.std.specs.Prelude.{ℕ, ◌+◌, ◌*◌, ◌-◌, ◌/◌, ◌<◌, ◌≤◌, min, ◌≡◌, ◌⊎◌, Bool, List, length, get_or, set}
 use Rattle.std.proofs.Common.{sym, ap, subst, ◌∙◌, inl, inr, arith, length-set, get_or-set_same, get_or-set_other}
-use Rattle.lists.specs.OrderLaws.{eq_or_ne}
-use Rattle.lists.specs.OutsideLaws.{outside_none, outside_set, outside_then, outside_wider, front_at, beyond_at}
+use Rattle.lists.proofs.OrderLaws.{eq_or_ne}
+use Rattle.lists.proofs.OutsideLaws.{outside_none, outside_set, outside_then, outside_wider, front_at, beyond_at}
 use Rattle.automaton.specs.Form.{letters_of, label_of}
 use Rattle.trellis_offers.specs.Offers.{key_of, LeastKey, LeastOther}
 use Rattle.trellis_row.specs.Letters.{states, LetterReady, LetterCells, LetterFilled, LettersReady, CellsAt, LettersFilled}

@@ -1,19 +1,19 @@
 -- Laws: the row that is written has the costs to go of its column, if the row at `next` has those of the next column.
 use Rattle.std.specs.Prelude.{ℕ, ◌+◌, ◌*◌, ◌-◌, ◌/◌, ◌<◌, ◌≤◌, min, ◌≡◌, ◌⊎◌, List, length, get_or, set}
 use Rattle.std.proofs.Common.{sym, ap, ap₂, subst, ◌∙◌, inl, inr, arith, get_or-set_same, get_or-set_other}
-use Rattle.lists.specs.OrderLaws.{eq_or_ne}
+use Rattle.lists.proofs.OrderLaws.{eq_or_ne}
 use Rattle.lists.specs.Least.{Least}
-use Rattle.lists.specs.OutsideLaws.{outside_set, outside_then, outside_wider}
+use Rattle.lists.proofs.OutsideLaws.{outside_set, outside_then, outside_wider}
 use Rattle.matrix.specs.Matrix.{Matrix, cost}
 use Rattle.automaton.specs.Form.{letters_of, alphabet_of, label_of, view}
 use Rattle.automaton.specs.Valid.{Valid}
-use Rattle.automaton.specs.ValidLaws.{valid_proper}
+use Rattle.automaton.proofs.ValidLaws.{valid_proper}
 use Rattle.trellis.specs.Impossible.{TOP, plus}
 use Rattle.trellis.specs.CostToGo.{CostToGo}
 use Rattle.trellis.specs.Extended.{extended}
-use Rattle.trellis.specs.ExtendedLaws.{AtLetter, at_letter}
+use Rattle.trellis.proofs.ExtendedLaws.{AtLetter, at_letter}
 use Rattle.trellis.specs.Cells.{ByArc}
-use Rattle.trellis.specs.CellsLaws.{blanks_cell, letter_cell}
+use Rattle.trellis.proofs.CellsLaws.{blanks_cell, letter_cell}
 use Rattle.trellis.specs.Table.{Row}
 use Rattle.trellis_keys.specs.Keys.{KeysFilled}
 use Rattle.trellis_offers.specs.Offers.{FAR, key_of, LeastKey, LeastOther}

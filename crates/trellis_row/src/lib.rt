@@ -1,5 +1,6 @@
 // One row of the table of costs to go, computed from the row of the next column: the two states of each letter, and state 0.
 #![tactic(auto)]
+
 ghost use Rattle.std.specs.Prelude.{◌≡◌, ◌+◌, ◌/◌, ◌≤◌, min, length};
 ghost use Rattle.automaton.specs.Form.{letters_of};
 ghost use Rattle.trellis_offers.specs.Offers.{FAR as far};

@@ -2,21 +2,21 @@
 use Rattle.std.specs.Prelude.{ℕ, ◌+◌, ◌*◌, ◌-◌, ◌/◌, ◌≤◌, ◌<◌, ◌≡◌, refl, Bool, true, false, not, ◌&&◌, List, ◌⊎◌, ◌↔◌, eqb, get_or}
 use Rattle.std.proofs.Common.{sym, ap, ◌∙◌, subst, inl, inr, arith, eqb-true, eq-eqb, ne_eqb}
 use Rattle.std.proofs.lemmas.Bool.{eqb-false, not-true}
-use Rattle.lists.specs.OrderLaws.{not_both, and_left, and_right, and_both}
-use Rattle.lists.specs.MarksLaws.{marks_none, marks_same, marks_then, iterations_more}
+use Rattle.lists.proofs.OrderLaws.{not_both, and_left, and_right, and_both}
+use Rattle.lists.proofs.MarksLaws.{marks_none, marks_same, marks_then, iterations_more}
 use Rattle.lists.specs.Marks.{Marks, Iterations, Listed}
 use Rattle.automaton.specs.Automaton.{Automaton}
 use Rattle.automaton.specs.Proper.{Proper}
 use Rattle.automaton.specs.Form.{letters_of, alphabet_of, view, target}
 use Rattle.automaton.specs.Valid.{Valid}
-use Rattle.automaton.specs.ValidLaws.{ArcAt, follow_arc, arc_follow, follow_target, valid_proper}
+use Rattle.automaton.proofs.ValidLaws.{ArcAt, follow_arc, arc_follow, follow_target, valid_proper}
 use Rattle.form_starts.specs.Starts.{StartsAt}
 use Rattle.form_starts.specs.Loops.{range_source, source_range}
 use Rattle.trellis.specs.Impossible.{TOP}
 use Rattle.trellis.specs.Extended.{OnLetter, stay, pass, arc, rest, leave}
-use Rattle.trellis.specs.ExtendedLaws.{AtLetter, at_letter}
+use Rattle.trellis.proofs.ExtendedLaws.{AtLetter, at_letter}
 use Rattle.trellis.specs.Reached.{entering, Reached}
-use Rattle.trellis.specs.ReachedLaws.{entering_blanks, entering_letter}
+use Rattle.trellis.proofs.ReachedLaws.{entering_blanks, entering_letter}
 use Rattle.trellis_members.specs.Members.{Just, JustIf}
 use Rattle.trellis_steps.specs.Steps.{AddUp, Keeps, KeptIn, KeptOf, KeptAt, Onto, OtherLetter, Led, Following, TargetOf, From}
 

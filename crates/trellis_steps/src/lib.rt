@@ -2,6 +2,7 @@
 // the list of its members; state 2i − 1 is on letter i, and state 2i is in the blanks after it. A state lies on a cheapest path if its
 // label's cost and its cost to go add up to v, what is left to pay.
 #![tactic(auto)]
+
 ghost use Rattle.std.specs.Prelude.{◌≡◌, true, ◌↔◌, ◌+◌, ◌*◌, ◌<◌, ◌≤◌, length};
 ghost use Rattle.lists.specs.Marks.{Marks, Iterations, Listed};
 ghost use Rattle.automaton.specs.Form.{letters_of, view};

@@ -1,9 +1,9 @@
 -- The table, one iteration of the loop over rows at a time.
 use Rattle.std.specs.Prelude.{ℕ, ◌+◌, ◌*◌, ◌-◌, ◌<◌, ◌≤◌, ◌≡◌, ◌⊎◌, List, length, get_or, take, drop}
 use Rattle.std.proofs.Common.{sym, ap, subst, ◌∙◌, inl, inr, arith, mul-le-mul_right}
-use Rattle.lists.specs.OrderLaws.{eq_or_ne}
-use Rattle.lists.specs.PartLaws.{part_at, part_length}
-use Rattle.lists.specs.OutsideLaws.{outside_none, outside_then, outside_wider, beyond_at}
+use Rattle.lists.proofs.OrderLaws.{eq_or_ne}
+use Rattle.lists.proofs.PartLaws.{part_at, part_length}
+use Rattle.lists.proofs.OutsideLaws.{outside_none, outside_then, outside_wider, beyond_at}
 use Rattle.matrix.specs.Matrix.{Matrix}
 use Rattle.automaton.specs.Form.{alphabet_of, view}
 use Rattle.trellis.specs.Table.{Row}

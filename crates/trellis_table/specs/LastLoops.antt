@@ -1,13 +1,13 @@
 -- The last row, one iteration of the loop over states at a time.
 use Rattle.std.specs.Prelude.{ℕ, ◌+◌, ◌*◌, ◌/◌, ◌<◌, ◌≤◌, ◌≡◌, ◌⊎◌, List, length, get_or, set}
 use Rattle.std.proofs.Common.{◌∙◌, inl, inr, arith, get_or-set_same, get_or-set_other}
-use Rattle.lists.specs.OrderLaws.{eq_or_ne}
-use Rattle.lists.specs.OutsideLaws.{outside_none, outside_set, outside_then}
+use Rattle.lists.proofs.OrderLaws.{eq_or_ne}
+use Rattle.lists.proofs.OutsideLaws.{outside_none, outside_set, outside_then}
 use Rattle.lists.specs.Stored.{Outside}
 use Rattle.automaton.specs.Form.{letters_of, ends_of, view}
-use Rattle.trellis.specs.ExtendedLaws.{at_letter}
+use Rattle.trellis.proofs.ExtendedLaws.{at_letter}
 use Rattle.trellis.specs.Cells.{ending}
-use Rattle.trellis.specs.CellsLaws.{last_cell}
+use Rattle.trellis.proofs.CellsLaws.{last_cell}
 use Rattle.trellis_row.specs.Letters.{states}
 use Rattle.trellis_table.specs.Last.{LastFilled}
 

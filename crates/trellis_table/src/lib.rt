@@ -1,5 +1,6 @@
 // The table of costs to go of Decode, filled from the last row to the first (document 01, "Extended states and decoding").
 #![tactic(auto)]
+
 ghost use Rattle.std.specs.Prelude.{◌≡◌, ◌+◌, ◌*◌, ◌<◌, length};
 ghost use Rattle.automaton.specs.Form.{letters_of, view};
 ghost use Rattle.automaton.specs.Valid.{Valid};

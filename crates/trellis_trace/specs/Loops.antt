@@ -1,21 +1,21 @@
 -- The trace, one iteration of the loop over columns at a time.
 use Rattle.std.specs.Prelude.{ℕ, ◌+◌, ◌*◌, ◌-◌, ◌≤◌, ◌<◌, ◌≡◌, refl, Bool, true, List, [], ◌∷◌, ◌++◌, length, get_or, take, drop, set as put}
 use Rattle.std.proofs.Common.{sym, ap, ap₂, ◌∙◌, subst, mul-le-mul_right, arith, length-append, take_at}
-use Rattle.lists.specs.PartLaws.{part_at, part_length}
-use Rattle.lists.specs.WrittenLaws.{written_none, written_more, length_written}
+use Rattle.lists.proofs.PartLaws.{part_at, part_length}
+use Rattle.lists.proofs.WrittenLaws.{written_none, written_more, length_written}
 use Rattle.lists.specs.Memory.{written}
 use Rattle.lists.specs.Marks.{Has, Marks}
 use Rattle.automaton.specs.Automaton.{Automaton}
 use Rattle.automaton.specs.Form.{letters_of, alphabet_of, view}
-use Rattle.automaton.specs.ValidLaws.{valid_proper}
+use Rattle.automaton.proofs.ValidLaws.{valid_proper}
 use Rattle.matrix.specs.Matrix.{Matrix, cost}
 use Rattle.trellis.specs.Impossible.{plus}
 use Rattle.trellis.specs.CostToGo.{CostToGo}
-use Rattle.trellis.specs.TraceLaws.{Tracing, tracing_start, tracing_more, tracing_all}
+use Rattle.trellis.proofs.TraceLaws.{Tracing, tracing_start, tracing_more, tracing_all}
 use Rattle.trellis.specs.Extended.{extended}
-use Rattle.trellis.specs.ExtendedLaws.{step_within}
+use Rattle.trellis.proofs.ExtendedLaws.{step_within}
 use Rattle.trellis.specs.Reached.{entering, Reached}
-use Rattle.trellis.specs.ReachedLaws.{Kept, Picked, picked_chosen, next_row, some_kept}
+use Rattle.trellis.proofs.ReachedLaws.{Kept, Picked, picked_chosen, next_row, some_kept}
 use Rattle.trellis_members.specs.Members.{Members, JustIf}
 use Rattle.trellis_members.specs.MembersLaws.{only_marked}
 use Rattle.trellis_steps.specs.Steps.{ColumnReady, KeptOf, Within}

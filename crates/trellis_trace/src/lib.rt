@@ -1,6 +1,7 @@
 // The best path, traced forward through the table of costs to go (document 01, "Extended states and decoding"): the set of all equally
 // cheap states is advanced column by column, by the lowest label that lies on a cheapest path.
 #![tactic(auto)]
+
 ghost use Rattle.std.specs.Prelude.{◌≤◌, length};
 ghost use Rattle.automaton.specs.Form.{view};
 ghost use Rattle.form_starts.specs.Starts.{ArcStarts};

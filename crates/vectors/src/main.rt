@@ -13,6 +13,7 @@
 //   R TEXT COSTS WIDTH COLUMNS PATH-ROOM WORD-ROOM WORK-ROOM LAST ALPHABET   Read
 //   X NAME COSTS WIDTH COLUMNS WORK-ROOM LAST WORDS                          Compare with the form of these words, and the other way round
 #![tactic(auto)]
+
 mod calls;
 mod matrices;
 mod parts;

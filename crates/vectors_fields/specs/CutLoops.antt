@@ -6,7 +6,7 @@ use mathlib.Core.List.{List, [], ◌∷◌}
 use Rattle.std.proofs.Math.Bool.{true, false, cond}
 use Prim.Native.Nat.{ℕ, suc, ◌+◌, ◌-◌, ◌<◌, ◌≤◌}
 use Rattle.std.proofs.Math.ListN.{length, get_or, take, length-drop}
-use Rattle.lists.specs.EachLaws.{drop_all}
+use Rattle.lists.proofs.EachLaws.{drop_all}
 use Rattle.text.specs.Places.{until}
 use Rattle.text_lines.specs.Lines.{pieces, onto}
 

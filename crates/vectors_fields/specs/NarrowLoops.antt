@@ -3,9 +3,9 @@ use Rattle.std.specs.Prelude.{◌≡◌, List, ◌∷◌, map, ℕ, ◌+◌, ◌
 use Rattle.std.proofs.Common.{ap, ◌∙◌, arith, length-take, length-take-le, get_or-take}
 use Rattle.std.proofs.lemmas.List.{length-map}
 use Rattle.std.proofs.Math.ListN.{get_or-map}
-use Rattle.lists.specs.EachLaws.{drop_here, drop_all}
-use Rattle.lists.specs.WrittenLaws.{take_written}
-use Rattle.lists.specs.FillingLoops.{Filling, filling_none, filling_more, filling_length, filling_all}
+use Rattle.lists.proofs.EachLaws.{drop_here, drop_all}
+use Rattle.lists.proofs.WrittenLaws.{take_written}
+use Rattle.lists.proofs.FillingLoops.{Filling, filling_none, filling_more, filling_length, filling_all}
 use Rattle.lists.specs.Memory.{Wrote}
 use Rattle.vectors_fields.specs.Fields.{low}
 

@@ -5,8 +5,8 @@ use Rattle.std.proofs.Common.{sym, ap, ◌∙◌, subst, arith, length-take, eq-
 use mathlib.Core.List.{List, [], ◌∷◌, ◌++◌, map}
 use Rattle.std.proofs.Math.ListN.{length, get_or}
 use Rattle.std.proofs.Math.Seq.{take-nil}
-use Rattle.lists.specs.EachLaws.{drop_here, drop_all}
-use Rattle.lists.specs.FillingLoops.{Filling, filling_none, filling_stored, filling_length, filling_all}
+use Rattle.lists.proofs.EachLaws.{drop_here, drop_all}
+use Rattle.lists.proofs.FillingLoops.{Filling, filling_none, filling_stored, filling_length, filling_all}
 use Rattle.lists.specs.Memory.{written, Wrote}
 use Rattle.lists.specs.Stored.{Stored}
 use Rattle.text_lines.specs.Lines.{pieces, onto}

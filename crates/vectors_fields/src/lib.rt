@@ -1,5 +1,6 @@
 // The fields of a line of text, with tabs between them, and the numbers in a field, for the program `vectors`.
 #![tactic(auto)]
+
 ghost use Rattle.std.specs.Prelude.{◌≡◌, false, map, ◌-◌, ◌≤◌, min, length, take, drop};
 ghost use Rattle.lists.specs.Memory.{Wrote};
 ghost use Rattle.lists.specs.Stored.{Stored};

@@ -3,7 +3,7 @@ use Rattle.std.specs.Prelude.{ℕ, ◌+◌, ◌≤◌, ◌<◌, ◌≡◌, Bool,
 use Rattle.std.proofs.Common.{sym, subst, ◌∙◌, inl, inr, append_assoc, append-nil, arith, length-set, length-append, get_or-set_same, get_or-set_other}
 use Rattle.std.proofs.Math.ListN.{get_or-append}
 use Rattle.std.proofs.lemmas.List.{get_or_at}
-use Rattle.lists.specs.OrderLaws.{eq_or_ne}
+use Rattle.lists.proofs.OrderLaws.{eq_or_ne}
 use Rattle.wordlist_build.specs.declared.Trie.{Trie}
 use Rattle.wordlist_build.specs.Arrays.{Roomy, pushed, pushes, moved}
 use Rattle.wordlist_build.specs.Rows.{Row, entry, no_row, Holds, new_row}

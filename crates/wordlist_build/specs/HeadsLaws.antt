@@ -8,12 +8,12 @@ use Rattle.std.proofs.Math.ListN.{length, get_or, length-append, get_or-append}
 use Rattle.std.proofs.Math.Seq.{get_or-append-add}
 use Rattle.std.proofs.Math.Dec.{eqb}
 use Rattle.lists.specs.Lists.{Among, same_list, lowest}
-use Rattle.lists.specs.AmongLaws.{among_at, among_index}
-use Rattle.lists.specs.LowestLaws.{lowest_found, lowest_some, lowest_is, lowest_most, lowest_same}
-use Rattle.lists.specs.OrderLaws.{never_true, same_truth, lt_or_le, not_both}
-use Rattle.lists.specs.SameLaws.{same_list_self, same_list_true}
+use Rattle.lists.proofs.AmongLaws.{among_at, among_index}
+use Rattle.lists.proofs.LowestLaws.{lowest_found, lowest_some, lowest_is, lowest_most, lowest_same}
+use Rattle.lists.proofs.OrderLaws.{never_true, same_truth, lt_or_le, not_both}
+use Rattle.lists.proofs.SameLaws.{same_list_self, same_list_true}
 use Rattle.wordlist.specs.PrefixTree.{Letter, whole, no_letter, letter_at, prefix_read_at}
-use Rattle.wordlist.specs.LettersLaws.{read_at, read_next, letter_among}
+use Rattle.wordlist.proofs.LettersLaws.{read_at, read_next, letter_among}
 use Rattle.wordlist_build.specs.Heads.{head_of, Present, Rooted, goes_on}
 
 -- Lists with one element at their ends.

@@ -4,9 +4,9 @@ use Rattle.std.proofs.Math.Path.{refl, sym}
 use Rattle.std.proofs.Common.{ap, subst, ◌∙◌, arith, eq-eqb, ne_eqb}
 use Rattle.std.proofs.Math.Bool.{true, false}
 use Rattle.lists.specs.Lists.{keeping}
-use Rattle.lists.specs.AmongLaws.{keeping_length}
+use Rattle.lists.proofs.AmongLaws.{keeping_length}
 use Rattle.alphabet.specs.Labels.{character, labels_of_character}
-use Rattle.alphabet.specs.LabelsLaws.{labels_from, labels_first, labels_here, labels_past}
+use Rattle.alphabet.proofs.LabelsLaws.{labels_from, labels_first, labels_here, labels_past}
 use Rattle.wordlist_build.specs.declared.Trie.{Trie}
 use Rattle.wordlist_build.specs.Arrays.{Roomy, pushed, pushes, if_label}
 use Rattle.wordlist_build.specs.ArraysLaws.{roomy_pushes, letters_pushes}

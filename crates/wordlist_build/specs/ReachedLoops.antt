@@ -4,12 +4,12 @@ use Rattle.std.proofs.Common.{sym, subst, ◌∙◌, ⊎_elim, arith, ne_eqb}
 use mathlib.Core.List.{List, [], ◌∷◌, ◌++◌, flat_map}
 use Rattle.std.proofs.lemmas.Bool.{eqb-false}
 use Rattle.lists.specs.Lists.{any}
-use Rattle.lists.specs.AmongLaws.{among_at, among_any}
-use Rattle.lists.specs.OrderLaws.{not_both, never_true, eq_or_ne}
+use Rattle.lists.proofs.AmongLaws.{among_at, among_any}
+use Rattle.lists.proofs.OrderLaws.{not_both, never_true, eq_or_ne}
 use Rattle.alphabet.specs.Labels.{labels_of_character}
-use Rattle.text_lines.specs.LinesLoops.{read_none, read_line, read_byte, read_all}
+use Rattle.text_lines.proofs.LinesLoops.{read_none, read_line, read_byte, read_all}
 use Rattle.wordlist.specs.Words.{words, unlabelled, strange}
-use Rattle.wordlist.specs.WordsLaws.{fault_exactly, foreign_bytes}
+use Rattle.wordlist.proofs.WordsLaws.{fault_exactly, foreign_bytes}
 use Rattle.wordlist.specs.PrefixTree.{prefixes_from, once}
 use Rattle.wordlist_build.specs.declared.Trie.{Trie}
 use Rattle.wordlist_build.specs.Arrays.{Roomy}

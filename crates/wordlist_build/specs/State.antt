@@ -3,10 +3,10 @@
 use Rattle.std.specs.Prelude.{ℕ, ◌≤◌, ◌<◌, ◌≡◌, false, length}
 use mathlib.Core.List.{List, [], ◌∷◌, ◌++◌, map, flat_map}
 use Rattle.lists.specs.Lists.{any, same_list}
-use Rattle.text_lines.specs.LinesLoops.{Read}
+use Rattle.text_lines.proofs.LinesLoops.{Read}
 use Rattle.wordlist.specs.Words.{words, list_fault, foreign}
 use Rattle.wordlist.specs.PrefixTree.{Prefix, whole, prefixes, Letter}
-use Rattle.wordlist.specs.LettersLaws.{letters_by}
+use Rattle.wordlist.proofs.LettersLaws.{letters_by}
 use Rattle.wordlist_build.specs.declared.Trie.{Trie}
 use Rattle.wordlist_build.specs.Arrays.{Roomy}
 use Rattle.wordlist_build.specs.Heads.{head_of, Present, Rooted}

@@ -8,14 +8,14 @@ use mathlib.Core.List.{List, [], ◌∷◌, ◌++◌, map, map-map, map-append, 
 use Rattle.std.proofs.Math.ListN.{get_or, length-map}
 use Rattle.std.proofs.Math.Dec.{eqb}
 use Rattle.lists.specs.Lists.{Among, any, same_list, lowest}
-use Rattle.lists.specs.AmongLaws.{any_among, among_any, any_append, among_at, among_left, among_append, among_flat, among_index, flat_among, flat_append, flat_one, map_at, map_same}
-use Rattle.lists.specs.LowestLaws.{lowest_same}
-use Rattle.lists.specs.OrderLaws.{not_both, never_true}
-use Rattle.lists.specs.SameLaws.{same_list_true, same_list_self}
+use Rattle.lists.proofs.AmongLaws.{any_among, among_any, any_append, among_at, among_left, among_append, among_flat, among_index, flat_among, flat_append, flat_one, map_at, map_same}
+use Rattle.lists.proofs.LowestLaws.{lowest_same}
+use Rattle.lists.proofs.OrderLaws.{not_both, never_true}
+use Rattle.lists.proofs.SameLaws.{same_list_true, same_list_self}
 use Rattle.alphabet.specs.Labels.{labels_of_character}
 use Rattle.wordlist.specs.PrefixTree.{Prefix, whole, same_prefix, prefixes_from, prefixes, once, Letter, letter_with, letters_for, no_letter, letter_at}
-use Rattle.wordlist.specs.PrefixesLaws.{same_prefix_true, same_prefix_self, among_prefixes, prefixes_more, among_once, once_among, occurs}
-use Rattle.wordlist.specs.LettersLaws.{letters_for_is, letters_by, letters_more, read_at, read_next, letter_among}
+use Rattle.wordlist.proofs.PrefixesLaws.{same_prefix_true, same_prefix_self, among_prefixes, prefixes_more, among_once, once_among, occurs}
+use Rattle.wordlist.proofs.LettersLaws.{letters_for_is, letters_by, letters_more, read_at, read_next, letter_among}
 use Rattle.wordlist_build.specs.declared.Trie.{Trie}
 use Rattle.wordlist_build.specs.Arrays.{Roomy, leads_on, pushes, moved, MarksEnds}
 use Rattle.wordlist_build.specs.ArraysLaws.{letters_pushes, holds_pushes, holds_moved}

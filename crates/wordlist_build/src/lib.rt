@@ -1,5 +1,6 @@
 // The prefix tree of a word list (document 02, T-05 and T-07), built in arrays as the list is read byte by byte.
 #![tactic(auto)]
+
 ghost use Rattle.std.specs.Prelude.{◌≡◌, ◌&&◌, false, ◌+◌, ◌<◌, ◌≤◌, length, eqb};
 ghost use Rattle.lists.specs.Lists.{lowest};
 ghost use Rattle.alphabet.specs.Labels.{labels_of_character};

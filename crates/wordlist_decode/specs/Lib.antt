@@ -1,2 +1,0 @@
-pub mod Demands
-pub mod Examples

@@ -2,7 +2,7 @@
 use Rattle.std.specs.Prelude.{ℕ, ◌<◌, ◌≤◌, ◌≡◌, true, false, not, ◌&&◌, ◌||◌, List, leb}
 use Rattle.std.proofs.Common.{sym, ap, ◌∙◌, eq-eqb, ne_eqb, le-leb}
 use Rattle.lists.specs.Lists.{in_range}
-use Rattle.lists.specs.RangeLaws.{range_below}
+use Rattle.lists.proofs.RangeLaws.{range_below}
 use Rattle.wordlist.specs.Words.{list_byte, unlabelled, strange}
 
 module _ (b : ℕ) where

@@ -7,10 +7,10 @@ use Rattle.std.proofs.Math.Bool.{true, or-true}
 use mathlib.Core.List.{List, [], ◌∷◌}
 use Rattle.lists.specs.Lists.{any, same_list}
 use Rattle.lists.specs.Options.{is_some, listed}
-use Rattle.lists.specs.SameLaws.{same_list_self, same_list_length}
+use Rattle.lists.proofs.SameLaws.{same_list_self, same_list_length}
 use Rattle.text_lines.specs.Lines.{both, lines_of}
 use Rattle.text_lines.specs.Places.{part, LineEnd}
-use Rattle.text_lines.specs.PlacesLaws.{part_length, lines_at, line_unclosed, lines_past}
+use Rattle.text_lines.proofs.PlacesLaws.{part_length, lines_at, line_unclosed, lines_past}
 use Rattle.wordlist.specs.Words.{repeated, list_fault}
 use Rattle.wordlist_lines.specs.Again.{Again}
 

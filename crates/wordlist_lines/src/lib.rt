@@ -1,5 +1,6 @@
 // Which word lists are turned away (document 02, T-05): by their bytes, by their lines, and by characters without a label.
 #![tactic(auto)]
+
 ghost use Rattle.std.specs.Prelude.{◌≡◌};
 ghost use Rattle.lists.specs.Lists.{any};
 ghost use Rattle.lists.specs.Each.{all};

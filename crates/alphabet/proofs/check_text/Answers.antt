@@ -2,7 +2,7 @@
 use mathlib.Core.Path.{sym, ◌∙◌}
 use borrow.Author.Rules.{rules}
 use borrow.Author.Tests.{not-true, not-false}
-use Rattle.alphabet.specs.AlphabetLaws.{refused_alphabet, refused_short, refused_long, refused_byte, text_passed}
+use Rattle.alphabet.proofs.AlphabetLaws.{refused_alphabet, refused_short, refused_long, refused_byte, text_passed}
 use Rattle.alphabet.proofs.check_text.Goals as goal
 
 pub returns-then-not-is_alphabet : goal.returns-then-not-is_alphabet

@@ -1,7 +1,7 @@
 -- `alphabet::is_alphabet` meets its contract, test by test.
 use mathlib.Core.Path.{sym, ◌∙◌}
 use borrow.Author.Rules.{rules}
-use Rattle.alphabet.specs.AlphabetLaws.{alphabet_short, alphabet_long, alphabet_sized}
+use Rattle.alphabet.proofs.AlphabetLaws.{alphabet_short, alphabet_long, alphabet_sized}
 use Rattle.alphabet.proofs.is_alphabet.Goals as goal
 
 pub returns-then-n-lt1 : goal.returns-then-n-lt1

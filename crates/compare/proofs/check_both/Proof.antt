@@ -7,10 +7,10 @@ use borrow.Author.Rules.{rules}
 use borrow.Author.Tests.{not-true, not-false}
 use Rattle.refusal.specs.Verdict.{first_refusal}
 use Rattle.automaton.specs.Form.{valid_form}
-use Rattle.automaton.specs.ValidLaws.{valid_at}
+use Rattle.automaton.proofs.ValidLaws.{valid_at}
 use Rattle.matrix.specs.Matrix.{Matrix, matrix}
 use Rattle.decode_checks.specs.Checks.{matrix_checks}
-use Rattle.comparison.specs.PassingLaws.{work_alone, bad_first, bad_second, unequal_alphabets, equal_alphabets}
+use Rattle.comparison.proofs.PassingLaws.{work_alone, bad_first, bad_second, unequal_alphabets, equal_alphabets}
 use Rattle.compare.proofs.check_both.Statement.{statement}
 use Rattle.compare.proofs.check_both.Tie as tie
 

@@ -4,11 +4,11 @@ use borrow.Author.Rules.{rules}
 use lib.ListN.{length}
 use Rattle.refusal.specs.declared.Checked.{Checked}
 use Rattle.refusal.specs.Verdict.{first_refusal}
-use Rattle.refusal.specs.ChecksLaws.{checks_refused, checks_passed}
+use Rattle.refusal.proofs.ChecksLaws.{checks_refused, checks_passed}
 use Rattle.matrix.specs.Matrix.{Matrix, matrix}
 use Rattle.comparison.specs.Comparison.{turned_away}
 use Rattle.comparison.specs.Checks.{compare_checks}
-use Rattle.comparison.specs.PassingLaws.{fits_both_exactly}
+use Rattle.comparison.proofs.PassingLaws.{fits_both_exactly}
 use Rattle.comparison.specs.Promise.{CompareAnswers}
 use Rattle.compare.proofs.compare_parts.Statement.{statement}
 use Rattle.compare.proofs.compare_parts.Tie as tie

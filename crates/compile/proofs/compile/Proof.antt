@@ -2,10 +2,10 @@
 use mathlib.Core.Path.{sym, ◌∙◌, subst}
 use lib.ListN.{length}
 use Rattle.refusal.specs.Fills.{reported, Fills}
-use Rattle.refusal.specs.ReportLaws.{fills_refused}
-use Rattle.alphabet.specs.AlphabetLaws.{text_alphabet}
+use Rattle.refusal.proofs.ReportLaws.{fills_refused}
+use Rattle.alphabet.proofs.AlphabetLaws.{text_alphabet}
 use Rattle.compile.specs.Call.{compile_call}
-use Rattle.compile.specs.CallLaws.{call_refused, call_passed}
+use Rattle.compile.proofs.CallLaws.{call_refused, call_passed}
 use borrow.Author.Rules.{rules}
 use Rattle.compile.proofs.compile.Statement.{statement}
 use Rattle.compile.proofs.compile.Tie as tie

@@ -3,10 +3,10 @@ use mathlib.Core.Path.{sym, ◌∙◌, subst}
 use lib.ListN.{length}
 use Rattle.refusal.specs.declared.Refusal.TheVariants.{Letters}
 use Rattle.refusal.specs.Fills.{reported, Fills}
-use Rattle.refusal.specs.ReportLaws.{fills_refused}
+use Rattle.refusal.proofs.ReportLaws.{fills_refused}
 use Rattle.regex_tree.specs.Parse.{expression_of}
 use Rattle.compile.specs.Call.{parsed_form}
-use Rattle.compile.specs.CallLaws.{text_refused, text_many, text_compilable, text_form}
+use Rattle.compile.proofs.CallLaws.{text_refused, text_many, text_compilable, text_form}
 use borrow.Author.Rules.{rules}
 use Rattle.compile.proofs.compile_text.Statement.{statement}
 use Rattle.compile.proofs.compile_text.Tie as tie

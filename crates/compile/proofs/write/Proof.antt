@@ -3,7 +3,7 @@ use mathlib.Core.Path.{◌≡◌, subst}
 use native.Mathlib.Omega.{arith}
 use lib.ListN.{length}
 use Rattle.refusal.specs.Fills.{reported, Fills}
-use Rattle.compile.specs.CallLaws.{buildable, told_call}
+use Rattle.compile.proofs.CallLaws.{buildable, told_call}
 use borrow.Author.Rules.{rules}
 use Rattle.compile.proofs.write.Statement.{statement}
 use Rattle.compile.proofs.write.Tie as tie

@@ -2,7 +2,7 @@
 use mathlib.Core.Path.{sym, ◌∙◌}
 use borrow.Author.Rules.{rules}
 use borrow.Author.Tests.{not-true, not-false}
-use Rattle.compile_list.specs.CallLaws.{refused_alphabet, refused_short, refused_long, refused_byte, refused_lines, refused_foreign, list_passed}
+use Rattle.compile_list.proofs.CallLaws.{refused_alphabet, refused_short, refused_long, refused_byte, refused_lines, refused_foreign, list_passed}
 use Rattle.compile_list.proofs.check_list.Statement.{statement}
 use Rattle.compile_list.proofs.check_list.Tie as tie
 

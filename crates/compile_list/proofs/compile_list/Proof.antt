@@ -3,9 +3,9 @@ use mathlib.Core.Path.{sym, subst, ◌∙◌}
 use lib.ListN.{length}
 use borrow.Author.Rules.{rules}
 use Rattle.refusal.specs.Fills.{reported, Fills}
-use Rattle.refusal.specs.ReportLaws.{fills_refused}
+use Rattle.refusal.proofs.ReportLaws.{fills_refused}
 use Rattle.compile_list.specs.Call.{compile_list_call}
-use Rattle.compile_list.specs.CallLaws.{passed_checks, call_refused, call_passed}
+use Rattle.compile_list.proofs.CallLaws.{passed_checks, call_refused, call_passed}
 use Rattle.compile_list.proofs.compile_list.Statement.{statement}
 use Rattle.compile_list.proofs.compile_list.Tie as tie
 

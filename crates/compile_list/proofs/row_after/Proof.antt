@@ -4,7 +4,7 @@ use mathlib.Core.Path.{refl}
 use mathlib.Core.Bool.{false}
 use native.Mathlib.Omega.{arith}
 use lib.ListN.{replicate}
-use Rattle.lists.specs.UptoLoops.{Upto, upto_none, upto_set}
+use Rattle.lists.proofs.UptoLoops.{Upto, upto_none, upto_set}
 use Rattle.compile_list.specs.FollowRows.{Follows}
 use Rattle.compile_list.proofs.row_after.Statement.{statement}
 use Rattle.compile_list.proofs.row_after.Tie as tie

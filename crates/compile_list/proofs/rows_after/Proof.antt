@@ -5,7 +5,7 @@ use mathlib.Core.List.{[]}
 use native.Mathlib.Omega.{arith}
 use lib.ListN.{length}
 use borrow.Author.Rules.{rules}
-use Rattle.lists.specs.UptoLoops.{Upto, upto_none, upto_set}
+use Rattle.lists.proofs.UptoLoops.{Upto, upto_none, upto_set}
 use Rattle.compile_list.specs.FollowRows.{Followers}
 use Rattle.compile_list.proofs.rows_after.Statement.{statement}
 use Rattle.compile_list.proofs.rows_after.Tie as tie

@@ -6,10 +6,10 @@ use lib.ListN.{length}
 use borrow.Author.Rules.{rules}
 use Rattle.refusal.specs.declared.Refusal.TheVariants.{Letters}
 use Rattle.refusal.specs.Fills.{reported, Fills}
-use Rattle.refusal.specs.ReportLaws.{fills_refused}
+use Rattle.refusal.proofs.ReportLaws.{fills_refused}
 use Rattle.wordlist.specs.Words.{words}
 use Rattle.compile_list.specs.Call.{formed}
-use Rattle.compile_list.specs.WrittenLaws.{too_many, written_form}
+use Rattle.compile_list.proofs.WrittenLaws.{too_many, written_form}
 use Rattle.compile_list.proofs.write.Statement.{statement}
 use Rattle.compile_list.proofs.write.Tie as tie
 

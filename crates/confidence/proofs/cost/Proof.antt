@@ -2,7 +2,7 @@
 use mathlib.Core.Path.{ap, ◌∙◌}
 use lib.ListN.{get_or}
 use borrow.Author.Rules.{rules}
-use Rattle.confidence.specs.TableLaws.{entry}
+use Rattle.confidence.proofs.TableLaws.{entry}
 use Rattle.confidence.proofs.cost.Statement.{statement}
 use Rattle.confidence.proofs.cost.Tie as tie
 

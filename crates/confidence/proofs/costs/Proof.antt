@@ -4,11 +4,11 @@ use mathlib.Core.List.{map}
 use lib.ListN.{length}
 use borrow.Author.Rules.{rules}
 use Rattle.refusal.specs.declared.Refusal.TheVariants.{OutputMemory}
-use Rattle.refusal.specs.ReportLaws.{fills_refused, fills_wrote}
+use Rattle.refusal.proofs.ReportLaws.{fills_refused, fills_wrote}
 use Rattle.lists.specs.Lists.{numbers}
 use Rattle.confidence_rule.specs.Cost.{largest, shift, cost_of}
 use Rattle.confidence.specs.Cost.{costs_call}
-use Rattle.confidence.specs.CostLaws.{costs_passed, costs_refused}
+use Rattle.confidence.proofs.CostLaws.{costs_passed, costs_refused}
 use Rattle.confidence.specs.Table.{all_costs}
 use Rattle.confidence.proofs.costs.Statement.{statement}
 use Rattle.confidence.proofs.costs.Tie as tie

@@ -4,9 +4,9 @@ use mathlib.Core.List.{map}
 use native.Mathlib.Omega.{arith}
 use lib.ListN.{length, length-map, get_or, drop}
 use borrow.Author.Rules.{rules}
-use Rattle.lists.specs.FillingLoops.{Filling, filling_none, filling_more, filling_length, filling_all}
+use Rattle.lists.proofs.FillingLoops.{Filling, filling_none, filling_more, filling_length, filling_all}
 use Rattle.confidence_rule.specs.Cost.{cost_of}
-use Rattle.confidence.specs.Loops.{cost_step, cost_end}
+use Rattle.confidence.proofs.Loops.{cost_step, cost_end}
 use Rattle.confidence.proofs.write_costs.Statement.{statement}
 use Rattle.confidence.proofs.write_costs.Tie as tie
 

@@ -2,7 +2,7 @@
 use mathlib.Core.Path.{sym, ap, ◌∙◌}
 use borrow.Author.Rules.{rules}
 use Rattle.confidence_rule.specs.Cost.{cost_of}
-use Rattle.confidence_rule.specs.Loops.{cost_more}
+use Rattle.confidence_rule.proofs.Loops.{cost_more}
 use Rattle.confidence_rule.proofs.cost.Statement.{statement}
 use Rattle.confidence_rule.proofs.cost.Tie as tie
 

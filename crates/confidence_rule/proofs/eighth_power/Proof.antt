@@ -3,7 +3,7 @@ use Prim.Native.Nat.{◌^◌}
 use mathlib.Core.Path.{◌≡◌, ◌∙◌}
 use native.Mathlib.Omega.{arith}
 use borrow.Author.Rules.{rules}
-use Rattle.confidence_rule.specs.Loops.{first_power, square_of, power_small}
+use Rattle.confidence_rule.proofs.Loops.{first_power, square_of, power_small}
 use Rattle.confidence_rule.proofs.eighth_power.Statement.{statement}
 use Rattle.confidence_rule.proofs.eighth_power.Tie as tie
 

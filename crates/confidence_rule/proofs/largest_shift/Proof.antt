@@ -3,7 +3,7 @@ use Prim.Native.Nat.{◌*◌, ◌^◌, ◌≤◌}
 use mathlib.Core.Path.{◌≡◌, refl, sym, ◌∙◌}
 use native.Mathlib.Omega.{arith}
 use Rattle.confidence_rule.specs.Cost.{largest, within, shift}
-use Rattle.confidence_rule.specs.Loops.{shift_found, shift_past, shift_one, limit_doubled, limit_small}
+use Rattle.confidence_rule.proofs.Loops.{shift_found, shift_past, shift_one, limit_doubled, limit_small}
 use Rattle.confidence_rule.proofs.largest_shift.Statement.{statement}
 use Rattle.confidence_rule.proofs.largest_shift.Tie as tie
 

@@ -7,8 +7,8 @@ use borrow.Author.Rules.{rules}
 use borrow.Author.Tests.{lt-ltb, le-ltb}
 use Rattle.refusal.specs.declared.Refusal.TheVariants.{OutputMemory, Label}
 use Rattle.refusal.specs.Verdict.{check}
-use Rattle.refusal.specs.VerdictLaws.{unless_holds, unless_second, unless_neither}
-use Rattle.refusal.specs.ReportLaws.{fills_refused, fills_wrote}
+use Rattle.refusal.proofs.VerdictLaws.{unless_holds, unless_second, unless_neither}
+use Rattle.refusal.proofs.ReportLaws.{fills_refused, fills_wrote}
 use Rattle.ctc.specs.Collapse.{collapse}
 use Rattle.ctc_labels.specs.Calls.{label_fault}
 use Rattle.ctc_collapse.specs.Calls.{collapse_call}

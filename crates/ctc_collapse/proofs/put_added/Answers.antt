@@ -1,6 +1,6 @@
 -- `ctc_collapse::put_added` meets its contract, a lemma for each arm.
 use borrow.Author.Rules.{rules}
-use Rattle.ctc_collapse.specs.Loops.{added_same, added_blank, added_new, added_room}
+use Rattle.ctc_collapse.proofs.Loops.{added_same, added_blank, added_new, added_room}
 use Rattle.ctc_collapse.proofs.put_added.Goals as goal
 
 pub returns-then-x-a : goal.returns-then-x-a

@@ -7,7 +7,7 @@ use borrow.Author.Rules.{rules}
 use borrow.Author.Tests.{not-true, not-false}
 use Rattle.lists.specs.Lists.{in_range}
 use Rattle.lists.specs.Each.{all}
-use Rattle.lists.specs.EachLaws.{all_more, all_fails, all_end}
+use Rattle.lists.proofs.EachLaws.{all_more, all_fails, all_end}
 use Rattle.ctc_labels.proofs.all_in_range.Goals as goal
 
 pub loop-i-init : goal.loop-i-init

@@ -3,7 +3,7 @@ use mathlib.Core.Path.{sym, ap, ◌∙◌}
 use mathlib.Core.Bool.{not}
 use borrow.Author.Rules.{rules}
 use borrow.Author.Tests.{not-true, not-false}
-use Rattle.ctc_labels.specs.CallsLaws.{fault_alphabet, fault_long, fault_labels}
+use Rattle.ctc_labels.proofs.CallsLaws.{fault_alphabet, fault_long, fault_labels}
 use Rattle.ctc_labels.proofs.has_fault.Goals as goal
 
 pub returns-then-not-in_range : goal.returns-then-not-in_range

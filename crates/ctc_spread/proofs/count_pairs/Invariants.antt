@@ -5,7 +5,7 @@ use native.Mathlib.Omega.{arith}
 use lib.ListN.{length, drop}
 use borrow.Author.Rules.{rules}
 use Rattle.ctc.specs.Spread.{pairs}
-use Rattle.ctc_spread.specs.Loops.{pairs_step, pairs_end}
+use Rattle.ctc_spread.proofs.Loops.{pairs_step, pairs_end}
 use Rattle.ctc_spread.proofs.count_pairs.Given as goal
 
 abbrev pub invariant-loop-i : goal.invariant-loop-i

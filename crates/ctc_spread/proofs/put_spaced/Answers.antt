@@ -2,7 +2,7 @@
 use native.Mathlib.Omega.{arith}
 use lib.ListN.{length-set}
 use borrow.Author.Rules.{rules}
-use Rattle.ctc_spread.specs.Loops.{spaced_same, spaced_other, room_same, room_other}
+use Rattle.ctc_spread.proofs.Loops.{spaced_same, spaced_other, room_same, room_other}
 use Rattle.ctc_spread.proofs.put_spaced.Goals as goal
 
 pub bounds-path-n : goal.bounds-path-n

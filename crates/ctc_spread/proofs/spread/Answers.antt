@@ -9,14 +9,14 @@ use borrow.Author.Rules.{rules}
 use borrow.Author.Tests.{lt-ltb, le-ltb}
 use Rattle.refusal.specs.declared.Refusal.TheVariants.{OutputMemory, Label}
 use Rattle.refusal.specs.Verdict.{check}
-use Rattle.refusal.specs.VerdictLaws.{unless_holds, unless_second, unless_neither}
-use Rattle.refusal.specs.ReportLaws.{fills_refused, fills_wrote}
+use Rattle.refusal.proofs.VerdictLaws.{unless_holds, unless_second, unless_neither}
+use Rattle.refusal.proofs.ReportLaws.{fills_refused, fills_wrote}
 use Rattle.ctc.specs.Spread.{spread}
-use Rattle.ctc.specs.SpreadLaws.{spread_length}
+use Rattle.ctc.proofs.SpreadLaws.{spread_length}
 use Rattle.ctc_labels.specs.Calls.{label_fault}
-use Rattle.ctc_labels.specs.CallsLaws.{faultless_labels}
+use Rattle.ctc_labels.proofs.CallsLaws.{faultless_labels}
 use Rattle.ctc_spread.specs.Calls.{spread_call}
-use Rattle.ctc_spread.specs.Loops.{few_pairs_in}
+use Rattle.ctc_spread.proofs.Loops.{few_pairs_in}
 use Rattle.ctc_spread.proofs.spread.Goals as goal
 
 pub overflow_add-word : goal.overflow_add-word

@@ -6,14 +6,14 @@ use borrow.Author.Rules.{rules}
 use borrow.Author.Tests.{not-true, not-false}
 use Rattle.refusal.specs.declared.Refusal.TheVariants.{BadForm}
 use Rattle.refusal.specs.Verdict.{first_refusal}
-use Rattle.refusal.specs.VerdictLaws.{first_holds, first_fails}
-use Rattle.refusal.specs.ChecksLaws.{checks_refused, checks_passed}
+use Rattle.refusal.proofs.VerdictLaws.{first_holds, first_fails}
+use Rattle.refusal.proofs.ChecksLaws.{checks_refused, checks_passed}
 use Rattle.refusal.specs.Report.{turned_away}
 use Rattle.automaton.specs.Form.{valid_form, alphabet_of, letters_of}
-use Rattle.automaton.specs.ValidLaws.{valid_at}
+use Rattle.automaton.proofs.ValidLaws.{valid_at}
 use Rattle.matrix.specs.Matrix.{Matrix, matrix}
 use Rattle.decode_checks.specs.Checks.{matrix_checks, decode_checks}
-use Rattle.decode_checks.specs.PassingLaws.{fits}
+use Rattle.decode_checks.proofs.PassingLaws.{fits}
 use Rattle.decode_valid.specs.Answers.{DecodeAnswers}
 use Rattle.decode_valid.specs.Lent.{Lent, rooms}
 use Rattle.decode.proofs.decode_parts.Statement.{statement}

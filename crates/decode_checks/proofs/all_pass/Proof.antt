@@ -6,7 +6,7 @@ use native.Mathlib.Omega.{arith}
 use lib.ListN.{length, drop}
 use Rattle.lists.specs.Each.{all}
 use Rattle.decode_checks.specs.Checks.{passes}
-use Rattle.decode_checks.specs.Loops.{decide_more, decide_end}
+use Rattle.decode_checks.proofs.Loops.{decide_more, decide_end}
 use Rattle.decode_checks.proofs.all_pass.Statement.{statement}
 use Rattle.decode_checks.proofs.all_pass.Tie as tie
 

@@ -7,7 +7,7 @@ use borrow.Author.Tests.{not-true, not-false}
 use Rattle.lists.specs.Each.{all}
 use Rattle.matrix.specs.Matrix.{Matrix}
 use Rattle.decode_checks.specs.Checks.{Rooms, matrix_fault, passes}
-use Rattle.decode_checks.specs.PassingLaws.{sized, needed_most, refused_matrix, refused_cost, refused_path, refused_word, refused_work, all_passed}
+use Rattle.decode_checks.proofs.PassingLaws.{sized, needed_most, refused_matrix, refused_cost, refused_path, refused_word, refused_work, all_passed}
 use Rattle.decode_checks.proofs.check_matrix.Statement.{statement}
 use Rattle.decode_checks.proofs.check_matrix.Tie as tie
 

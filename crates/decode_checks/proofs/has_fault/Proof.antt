@@ -5,7 +5,7 @@ use native.Mathlib.Nat.{mul-le-mul}
 use native.Mathlib.Omega.{arith}
 use borrow.Author.Rules.{rules}
 use Rattle.matrix.specs.Matrix.{Matrix}
-use Rattle.decode_checks.specs.PassingLaws.{fault_count, fault_width, fault_length}
+use Rattle.decode_checks.proofs.PassingLaws.{fault_count, fault_width, fault_length}
 use Rattle.decode_checks.proofs.has_fault.Statement.{statement}
 use Rattle.decode_checks.proofs.has_fault.Tie as tie
 

@@ -5,7 +5,7 @@ use native.Mathlib.Omega.{arith}
 use lib.Seq.{length-take-le}
 use borrow.Author.Rules.{rules}
 use Rattle.decode_valid.specs.Lent.{Lent}
-use Rattle.decode_valid.specs.PhasesLaws.{sized, nothing, ready, something}
+use Rattle.decode_valid.proofs.PhasesLaws.{sized, nothing, ready, something}
 use Rattle.decode_valid.proofs.decode_valid.Statement.{statement}
 use Rattle.decode_valid.proofs.decode_valid.Tie as tie
 

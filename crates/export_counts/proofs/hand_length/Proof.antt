@@ -5,7 +5,7 @@ use native.Mathlib.Omega.{arith}
 use borrow.Author.Rules.{rules}
 use Rattle.refusal.specs.Fills.{reported}
 use Rattle.export_counts.specs.Handed.{length_alone}
-use Rattle.export_counts.specs.HandedLaws.{hands_as}
+use Rattle.export_counts.proofs.HandedLaws.{hands_as}
 use Rattle.export_counts.proofs.hand_length.Statement.{statement}
 use Rattle.export_counts.proofs.hand_length.Tie as tie
 

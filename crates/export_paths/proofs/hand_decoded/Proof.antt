@@ -5,7 +5,7 @@ use native.Mathlib.Omega.{arith}
 use borrow.Author.Rules.{rules}
 use Rattle.answers.specs.Decoded.{reported}
 use Rattle.export_counts.specs.Handed.{price_and_length}
-use Rattle.export_counts.specs.HandedLaws.{hands_as}
+use Rattle.export_counts.proofs.HandedLaws.{hands_as}
 use Rattle.export_paths.proofs.hand_decoded.Statement.{statement}
 use Rattle.export_paths.proofs.hand_decoded.Tie as tie
 

@@ -5,7 +5,7 @@ use native.Mathlib.Omega.{arith}
 use borrow.Author.Rules.{rules}
 use Rattle.answers.specs.Reading.{reported}
 use Rattle.export_counts.specs.Handed.{price_and_lengths}
-use Rattle.export_counts.specs.HandedLaws.{hands_as}
+use Rattle.export_counts.proofs.HandedLaws.{hands_as}
 use Rattle.export_paths.proofs.hand_reading.Statement.{statement}
 use Rattle.export_paths.proofs.hand_reading.Tie as tie
 

@@ -3,7 +3,7 @@ use Prim.Native.Nat.{◌+◌, ◌-◌, ◌≤◌}
 use mathlib.Core.Bool.{false}
 use native.Mathlib.Omega.{arith}
 use lib.ListN.{replicate}
-use Rattle.lists.specs.MarksLaws.{iterations_none, iterations_more}
+use Rattle.lists.proofs.MarksLaws.{iterations_none, iterations_more}
 use Rattle.lists.specs.Marks.{Marks, Iterations}
 use Rattle.form_arcs.specs.Equal.{SharesAt}
 use Rattle.form_arcs.specs.EqualLoops.{equal_all}

@@ -1,6 +1,6 @@
 -- `form_arcs::mark_equal` meets its contract.
 use native.Mathlib.Omega.{arith}
-use Rattle.lists.specs.OrderLaws.{not_both}
+use Rattle.lists.proofs.OrderLaws.{not_both}
 use Rattle.form_arcs.specs.EqualLoops.{equal_marked, equal_not}
 use borrow.Author.Rules.{rules}
 use Rattle.form_arcs.proofs.mark_equal.Statement.{statement}

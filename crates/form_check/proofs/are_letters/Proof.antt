@@ -5,7 +5,7 @@ use native.Mathlib.Omega.{arith}
 use lib.ListN.{length, drop}
 use borrow.Author.Rules.{rules}
 use borrow.Author.Tests.{not-true, not-false}
-use Rattle.lists.specs.EachLaws.{all_more, all_fails, all_end}
+use Rattle.lists.proofs.EachLaws.{all_more, all_fails, all_end}
 use Rattle.lists.specs.Each.{all}
 use Rattle.automaton.specs.Form.{is_letter}
 use Rattle.form_check.proofs.are_letters.Statement.{statement}

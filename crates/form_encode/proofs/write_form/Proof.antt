@@ -8,8 +8,8 @@ use lib.Dec.{ltb}
 use borrow.Author.Rules.{rules}
 use borrow.Author.Tests.{lt-ltb, le-ltb}
 use Rattle.refusal.specs.declared.Refusal.TheVariants.{FormMemory}
-use Rattle.refusal.specs.VerdictLaws.{unless_holds, unless_fails, unless_none}
-use Rattle.refusal.specs.ReportLaws.{fills_refused, fills_wrote}
+use Rattle.refusal.proofs.VerdictLaws.{unless_holds, unless_fails, unless_none}
+use Rattle.refusal.proofs.ReportLaws.{fills_refused, fills_wrote}
 use Rattle.automaton.specs.Form.{encode}
 use Rattle.form_encode.specs.Call.{form_call}
 use Rattle.automaton.specs.Arrays.{arrayed}

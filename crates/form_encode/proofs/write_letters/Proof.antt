@@ -5,10 +5,10 @@ use mathlib.Core.List.{[], ◌∷◌, ◌++◌, map}
 use native.Mathlib.Omega.{arith}
 use lib.ListN.{length, take}
 use borrow.Author.Rules.{rules}
-use Rattle.lists.specs.FillingLoops.{Filling, filling_from, filling_more, filling_room, filling_length, filling_stored_all}
+use Rattle.lists.proofs.FillingLoops.{Filling, filling_from, filling_more, filling_room, filling_length, filling_stored_all}
 use Rattle.form_encode.specs.Parts.{letter_by, letters_by}
 use Rattle.form_encode.specs.PartsLaws.{letters_first}
-use Rattle.lists.specs.RemainingLoops.{from, map_here, map_past}
+use Rattle.lists.proofs.RemainingLoops.{from, map_here, map_past}
 use Rattle.form_encode.proofs.write_letters.Statement.{statement}
 use Rattle.form_encode.proofs.write_letters.Tie as tie
 

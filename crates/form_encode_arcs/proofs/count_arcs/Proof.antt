@@ -5,7 +5,7 @@ use mathlib.Core.List.{flat_map}
 use native.Mathlib.Omega.{arith}
 use lib.ListN.{length}
 use Rattle.form_encode_arcs.specs.Arcs.{letter_arcs_at, arcs_by}
-use Rattle.lists.specs.RemainingLoops.{from}
+use Rattle.lists.proofs.RemainingLoops.{from}
 use Rattle.form_encode_arcs.specs.Loops.{arcs_first, count_letter_arcs_here, count_letter_arcs_past}
 use Rattle.form_encode_arcs.proofs.count_arcs.Statement.{statement}
 use Rattle.form_encode_arcs.proofs.count_arcs.Tie as tie

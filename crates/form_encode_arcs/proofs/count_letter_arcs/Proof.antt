@@ -6,7 +6,7 @@ use lib.ListN.{length}
 use borrow.Author.Rules.{rules}
 use Rattle.lists.specs.Lists.{keep, numbers}
 use Rattle.automaton.specs.Arrays.{has}
-use Rattle.lists.specs.RemainingLoops.{from, from_first}
+use Rattle.lists.proofs.RemainingLoops.{from, from_first}
 use Rattle.form_encode_arcs.specs.Loops.{count_here, count_past}
 use Rattle.form_encode_arcs.proofs.count_letter_arcs.Statement.{statement}
 use Rattle.form_encode_arcs.proofs.count_letter_arcs.Tie as tie

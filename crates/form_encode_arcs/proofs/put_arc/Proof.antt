@@ -2,7 +2,7 @@
 use native.Mathlib.Omega.{arith}
 use borrow.Author.Rules.{rules}
 use Rattle.automaton.specs.Form.{arc_word}
-use Rattle.lists.specs.KeptLaws.{kept_stored, kept_absent, kept_room}
+use Rattle.lists.proofs.KeptLaws.{kept_stored, kept_absent, kept_room}
 use Rattle.form_encode_arcs.proofs.put_arc.Statement.{statement}
 use Rattle.form_encode_arcs.proofs.put_arc.Tie as tie
 

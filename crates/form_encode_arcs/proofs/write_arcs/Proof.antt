@@ -4,9 +4,9 @@ use mathlib.Core.Path.{subst}
 use mathlib.Core.List.{◌++◌, flat_map}
 use native.Mathlib.Omega.{arith}
 use lib.ListN.{take}
-use Rattle.lists.specs.FillingLoops.{Filling, filling_from, filling_stored, filling_room, filling_length, filling_stored_all}
+use Rattle.lists.proofs.FillingLoops.{Filling, filling_from, filling_stored, filling_room, filling_length, filling_stored_all}
 use Rattle.form_encode_arcs.specs.Arcs.{letter_arcs_at, arcs_by}
-use Rattle.lists.specs.RemainingLoops.{from, flat_here, flat_past}
+use Rattle.lists.proofs.RemainingLoops.{from, flat_here, flat_past}
 use Rattle.form_encode_arcs.specs.Loops.{arcs_first}
 use Rattle.form_encode_arcs.proofs.write_arcs.Statement.{statement}
 use Rattle.form_encode_arcs.proofs.write_arcs.Tie as tie

@@ -5,11 +5,11 @@ use mathlib.Core.List.{[], ◌++◌, map}
 use native.Mathlib.Omega.{arith}
 use lib.ListN.{take}
 use Rattle.lists.specs.Lists.{keep, keeping}
-use Rattle.lists.specs.FillingLoops.{Filling, filling_from, filling_stored, filling_room, filling_length, filling_stored_all}
+use Rattle.lists.proofs.FillingLoops.{Filling, filling_from, filling_stored, filling_room, filling_length, filling_stored_all}
 use Rattle.automaton.specs.Form.{arc_word}
 use Rattle.form_encode_arcs.specs.Arcs.{letter_arcs}
 use Rattle.automaton.specs.Arrays.{has}
-use Rattle.lists.specs.RemainingLoops.{from}
+use Rattle.lists.proofs.RemainingLoops.{from}
 use Rattle.form_encode_arcs.specs.Loops.{letter_first, letter_here, letter_past}
 use Rattle.form_encode_arcs.proofs.write_letter_arcs.Statement.{statement}
 use Rattle.form_encode_arcs.proofs.write_letter_arcs.Tie as tie

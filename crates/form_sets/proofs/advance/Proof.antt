@@ -5,7 +5,7 @@ use mathlib.Core.Bool.{false}
 use mathlib.Core.Logic.{⊎_elim}
 use native.Mathlib.Omega.{arith}
 use lib.ListN.{replicate}
-use Rattle.lists.specs.MarksLaws.{iterations_none, iterations_more}
+use Rattle.lists.proofs.MarksLaws.{iterations_none, iterations_more}
 use Rattle.lists.specs.Marks.{Marks, Iterations}
 use Rattle.automaton.specs.Form.{letters_of}
 use Rattle.form_sets.specs.Loops.{Left, left_beyond, left_out, all_left}

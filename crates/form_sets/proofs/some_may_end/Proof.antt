@@ -5,10 +5,10 @@ use mathlib.Core.Bool.{true, false}
 use mathlib.Core.Logic.{⊎_elim}
 use native.Mathlib.Omega.{arith}
 use lib.ListN.{get_or}
-use Rattle.lists.specs.OrderLaws.{not_both}
+use Rattle.lists.proofs.OrderLaws.{not_both}
 use Rattle.lists.specs.Marks.{Has}
 use Rattle.automaton.specs.Form.{letters_of, ends_of}
-use Rattle.automaton.specs.ValidLaws.{ends_letter}
+use Rattle.automaton.proofs.ValidLaws.{ends_letter}
 use borrow.Author.Count.{below_more}
 use Rattle.form_sets.proofs.some_may_end.Statement.{statement}
 use Rattle.form_sets.proofs.some_may_end.Tie as tie

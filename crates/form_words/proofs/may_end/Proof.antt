@@ -4,7 +4,7 @@ use mathlib.Core.Path.{sym, ap, ◌∙◌}
 use native.Mathlib.Omega.{arith}
 use borrow.Author.Rules.{rules}
 use Rattle.automaton.specs.Form.{ends_of}
-use Rattle.automaton.specs.ValidLaws.{may_be_last, accepts_empty}
+use Rattle.automaton.proofs.ValidLaws.{may_be_last, accepts_empty}
 use Rattle.form_words.proofs.may_end.Statement.{statement}
 use Rattle.form_words.proofs.may_end.Tie as tie
 

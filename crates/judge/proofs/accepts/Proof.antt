@@ -7,7 +7,7 @@ use lib.ListN.{length, drop}
 use borrow.Author.Rules.{rules}
 use Rattle.automaton.specs.Automaton.{Accepts}
 use Rattle.automaton.specs.Form.{view, alphabet_of}
-use Rattle.automaton.specs.ValidLaws.{valid_at, view_proper}
+use Rattle.automaton.proofs.ValidLaws.{valid_at, view_proper}
 use Rattle.form_sets.specs.Sets.{Advanced}
 use Rattle.form_sets.specs.Loops.{SpellsFrom, begin, set_more, set_end}
 use Rattle.judge.proofs.accepts.Statement.{statement}

@@ -7,9 +7,9 @@ use Rattle.refusal.specs.Verdict.{passed}
 use Rattle.answers.specs.Judgement.{Judgement, report}
 use Rattle.ctc_labels.specs.Calls.{label_fault}
 use Rattle.automaton.specs.Form.{valid_form}
-use Rattle.automaton.specs.ValidLaws.{valid_at}
+use Rattle.automaton.proofs.ValidLaws.{valid_at}
 use Rattle.judge.specs.Judge.{judged}
-use Rattle.judge.specs.JudgeLaws.{judged_invalid, judged_no_word, judged_word}
+use Rattle.judge.proofs.JudgeLaws.{judged_invalid, judged_no_word, judged_word}
 use borrow.Author.Rules.{rules}
 use Rattle.judge.proofs.judge.Statement.{statement}
 use Rattle.judge.proofs.judge.Tie as tie

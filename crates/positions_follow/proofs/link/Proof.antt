@@ -4,8 +4,8 @@ use mathlib.Core.Logic.{⊎_elim}
 use mathlib.Core.List.{[]}
 use native.Mathlib.Omega.{arith}
 use lib.ListN.{length}
-use Rattle.lists.specs.UptoLoops.{Upto, upto_none}
-use Rattle.positions_follow.specs.Loops.{Arcs, link_step, link_pass, link_all}
+use Rattle.lists.proofs.UptoLoops.{Upto, upto_none}
+use Rattle.positions_follow.proofs.Loops.{Arcs, link_step, link_pass, link_all}
 use Rattle.positions_follow.proofs.link.Statement.{statement}
 use Rattle.positions_follow.proofs.link.Tie as tie
 

@@ -4,8 +4,8 @@ use mathlib.Core.Bool.{false}
 use native.Mathlib.Omega.{arith}
 use lib.ListN.{length}
 use borrow.Author.Rules.{rules}
-use Rattle.lists.specs.UptoLoops.{Upto, upto_none}
-use Rattle.positions_follow.specs.Loops.{Either, unite_step, unite_all}
+use Rattle.lists.proofs.UptoLoops.{Upto, upto_none}
+use Rattle.positions_follow.proofs.Loops.{Either, unite_step, unite_all}
 use Rattle.positions_follow.proofs.unite.Statement.{statement}
 use Rattle.positions_follow.proofs.unite.Tie as tie
 

@@ -1,7 +1,7 @@
 -- `positions_letters::put_label` meets its contract.
 use borrow.Author.Rules.{rules}
 use mathlib.Core.Path.{refl}
-use Rattle.lists.specs.KeptLaws.{kept_stored, kept_absent, kept_room}
+use Rattle.lists.proofs.KeptLaws.{kept_stored, kept_absent, kept_room}
 use Rattle.positions_letters.proofs.put_label.Statement.{statement}
 use Rattle.positions_letters.proofs.put_label.Tie as tie
 

@@ -5,7 +5,7 @@ use mathlib.Core.List.{[], ◌++◌}
 use native.Mathlib.Omega.{arith}
 use lib.ListN.{length, take}
 use Rattle.lists.specs.Lists.{keeping}
-use Rattle.lists.specs.FillingLoops.{Filling, filling_from, filling_stored, filling_room, filling_length, filling_stored_all}
+use Rattle.lists.proofs.FillingLoops.{Filling, filling_from, filling_stored, filling_room, filling_length, filling_stored_all}
 use Rattle.positions.specs.Opened.{labels_of_set}
 use Rattle.regex_set.specs.Answers.{set_at}
 use Rattle.positions_letters.specs.LettersLaws.{passes, labels_from, labels_first, labels_here, labels_past}

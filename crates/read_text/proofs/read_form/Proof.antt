@@ -2,13 +2,13 @@
 use mathlib.Core.Path.{◌≡◌, sym, ap, ◌∙◌, subst}
 use lib.ListN.{length}
 use Rattle.refusal.specs.Verdict.{first_refusal}
-use Rattle.refusal.specs.ChecksLaws.{checks_refused, checks_passed}
+use Rattle.refusal.proofs.ChecksLaws.{checks_refused, checks_passed}
 use Rattle.refusal.specs.Report.{turned_away}
 use Rattle.automaton.specs.Form.{letters_of}
 use Rattle.matrix.specs.Matrix.{Matrix, matrix}
 use Rattle.decode_checks.specs.Checks.{matrix_checks}
 use Rattle.decode_checks.specs.Passing.{Fits}
-use Rattle.decode_checks.specs.PassingLaws.{fits}
+use Rattle.decode_checks.proofs.PassingLaws.{fits}
 use Rattle.decode_valid.specs.Lent.{Lent, rooms}
 use Rattle.read_valid.specs.Accepted.{ReadsAccepted}
 use borrow.Author.Rules.{rules}

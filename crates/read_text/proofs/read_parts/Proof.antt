@@ -5,7 +5,7 @@ use mathlib.Core.List.{List}
 use lib.ListN.{length}
 use lib.Seq.{length-take-le}
 use Rattle.refusal.specs.Fills.{reported as counted, Fills}
-use Rattle.automaton.specs.ValidLaws.{valid_at}
+use Rattle.automaton.proofs.ValidLaws.{valid_at}
 use Rattle.matrix.specs.Matrix.{Matrix, matrix}
 use Rattle.compile.specs.Call.{compile_call}
 use Rattle.decode_valid.specs.Lent.{Lent}

@@ -2,7 +2,7 @@
 use borrow.Author.Rules.{rules}
 use native.Mathlib.Omega.{arith}
 use mathlib.Core.Path.{ap, sym, ◌∙◌}
-use Rattle.text.specs.TextLaws.{byte_is}
+use Rattle.text.proofs.TextLaws.{byte_is}
 use Rattle.regex_count.specs.Parts.{closed}
 use Rattle.regex_count.specs.PartsLaws.{closed_is, closed_not}
 use Rattle.regex_count.proofs.closed.Statement.{statement}

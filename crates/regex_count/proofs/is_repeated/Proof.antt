@@ -3,7 +3,7 @@ use borrow.Author.Rules.{rules}
 use mathlib.Core.Path.{refl, ap, sym, ◌∙◌}
 use Rattle.text.specs.Bytes.{bytes}
 use Rattle.text.specs.Text.{one_of}
-use Rattle.text.specs.TextLaws.{next_of_at}
+use Rattle.text.proofs.TextLaws.{next_of_at}
 use Rattle.regex_count.proofs.is_repeated.Statement.{statement}
 use Rattle.regex_count.proofs.is_repeated.Tie as tie
 

@@ -2,7 +2,7 @@
 use borrow.Author.Rules.{rules}
 use native.Mathlib.Omega.{arith}
 use mathlib.Core.Path.{sym, ◌∙◌}
-use Rattle.text.specs.TextLaws.{byte_is}
+use Rattle.text.proofs.TextLaws.{byte_is}
 use Rattle.regex_repetition.specs.SignLaws.{modified_is, modified_not}
 use Rattle.regex_repetition.proofs.after_modifier.Statement.{statement}
 use Rattle.regex_repetition.proofs.after_modifier.Tie as tie

@@ -4,7 +4,7 @@ use native.Mathlib.Omega.{arith}
 use Prim.Native.Nat.{◌+◌}
 use mathlib.Core.Path.{sym, ◌∙◌}
 use lib.Seq.{length-take-le}
-use Rattle.text.specs.TextLaws.{part_rest}
+use Rattle.text.proofs.TextLaws.{part_rest}
 use Rattle.regex_repetition.specs.CountLaws.{counts_one, counts_two, counts_onward, counts_bad}
 use Rattle.regex_repetition.proofs.counts.Statement.{statement}
 use Rattle.regex_repetition.proofs.counts.Tie as tie

@@ -2,7 +2,7 @@
 use borrow.Author.Rules.{rules}
 use native.Mathlib.Omega.{arith}
 use mathlib.Core.Path.{sym, ◌∙◌}
-use Rattle.text.specs.TextLaws.{byte_is}
+use Rattle.text.proofs.TextLaws.{byte_is}
 use Rattle.regex_repetition.specs.SignLaws.{sign_star, sign_plus, sign_optional, sign_braces, sign_none}
 use Rattle.regex_repetition.proofs.sign.Statement.{statement}
 use Rattle.regex_repetition.proofs.sign.Tie as tie

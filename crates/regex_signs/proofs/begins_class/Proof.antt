@@ -3,7 +3,7 @@ use native.Mathlib.Omega.{arith}
 use Prim.Native.Char.{code}
 use mathlib.Core.Path.{sym, ap, ◌∙◌}
 use lib.Dec.{eqb}
-use Rattle.text.specs.TextLaws.{byte_is}
+use Rattle.text.proofs.TextLaws.{byte_is}
 use Rattle.regex_signs.specs.SignsLaws.{opens_not, opens_by}
 use borrow.Author.Rules.{rules}
 use Rattle.regex_signs.proofs.begins_class.Statement.{statement}

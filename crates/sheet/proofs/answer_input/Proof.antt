@@ -2,9 +2,9 @@
 use mathlib.Core.Path.{refl, sym, subst}
 use mathlib.Core.List.{[]}
 use borrow.Author.Rules.{rules}
-use Rattle.lists.specs.WrittenLaws.{written_none}
+use Rattle.lists.proofs.WrittenLaws.{written_none}
 use Rattle.sheet_read.specs.Promise.{Answers}
-use Rattle.sheet_read.specs.PromiseLaws.{answers}
+use Rattle.sheet_read.proofs.PromiseLaws.{answers}
 use Rattle.sheet.specs.declared.Input.TheVariants as input
 use Rattle.sheet.specs.Inputs.{Arrived, PrintsInput}
 use Rattle.sheet.proofs.answer_input.Statement.{statement}

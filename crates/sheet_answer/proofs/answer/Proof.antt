@@ -12,7 +12,7 @@ use Rattle.sheet_scan.specs.Answers.{Scans}
 use Rattle.sheet_lines.specs.Lines.{refusal_line}
 use Rattle.sheet_lines.specs.LengthsLaws.{refusal_short}
 use Rattle.sheet_read.specs.Answer.{PrintsReading}
-use Rattle.sheet_read.specs.PromiseLaws.{answers, answers_as}
+use Rattle.sheet_read.proofs.PromiseLaws.{answers, answers_as}
 use Rattle.sheet_answer.specs.Answer.{Prints}
 use Rattle.sheet_answer.specs.SheetsLaws.{Laid, laid_out, no_sheet}
 use Rattle.sheet_answer.proofs.answer.Statement.{statement}

@@ -3,8 +3,8 @@ use Prim.Native.Nat.{◌+◌, ◌-◌, ◌≤◌}
 use mathlib.Core.List.{[], ◌∷◌, ◌++◌}
 use native.Mathlib.Omega.{arith}
 use lib.ListN.{length, get_or, take, drop}
-use Rattle.lists.specs.EachLaws.{drop_here, drop_all}
-use Rattle.lists.specs.FillingLoops.{Filling, filling_from, filling_stored, filling_room, filling_length, filling_stored_all}
+use Rattle.lists.proofs.EachLaws.{drop_here, drop_all}
+use Rattle.lists.proofs.FillingLoops.{Filling, filling_from, filling_stored, filling_room, filling_length, filling_stored_all}
 use Rattle.sheet_decimal.proofs.put_bytes.Statement.{statement}
 use Rattle.sheet_decimal.proofs.put_bytes.Tie as tie
 

@@ -10,9 +10,9 @@ use Rattle.matrix.specs.Matrix.{Matrix, matrix}
 use Rattle.decode_valid.specs.Lent.{Lent}
 use Rattle.sheet_print.specs.Printed.{answer_lines}
 use Rattle.sheet_read.specs.Answer.{PrintsReading}
-use Rattle.sheet_read.specs.PromiseLaws.{answers}
-use Rattle.sheet_read.specs.LongestLaws.{reading_bound}
-use Rattle.sheet_read.specs.StepsLaws.{Sized, Said, said, said_shown, said_lines}
+use Rattle.sheet_read.proofs.PromiseLaws.{answers}
+use Rattle.sheet_read.proofs.LongestLaws.{reading_bound}
+use Rattle.sheet_read.proofs.StepsLaws.{Sized, Said, said, said_shown, said_lines}
 use Rattle.sheet_read.proofs.answer_reading.Statement.{statement}
 use Rattle.sheet_read.proofs.answer_reading.Tie as tie
 

@@ -3,7 +3,7 @@ use native.Mathlib.Omega.{arith}
 use Prim.Native.Nat.{◌-◌, ◌+◌}
 use mathlib.Core.Path.{◌≡◌, refl, sym, ◌∙◌}
 use lib.ListN.{length, drop}
-use Rattle.text.specs.TextLaws.{until_here, until_past, until_end}
+use Rattle.text.proofs.TextLaws.{until_here, until_past, until_end}
 use Rattle.text.specs.Places.{until}
 use Rattle.text.proofs.find.Goals as goal
 

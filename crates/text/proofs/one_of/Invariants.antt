@@ -4,7 +4,7 @@ use Prim.Native.Nat.{◌≤◌, ◌-◌}
 use mathlib.Core.Path.{◌≡◌, refl, sym, ◌∙◌}
 use lib.ListN.{length, drop}
 use Rattle.text.specs.Text.{one_of}
-use Rattle.text.specs.TextLaws.{one_here, one_past, one_end}
+use Rattle.text.proofs.TextLaws.{one_here, one_past, one_end}
 use Rattle.text.proofs.one_of.Given as goal
 
 abbrev pub invariant-loop-i : goal.invariant-loop-i

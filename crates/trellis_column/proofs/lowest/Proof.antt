@@ -4,7 +4,7 @@ use mathlib.Core.Path.{◌≡◌, refl, sym, ap, ◌∙◌, subst}
 use native.Mathlib.Omega.{arith}
 use lib.ListN.{get_or}
 use borrow.Author.Rules.{rules}
-use Rattle.lists.specs.LeastLaws.{least_start, least_more}
+use Rattle.lists.proofs.LeastLaws.{least_start, least_more}
 use Rattle.lists.specs.Least.{Least, Among}
 use Rattle.automaton.specs.Form.{view}
 use Rattle.trellis.specs.Reached.{entering}

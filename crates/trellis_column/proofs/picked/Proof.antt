@@ -4,7 +4,7 @@ use mathlib.Core.Path.{◌≡◌, refl, subst}
 use native.Mathlib.Omega.{arith}
 use lib.ListN.{get_or}
 use borrow.Author.Rules.{rules}
-use Rattle.lists.specs.MarksLaws.{iterations_none, iterations_more}
+use Rattle.lists.proofs.MarksLaws.{iterations_none, iterations_more}
 use Rattle.lists.specs.Marks.{Marks, Iterations}
 use Rattle.automaton.specs.Form.{view}
 use Rattle.trellis_members.specs.Members.{Members}

@@ -4,7 +4,7 @@ use mathlib.Core.Path.{sym, ◌∙◌}
 use native.Mathlib.Omega.{arith}
 use borrow.Author.Rules.{rules}
 use Rattle.automaton.specs.Form.{view}
-use Rattle.trellis.specs.ReachedLaws.{entering_blanks, entering_letter}
+use Rattle.trellis.proofs.ReachedLaws.{entering_blanks, entering_letter}
 use Rattle.trellis_steps.proofs.entering.Statement.{statement}
 use Rattle.trellis_steps.proofs.entering.Tie as tie
 

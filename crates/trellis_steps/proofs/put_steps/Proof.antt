@@ -4,8 +4,8 @@ use mathlib.Core.Path.{refl, sym, subst}
 use native.Mathlib.Omega.{arith}
 use Rattle.lists.specs.Marks.{Marks}
 use Rattle.automaton.specs.Form.{view}
-use Rattle.trellis.specs.ExtendedLaws.{at_letter}
-use Rattle.trellis.specs.ReachedLaws.{entering_blanks}
+use Rattle.trellis.proofs.ExtendedLaws.{at_letter}
+use Rattle.trellis.proofs.ReachedLaws.{entering_blanks}
 use Rattle.trellis_steps.specs.Steps.{KeptIn, Following}
 use Rattle.trellis_steps.specs.Loops.{entering_high, kept_one, steps_put}
 use borrow.Author.Rules.{rules}

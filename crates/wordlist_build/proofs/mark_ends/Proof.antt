@@ -4,7 +4,7 @@ use mathlib.Core.Path.{◌∙◌}
 use mathlib.Core.Bool.{false}
 use native.Mathlib.Omega.{arith}
 use borrow.Author.Rules.{rules}
-use Rattle.lists.specs.UptoLoops.{Upto, upto_none, upto_set}
+use Rattle.lists.proofs.UptoLoops.{Upto, upto_none, upto_set}
 use Rattle.wordlist_build.specs.Loops.{Mark}
 use Rattle.wordlist_build.proofs.mark_ends.Statement.{statement}
 use Rattle.wordlist_build.proofs.mark_ends.Tie as tie

@@ -3,7 +3,7 @@ use Prim.Native.Nat.{◌≤◌, ◌+◌, ◌-◌}
 use mathlib.Core.Path.{sym, ◌∙◌}
 use native.Mathlib.Omega.{arith}
 use borrow.Author.Rules.{rules}
-use Rattle.lists.specs.LowestLaws.{Seeking, seeking_first, seeking_more, seeking_found, seeking_none}
+use Rattle.lists.proofs.LowestLaws.{Seeking, seeking_first, seeking_more, seeking_found, seeking_none}
 use Rattle.wordlist_build.specs.Arrays.{leads_on}
 use Rattle.wordlist_build.proofs.next_letter.Statement.{statement}
 use Rattle.wordlist_build.proofs.next_letter.Tie as tie

@@ -6,9 +6,9 @@ use mathlib.Core.List.{◌∷◌, [], ◌++◌}
 use lib.ListN.{length}
 use borrow.Author.Rules.{rules}
 use Rattle.lists.specs.Lists.{lowest}
-use Rattle.lists.specs.LowestLaws.{lowest_most}
+use Rattle.lists.proofs.LowestLaws.{lowest_most}
 use Rattle.alphabet.specs.Labels.{labels_of_character}
-use Rattle.alphabet.specs.LabelsLaws.{labels_few}
+use Rattle.alphabet.proofs.LabelsLaws.{labels_few}
 use Rattle.wordlist_build.specs.Arrays.{Roomy, leads_on, pushes}
 use Rattle.wordlist_build.specs.ArraysLaws.{roomy_pushes, roomy_moved}
 use Rattle.wordlist_build.specs.State.{State}

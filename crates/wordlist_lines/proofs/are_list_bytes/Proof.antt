@@ -6,7 +6,7 @@ use lib.ListN.{length, drop}
 use borrow.Author.Rules.{rules}
 use borrow.Author.Tests.{not-true, not-false}
 use Rattle.lists.specs.Each.{all}
-use Rattle.lists.specs.EachLaws.{all_more, all_fails, all_end}
+use Rattle.lists.proofs.EachLaws.{all_more, all_fails, all_end}
 use Rattle.wordlist.specs.Words.{list_byte}
 use Rattle.wordlist_lines.proofs.are_list_bytes.Statement.{statement}
 use Rattle.wordlist_lines.proofs.are_list_bytes.Tie as tie

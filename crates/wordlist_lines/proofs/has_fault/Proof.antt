@@ -4,7 +4,7 @@ use mathlib.Core.Path.{◌≡◌, refl, sym, subst, ◌∙◌}
 use native.Mathlib.Omega.{arith}
 use lib.ListN.{length, drop}
 use borrow.Author.Rules.{rules}
-use Rattle.text.specs.TextLaws.{part_rest}
+use Rattle.text.proofs.TextLaws.{part_rest}
 use Rattle.text_lines.specs.Places.{part}
 use Rattle.wordlist.specs.Words.{list_fault}
 use Rattle.wordlist_lines.specs.Again.{Again}

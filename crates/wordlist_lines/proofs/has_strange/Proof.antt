@@ -5,7 +5,7 @@ use native.Mathlib.Omega.{arith}
 use lib.ListN.{length, drop}
 use borrow.Author.Rules.{rules}
 use Rattle.lists.specs.Lists.{any}
-use Rattle.lists.specs.AmongLaws.{any_more, any_found, any_end}
+use Rattle.lists.proofs.AmongLaws.{any_more, any_found, any_end}
 use Rattle.wordlist.specs.Words.{strange}
 use Rattle.wordlist_lines.proofs.has_strange.Statement.{statement}
 use Rattle.wordlist_lines.proofs.has_strange.Tie as tie

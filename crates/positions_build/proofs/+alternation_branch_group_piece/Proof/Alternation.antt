@@ -4,7 +4,7 @@ use native.Mathlib.Omega.{arith}
 use lib.ListN.{get_or}
 use borrow.Author.Rules.{rules}
 use Rattle.regex_tree.specs.Parse.{m_branch}
-use Rattle.text.specs.TextLaws.{byte_is}
+use Rattle.text.proofs.TextLaws.{byte_is}
 use Rattle.positions_build.specs.MadeLaws.{parsed_part, branch_found}
 use Rattle.positions_build.specs.BranchLaws.{branch_room, alternation_found, alternation_room, alternation_returns_branch, alternation_returns_choice}
 use Prim.Native.Nat.{ℕ}

@@ -3,7 +3,7 @@ use mathlib.Core.Path.{◌≡◌, sym, ◌∙◌}
 use native.Mathlib.Omega.{arith}
 use lib.ListN.{get_or}
 use borrow.Author.Rules.{rules}
-use Rattle.text.specs.TextLaws.{byte_is}
+use Rattle.text.proofs.TextLaws.{byte_is}
 use Rattle.positions_build.specs.PieceLaws.{set_found, set_room, deep, content_found, content_within, content_room, group_returns_set, group_returns_content}
 use Prim.Native.Nat.{ℕ}
 use Rattle.positions_build.proofs.group.Reads as group

@@ -2,7 +2,7 @@
 use mathlib.Core.Path.{◌∙◌}
 use native.Mathlib.Omega.{arith}
 use borrow.Author.Rules.{rules}
-use Rattle.lists.specs.WrittenLaws.{stored_size}
+use Rattle.lists.proofs.WrittenLaws.{stored_size}
 use Rattle.positions_build.specs.PiecesLaws.{group_found}
 use Rattle.positions_build.specs.PieceLaws.{few_copies, group_room, count_found, more_left, left_room, piece_returns_last, piece_returns_more}
 use Prim.Native.Nat.{ℕ}

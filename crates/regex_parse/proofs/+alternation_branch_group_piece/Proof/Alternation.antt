@@ -4,7 +4,7 @@ use Prim.Native.Nat.{ℕ}
 use native.Mathlib.Omega.{arith}
 use borrow.Author.Rules.{rules}
 use Rattle.regex_tree.specs.Parse.{m_branch}
-use Rattle.text.specs.TextLaws.{byte_is}
+use Rattle.text.proofs.TextLaws.{byte_is}
 use Rattle.regex_count.specs.Parts.{add}
 use Rattle.regex_parse.specs.PartsLaws.{Found, part_found}
 use Rattle.regex_parse.specs.CycleLaws.{alternation_refused, alternation_alone, alternation_more}

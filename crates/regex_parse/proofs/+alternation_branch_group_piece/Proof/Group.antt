@@ -3,7 +3,7 @@ use mathlib.Core.Path.{sym, ap, ◌∙◌}
 use Prim.Native.Nat.{ℕ}
 use native.Mathlib.Omega.{arith}
 use borrow.Author.Rules.{rules}
-use Rattle.text.specs.TextLaws.{byte_is}
+use Rattle.text.proofs.TextLaws.{byte_is}
 use Rattle.regex_count.specs.Parts.{closed}
 use Rattle.regex_parse.specs.CycleLaws.{group_set, group_deep, group_closed}
 use Rattle.regex_parse.proofs.group.Reads as group

@@ -1,0 +1,3 @@
+pub mod LabelsLaws
+pub mod AlphabetLaws
+pub mod Examples

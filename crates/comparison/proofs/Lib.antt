@@ -1,0 +1,5 @@
+pub mod PassingLaws
+pub mod ExchangeLaws
+pub mod BoundsLaws
+pub mod Demands
+pub mod Examples

@@ -1,0 +1,4 @@
+pub mod Meaning
+pub mod WrittenLaws
+pub mod CallLaws
+pub mod Examples

@@ -1,0 +1,4 @@
+pub mod CostLaws
+pub mod TableLaws
+pub mod Loops
+pub mod Examples

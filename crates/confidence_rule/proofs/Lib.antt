@@ -1,0 +1,4 @@
+pub mod Examples
+pub mod Rule
+pub mod Never
+pub mod Loops

@@ -1,0 +1,3 @@
+pub mod CollapseLaws
+pub mod Examples
+pub mod SpreadLaws

@@ -1,0 +1,3 @@
+pub mod PassingLaws
+pub mod Loops
+pub mod Examples

@@ -1,0 +1,3 @@
+pub mod AnswersLaws
+pub mod DemandLaws
+pub mod PhasesLaws

@@ -1,0 +1,4 @@
+pub mod PathsLaws
+pub mod MatrixLaws
+pub mod ColumnLaws
+pub mod Examples

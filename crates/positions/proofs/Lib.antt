@@ -1,0 +1,10 @@
+pub mod Opening
+pub mod LettersLaws
+pub mod InsideLaws
+pub mod WalksLaws
+pub mod Exact
+pub mod EquationsLaws
+pub mod CompiledLaws
+pub mod Examples
+pub mod MarkedLaws
+pub mod FirstLast

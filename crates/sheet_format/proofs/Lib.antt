@@ -1,0 +1,5 @@
+pub mod Examples
+pub mod CostLaws
+pub mod ColumnLinesLaws
+pub mod LimitsLaws
+pub mod PartsLaws

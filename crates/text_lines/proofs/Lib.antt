@@ -1,0 +1,4 @@
+pub mod LinesLaws
+pub mod PlacesLaws
+pub mod LinesLoops
+pub mod Examples

@@ -1,0 +1,11 @@
+pub mod GraphLaws
+pub mod ImpossibleLaws
+pub mod CostToGoLaws
+pub mod ExtendedLaws
+pub mod Examples
+pub mod AcceptedLaws
+pub mod BeginningLaws
+pub mod TraceLaws
+pub mod OutcomeLaws
+pub mod CellsLaws
+pub mod ReachedLaws

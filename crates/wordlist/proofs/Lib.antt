@@ -1,0 +1,5 @@
+pub mod PrefixesLaws
+pub mod LettersLaws
+pub mod Exact
+pub mod WordsLaws
+pub mod Examples
