@@ -1,0 +1,14 @@
+-- `form_starts::arc_starts` meets its contract: the starts noted so far are right, and the sources passed are below i.
+use Prim.Native.Nat.{ℕ, ◌≤◌, ◌<◌, ◌-◌}
+use mathlib.Core.Path.{◌≡◌, refl, ◌∙◌}
+use native.Mathlib.Omega.{arith}
+use lib.ListN.{length, get_or, length-set}
+use Rattle.form_starts.specs.Starts.{StartsAt}
+use Rattle.form_starts.specs.Loops.{Passed, skipped_starts, starts_passed, starts_more}
+use Rattle.form_starts.proofs.arc_starts.Given as goal
+
+abbrev pub invariant-loop-i : goal.invariant-loop-i
+invariant-loop-i l = (l.i ≤ 129) × (length l.s ≡ 129) × Passed l.form l.i l.n × ((j : ℕ) → j < l.i → StartsAt l.form j (get_or l.s j 0))
+
+abbrev pub decreases-loop-i : goal.decreases-loop-i
+decreases-loop-i l = 129 - l.i
