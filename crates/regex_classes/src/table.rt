@@ -1,11 +1,11 @@
 // The twelve classes of characters by name, with their members in the POSIX locale as ranges of bytes (document 02, T-01).
 
 // The bytes from the first to the second.
-#[derive(Drop)]
+#[derive(Clone, Copy)]
 pub struct Span(pub u8, pub u8);
 
 // A class: its name is the first `size` bytes of `name`, its ranges are the first `used` of `ranges`.
-#[derive(Drop)]
+#[derive(Clone, Copy)]
 pub struct Class {
     pub name: [u8; 6],
     pub size: usize,

@@ -5,19 +5,8 @@ use Rattle.lists.specs.Lists.{numbers}
 use Rattle.regex_tree.specs.Classes.{classes}
 use Rattle.regex_classes.specs.Table.{is_row, agrees}
 use borrow.Author.Rules.{rules}
-use Rattle.regex_classes.proofs.look_up.Statement.{statement}
-use Rattle.regex_classes.proofs.look_up.Tie as tie
+use Rattle.regex_classes.proofs.look_up.Goals as goal
 
-search-requires : tie.Need-search-requires
+pub search-requires : goal.search-requires
 unfolding agrees is_row classes all numbers
-search-requires c κs = refl
-
-returns : tie.Need-returns
-returns c = search rules
-
-pub look-up-spec : {M : Type 1} → statement M
-look-up-spec =
-    tie.close
-    (tie.spec
-    search-requires
-    returns)
+search-requires c = refl
