@@ -27,8 +27,8 @@ loop-i-preserved c =
     let f = c.args.form.now in
     let valid = c.requires in
     let l = c.loop-i in
-    let r = c.skip_Below.result in
-    let b : StartsAt f l.i r = skipped_starts f valid l.i l.n r l.invariant.2 c.skip_Below.ensures in
+    let r = c.skip_below-n.result in
+    let b : StartsAt f l.i r = skipped_starts f valid l.i l.n r l.invariant.2 c.skip_below-n.ensures in
     (omega arith, length-set l.s l.i r ∙ l.invariant.1, starts_passed f valid l.i r b, starts_more f l.s l.i r l.invariant.1 (omega arith) l.invariant.3 b)
 
 pub returns : goal.returns
