@@ -11,7 +11,7 @@ use borrow.Author.Tests.{le-leb, lt-leb, leb-true}
 use Rattle.lists.proofs.EachLaws.{drop_here, drop_all}
 use Rattle.lists.proofs.OrderLaws.{and_right, and_both}
 use Rattle.refusal.specs.declared.Refusal.TheVariants as refusal
-use Rattle.regex_tree.specs.Tree.{Count, between}
+use Rattle.regex_tree.specs.Tree.{between}
 use Rattle.text.specs.Text.{split}
 use Rattle.text.specs.Places.{until}
 use Rattle.lists.specs.Cases.{provided}
