@@ -10,13 +10,13 @@ pub loop-k-init : goal.loop-k-init
 loop-k-init c = (omega arith, λ k h. absurd (omega arith))
 
 pub overflow_add-a : goal.overflow_add-a
-overflow_add-a c = omega (arith, c.well-formed, c.loop-k.invariant.0, c.loop-k-test.true)
+overflow_add-a c = omega (arith, c.well_formed, c.loop-k.invariant.0, c.loop-k-test.true)
 
 pub target-requires : goal.target-requires
 target-requires c = omega (arith, c.loop-k-test.true)
 
 pub overflow_add-b : goal.overflow_add-b
-overflow_add-b c = omega (arith, c.well-formed, c.loop-k-test.true)
+overflow_add-b c = omega (arith, c.well_formed, c.loop-k-test.true)
 
 pub target-requires-in-loop-k : goal.target-requires-in-loop-k
 target-requires-in-loop-k c = omega (arith, c.loop-k-test.true)
