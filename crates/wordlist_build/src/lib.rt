@@ -15,7 +15,7 @@ use numbers::{either, narrow_byte};
 // it, the head of its own prefix, and whether a word ends with it. The head of a prefix is the number of its first letter, 0 for the empty
 // prefix. `at` is the head of what has been read of the line. If there are more than 127 letters, so says `letters`, and the arrays mean
 // nothing.
-#[derive(Drop)]
+#[derive(Clone, Copy)]
 pub struct Trie {
     pub letters: usize,
     pub at: u8,

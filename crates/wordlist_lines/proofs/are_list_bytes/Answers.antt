@@ -1,11 +1,6 @@
 -- `wordlist_lines::are_list_bytes` meets its contract: what is left of the list decides.
-use Prim.Native.Nat.{◌≤◌, ◌-◌}
-use mathlib.Core.Path.{◌≡◌, refl, sym, ◌∙◌}
+use mathlib.Core.Path.{refl, sym, ◌∙◌}
 use native.Mathlib.Omega.{arith}
-use lib.ListN.{length, drop}
-use borrow.Author.Rules.{rules}
-use borrow.Author.Tests.{not-true, not-false}
-use Rattle.lists.specs.Each.{all}
 use Rattle.lists.proofs.EachLaws.{all_more, all_fails, all_end}
 use Rattle.wordlist.specs.Words.{list_byte}
 use Rattle.wordlist_lines.proofs.are_list_bytes.Goals as goal

@@ -1,11 +1,7 @@
 -- `wordlist_lines::comes_again` meets its contract: what is right from `at` on is right of the whole rest.
-use Prim.Native.Nat.{◌≤◌, ◌-◌}
 use mathlib.Core.Path.{sym, ◌∙◌}
-use mathlib.Core.Bool.{Bool, true, false}
+use mathlib.Core.Bool.{true, false}
 use native.Mathlib.Omega.{arith}
-use lib.ListN.{length, drop}
-use borrow.Author.Rules.{rules}
-use Rattle.wordlist_lines.specs.Again.{Again}
 use Rattle.wordlist_lines.specs.FaultLaws.{again_none, again_unclosed, again_here, again_later}
 use Rattle.wordlist_lines.proofs.comes_again.Goals as goal
 

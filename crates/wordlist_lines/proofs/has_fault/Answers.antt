@@ -1,12 +1,9 @@
 -- `wordlist_lines::has_fault` meets its contract: the lines from `at` on decide.
-use Prim.Native.Nat.{◌≤◌, ◌+◌, ◌-◌}
-use mathlib.Core.Path.{◌≡◌, refl, sym, subst, ◌∙◌}
+use Prim.Native.Nat.{◌+◌}
+use mathlib.Core.Path.{refl, sym, subst, ◌∙◌}
 use native.Mathlib.Omega.{arith}
-use lib.ListN.{length, drop}
-use borrow.Author.Rules.{rules}
 use Rattle.text.proofs.TextLaws.{part_rest}
 use Rattle.text_lines.specs.Places.{part}
-use Rattle.wordlist.specs.Words.{list_fault}
 use Rattle.wordlist_lines.specs.Again.{Again}
 use Rattle.wordlist_lines.specs.FaultLaws.{fault_unclosed, fault_empty, fault_again, fault_later, fault_none}
 use Rattle.wordlist_lines.proofs.has_fault.Goals as goal

@@ -1,7 +1,6 @@
 -- `wordlist_lines::is_strange` meets its contract, test by test.
 use mathlib.Core.Path.{ap, ◌∙◌}
 use lib.Dec.{eqb}
-use borrow.Author.Rules.{rules}
 use Rattle.wordlist_lines.specs.BytesLaws.{newline_not_strange, strange_unlabelled}
 use Rattle.wordlist_lines.proofs.is_strange.Goals as goal
 
