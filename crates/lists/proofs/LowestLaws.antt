@@ -1,5 +1,5 @@
 -- Laws of the lowest number that passes a test, and of the loop that looks for it.
-use Rattle.std.specs.Prelude.{ℕ, ◌+◌, ◌<◌, ◌≤◌, ◌≡◌, refl, Bool, true, false, ◌⊎◌, List, [], ◌∷◌, get_or}
+use Rattle.std.specs.Prelude.{ℕ, ◌+◌, ◌<◌, ◌≤◌, ◌≡◌, refl, Bool, true, false, List, [], ◌∷◌, get_or}
 use Rattle.std.proofs.Common.{sym, ap, subst, ◌∙◌, inl, ⊎_elim, arith}
 use Rattle.lists.specs.Lists.{Among, keep, keeping, numbers, lowest, Ascending}
 use Rattle.lists.proofs.AmongLaws.{keep_among, among_keep, keep_same, each_among}

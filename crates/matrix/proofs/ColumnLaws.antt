@@ -1,5 +1,5 @@
 -- Laws: the costs of one column, as a part of the matrix's list.
-use Rattle.std.specs.Prelude.{ℕ, ◌+◌, ◌*◌, ◌-◌, ◌<◌, ◌≤◌, ◌≡◌, List, length, get_or, take, drop}
+use Rattle.std.specs.Prelude.{ℕ, ◌+◌, ◌*◌, ◌-◌, ◌<◌, ◌≤◌, ◌≡◌, length, get_or, take, drop}
 use Rattle.std.proofs.Common.{sym, ap, ◌∙◌, arith, mul-le-mul_right}
 use Rattle.lists.proofs.PartLaws.{part_at, part_length}
 use Rattle.matrix.specs.Matrix.{Matrix, ColumnOf}

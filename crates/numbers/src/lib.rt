@@ -52,16 +52,6 @@ pub fn least_size(x: usize, y: usize) -> usize
     x
 }
 
-// The lesser of two words.
-pub fn least_word(x: u32, y: u32) -> u32
-    ensures { result ≡ min x y }
-{
-    if y < x {
-        return y;
-    }
-    x
-}
-
 // The greater of two sizes.
 pub fn greatest_size(x: usize, y: usize) -> usize
     ensures { result ≡ max x y }

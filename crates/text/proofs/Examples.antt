@@ -1,7 +1,7 @@
 -- The words on texts, at their limits: quoted bytes, the front of a text, the first sign, digits and their value, computed.
 use Rattle.std.specs.Prelude.{ℕ, ◌≡◌, refl, true, false, List, [], ◌∷◌, map}
 use Prim.Native.Char.{code}
-use Rattle.std.proofs.Math.Option.{Option, some, none}
+use Rattle.std.proofs.Math.Option.{some, none}
 use Rattle.text.specs.Bytes.{bytes}
 use Rattle.text.specs.Text.{one_of, next, next_of, rest, split}
 use Rattle.text.specs.Places.{until, place}

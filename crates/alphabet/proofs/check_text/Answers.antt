@@ -1,7 +1,5 @@
 -- `alphabet::check_text` meets its contract: the first check that holds, or none.
 use mathlib.Core.Path.{sym, ◌∙◌}
-use borrow.Author.Rules.{rules}
-use borrow.Author.Tests.{not-true, not-false}
 use Rattle.alphabet.proofs.AlphabetLaws.{refused_alphabet, refused_short, refused_long, refused_byte, text_passed}
 use Rattle.alphabet.proofs.check_text.Goals as goal
 

@@ -1,11 +1,9 @@
 -- `alphabet::count_labels` meets its contract: those counted and those from x on are all.
-use Prim.Native.Nat.{◌≤◌, ◌+◌, ◌-◌}
-use mathlib.Core.Path.{◌≡◌, ap}
+use mathlib.Core.Path.{ap}
 use native.Mathlib.Omega.{arith}
 use lib.ListN.{length}
-use borrow.Author.Rules.{rules}
 use Rattle.alphabet.specs.Labels.{labels_of_character}
-use Rattle.alphabet.proofs.LabelsLaws.{labels_from, labels_first, counting_more, counting_end}
+use Rattle.alphabet.proofs.LabelsLaws.{labels_first, counting_more, counting_end}
 use Rattle.alphabet.proofs.count_labels.Goals as goal
 
 pub loop-x-init : goal.loop-x-init

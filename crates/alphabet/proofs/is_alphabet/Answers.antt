@@ -1,6 +1,5 @@
 -- `alphabet::is_alphabet` meets its contract, test by test.
 use mathlib.Core.Path.{sym, ◌∙◌}
-use borrow.Author.Rules.{rules}
 use Rattle.alphabet.proofs.AlphabetLaws.{alphabet_short, alphabet_long, alphabet_sized}
 use Rattle.alphabet.proofs.is_alphabet.Goals as goal
 

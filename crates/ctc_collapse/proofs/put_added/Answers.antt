@@ -1,5 +1,4 @@
 -- `ctc_collapse::put_added` meets its contract, a lemma for each arm.
-use borrow.Author.Rules.{rules}
 use Rattle.ctc_collapse.proofs.Loops.{added_same, added_blank, added_new, added_room}
 use Rattle.ctc_collapse.proofs.put_added.Goals as goal
 

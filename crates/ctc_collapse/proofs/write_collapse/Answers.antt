@@ -1,9 +1,9 @@
 -- `ctc_collapse::write_collapse` meets its contract: what is written, and what the rest of the path adds after the last label, make the
 -- whole.
-use Prim.Native.Nat.{◌≤◌, ◌+◌, ◌-◌}
+use Prim.Native.Nat.{◌+◌}
 use mathlib.Core.Path.{subst}
 use native.Mathlib.Omega.{arith}
-use lib.ListN.{length, get_or, drop}
+use lib.ListN.{get_or, drop}
 use Rattle.lists.proofs.FillingLoops.{Filling, filling_none, filling_stored, filling_room, filling_length, filling_all}
 use Rattle.ctc.specs.Collapse.{collapse}
 use Rattle.ctc.proofs.CollapseLaws.{after, collapse_after, collapse_shorter}

@@ -1,14 +1,10 @@
 -- `ctc_collapse::write_collapse` meets its contract: what is written, and what the rest of the path adds after the last label, make the
 -- whole.
-use Prim.Native.Nat.{◌≤◌, ◌+◌, ◌-◌}
-use mathlib.Core.Path.{subst}
-use native.Mathlib.Omega.{arith}
-use lib.ListN.{length, get_or, drop}
-use Rattle.lists.proofs.FillingLoops.{Filling, filling_none, filling_stored, filling_room, filling_length, filling_all}
+use Prim.Native.Nat.{◌≤◌, ◌-◌}
+use lib.ListN.{length, drop}
+use Rattle.lists.proofs.FillingLoops.{Filling}
 use Rattle.ctc.specs.Collapse.{collapse}
-use Rattle.ctc.proofs.CollapseLaws.{after, collapse_after, collapse_shorter}
-use Rattle.ctc_collapse.specs.Added.{added}
-use Rattle.ctc_collapse.proofs.Loops.{after_step, after_end}
+use Rattle.ctc.proofs.CollapseLaws.{after}
 use Rattle.ctc_collapse.proofs.write_collapse.Given as goal
 
 abbrev pub invariant-loop-i : goal.invariant-loop-i

@@ -1,12 +1,7 @@
 -- `ctc_labels::all_in_range` meets its contract: what is left of the list decides.
-use Prim.Native.Nat.{◌≤◌, ◌-◌}
-use mathlib.Core.Path.{◌≡◌, refl, sym, ◌∙◌}
+use mathlib.Core.Path.{refl, sym, ◌∙◌}
 use native.Mathlib.Omega.{arith}
-use lib.ListN.{length, drop}
-use borrow.Author.Rules.{rules}
-use borrow.Author.Tests.{not-true, not-false}
 use Rattle.lists.specs.Lists.{in_range}
-use Rattle.lists.specs.Each.{all}
 use Rattle.lists.proofs.EachLaws.{all_more, all_fails, all_end}
 use Rattle.ctc_labels.proofs.all_in_range.Goals as goal
 

@@ -1,8 +1,6 @@
 -- `ctc_labels::has_fault` meets its contract, a lemma for each answer.
 use mathlib.Core.Path.{sym, ap, ◌∙◌}
 use mathlib.Core.Bool.{not}
-use borrow.Author.Rules.{rules}
-use borrow.Author.Tests.{not-true, not-false}
 use Rattle.ctc_labels.proofs.CallsLaws.{fault_alphabet, fault_long, fault_labels}
 use Rattle.ctc_labels.proofs.has_fault.Goals as goal
 

@@ -1,11 +1,8 @@
 -- `ctc_spread::count_pairs` meets its contract: the pairs counted and those of the rest make the whole.
 use Prim.Native.Nat.{◌+◌, ◌≤◌, ◌-◌}
 use mathlib.Core.Path.{◌≡◌}
-use native.Mathlib.Omega.{arith}
 use lib.ListN.{length, drop}
-use borrow.Author.Rules.{rules}
 use Rattle.ctc.specs.Spread.{pairs}
-use Rattle.ctc_spread.proofs.Loops.{pairs_step, pairs_end}
 use Rattle.ctc_spread.proofs.count_pairs.Given as goal
 
 abbrev pub invariant-loop-i : goal.invariant-loop-i

@@ -1,7 +1,6 @@
 -- `ctc_spread::put_spaced` meets its contract, a lemma for each arm.
 use native.Mathlib.Omega.{arith}
 use lib.ListN.{length-set}
-use borrow.Author.Rules.{rules}
 use Rattle.ctc_spread.proofs.Loops.{spaced_same, spaced_other, room_same, room_other}
 use Rattle.ctc_spread.proofs.put_spaced.Goals as goal
 

@@ -1,8 +1,8 @@
 -- `ctc_spread::write_spread` meets its contract: what is written, and the spread of the rest after the last letter, make the whole.
-use Prim.Native.Nat.{◌≤◌, ◌+◌, ◌-◌}
+use Prim.Native.Nat.{◌+◌}
 use mathlib.Core.Path.{subst}
 use native.Mathlib.Omega.{arith}
-use lib.ListN.{length, get_or, drop}
+use lib.ListN.{get_or, drop}
 use Rattle.lists.proofs.FillingLoops.{Filling, filling_none, filling_stored, filling_room, filling_length, filling_all}
 use Rattle.ctc.specs.Spread.{spread}
 use Rattle.ctc.proofs.SpreadLaws.{spread_after, spread_from}

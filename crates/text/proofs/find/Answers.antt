@@ -1,10 +1,6 @@
 -- `text::find` meets its contract: the first such sign from i on is the first one from the start on.
-use native.Mathlib.Omega.{arith}
-use Prim.Native.Nat.{◌-◌, ◌+◌}
-use mathlib.Core.Path.{◌≡◌, refl, sym, ◌∙◌}
-use lib.ListN.{length, drop}
+use mathlib.Core.Path.{refl, sym, ◌∙◌}
 use Rattle.text.proofs.TextLaws.{until_here, until_past, until_end}
-use Rattle.text.specs.Places.{until}
 use Rattle.text.proofs.find.Goals as goal
 
 pub loop-i-init : goal.loop-i-init

@@ -1,9 +1,7 @@
 -- `text::find` meets its contract: the first such sign from i on is the first one from the start on.
-use native.Mathlib.Omega.{arith}
 use Prim.Native.Nat.{◌-◌, ◌+◌}
-use mathlib.Core.Path.{◌≡◌, refl, sym, ◌∙◌}
+use mathlib.Core.Path.{◌≡◌}
 use lib.ListN.{length, drop}
-use Rattle.text.proofs.TextLaws.{until_here, until_past, until_end}
 use Rattle.text.specs.Places.{until}
 use Rattle.text.proofs.find.Given as goal
 

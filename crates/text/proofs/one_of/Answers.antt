@@ -1,9 +1,6 @@
 -- `text::one_of` meets its contract: the signs from i on decide.
 use native.Mathlib.Omega.{arith}
-use Prim.Native.Nat.{◌≤◌, ◌-◌}
-use mathlib.Core.Path.{◌≡◌, refl, sym, ◌∙◌}
-use lib.ListN.{length, drop}
-use Rattle.text.specs.Text.{one_of}
+use mathlib.Core.Path.{refl, sym, ◌∙◌}
 use Rattle.text.proofs.TextLaws.{one_here, one_past, one_end}
 use Rattle.text.proofs.one_of.Goals as goal
 

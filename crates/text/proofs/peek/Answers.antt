@@ -1,5 +1,4 @@
 -- `text::peek` meets its contract.
-use borrow.Author.Rules.{rules}
 use mathlib.Core.Path.{sym}
 use lib.ListN.{get_or-eq_default}
 use Rattle.text.proofs.peek.Goals as goal

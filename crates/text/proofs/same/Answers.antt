@@ -1,9 +1,6 @@
 -- `text::same` meets its contract: the bytes from i on decide.
 use native.Mathlib.Omega.{arith}
-use Prim.Native.Nat.{◌≤◌, ◌-◌}
-use mathlib.Core.Path.{◌≡◌, refl, sym, ◌∙◌}
-use lib.ListN.{length, drop}
-use Rattle.lists.specs.Lists.{same_list}
+use mathlib.Core.Path.{refl, sym, ◌∙◌}
 use Rattle.lists.proofs.SameLaws.{same_list_length, same_list_here, same_list_not, same_list_end}
 use Rattle.text.proofs.same.Goals as goal
 

@@ -1,10 +1,8 @@
 -- `text::same` meets its contract: the bytes from i on decide.
-use native.Mathlib.Omega.{arith}
 use Prim.Native.Nat.{◌≤◌, ◌-◌}
-use mathlib.Core.Path.{◌≡◌, refl, sym, ◌∙◌}
+use mathlib.Core.Path.{◌≡◌}
 use lib.ListN.{length, drop}
 use Rattle.lists.specs.Lists.{same_list}
-use Rattle.lists.proofs.SameLaws.{same_list_length, same_list_here, same_list_not, same_list_end}
 use Rattle.text.proofs.same.Given as goal
 
 abbrev pub invariant-loop-i : goal.invariant-loop-i

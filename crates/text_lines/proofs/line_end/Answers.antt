@@ -1,5 +1,4 @@
 -- `text_lines::line_end` meets its contract: the first newline is the line's end.
-use borrow.Author.Rules.{rules}
 use Rattle.text_lines.proofs.PlacesLaws.{line_found}
 use Rattle.text_lines.proofs.line_end.Goals as goal
 
