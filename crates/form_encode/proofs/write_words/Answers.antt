@@ -1,0 +1,70 @@
+-- `form_encode::write_words` meets its contract: the head, the letters and the arcs are the form's words.
+use mathlib.Core.Path.{◌≡◌, sym, ap, ◌∙◌}
+use mathlib.Core.List.{List, ◌∷◌, ◌++◌}
+use mathlib.Core.Bool.{Bool}
+use Prim.Native.Nat.{ℕ}
+use native.Mathlib.Omega.{arith}
+use lib.ListN.{length-set}
+use borrow.Author.Rules.{rules}
+use Rattle.automaton.specs.Form.{encode, head_word}
+use Rattle.form_encode_arcs.specs.Arcs.{arcs_by}
+use Rattle.automaton.specs.Arrays.{arrayed}
+use Rattle.form_encode.specs.Parts.{letters_by}
+use Rattle.form_encode.specs.PartsLaws.{arrayed_words}
+use Rattle.form_encode.specs.WholeLaws.{length_words, letters_room, arcs_room, all_written}
+use Rattle.form_encode.proofs.write_words.Goals as goal
+
+pub bounds-form-0 : goal.bounds-form-0
+bounds-form-0 c =
+    let s = c.args in
+    let h = c.requires.follow_in_bounds in
+    omega (arith, length_words s.k s.letters s.empty s.labels.now s.first.now s.last.now s.follow.now)
+
+-- the form is the head that was written, the letters and the arcs
+words :
+    (k letters : ℕ) (empty : Bool) (labels : List ℕ) (first last : List Bool) (follow : List (List Bool)) (head : ℕ)
+    → head ≡ head_word letters empty k
+    → encode k (arrayed letters empty labels first last follow) ≡ head ∷ (letters_by letters labels first last ++ arcs_by letters follow)
+words k letters empty labels first last follow head e =
+    let rest = letters_by letters labels first last ++ arcs_by letters follow in
+    arrayed_words empty labels first last follow letters k
+    ∙ ap (λ h. h ∷ rest) (sym e)
+
+pub write_letters-n-requires : goal.write_letters-n-requires
+write_letters-n-requires c =
+    let s = c.args in
+    let h = c.requires.sized in
+    let whole = encode s.k (arrayed s.letters s.empty s.labels.now s.first.now s.last.now s.follow.now) in
+    let letters = letters_by s.letters s.labels.now s.first.now s.last.now in record {
+      letters_in_bounds = (h.labelled, h.begun, h.ended);
+      last_in_bounds = letters_room whole c.head_word.result letters (arcs_by s.letters s.follow.now) s.form.now (words s.k s.letters s.empty s.labels.now s.first.now s.last.now s.follow.now c.head_word.result c.head_word.ensures) c.requires.follow_in_bounds;
+    }
+
+pub write_arcs-requires : goal.write_arcs-requires
+write_arcs-requires c =
+    let s = c.args in
+    let h = c.requires.sized in
+    let whole = encode s.k (arrayed s.letters s.empty s.labels.now s.first.now s.last.now s.follow.now) in
+    let letters = letters_by s.letters s.labels.now s.first.now s.last.now in
+    let w = c.write_letters-n in (
+      h.few,
+      h.followers,
+      arcs_room whole c.head_word.result letters (arcs_by s.letters s.follow.now) s.form.now (words s.k s.letters s.empty s.labels.now s.first.now s.last.now s.follow.now c.head_word.result c.head_word.ensures) c.requires.follow_in_bounds
+          w.new.form w.result w.ensures,
+    )
+
+pub shape_of-form : goal.shape_of-form
+shape_of-form c =
+    c.write_arcs.auto.form
+    ∙ c.write_letters-n.auto.form
+    ∙ length-set c.args.form.now 0 c.head_word.result
+
+pub returns : goal.returns
+returns c =
+    let s = c.args in
+    let whole = encode s.k (arrayed s.letters s.empty s.labels.now s.first.now s.last.now s.follow.now) in
+    let letters = letters_by s.letters s.labels.now s.first.now s.last.now in
+    let w = c.write_letters-n in
+    let a = c.write_arcs in
+    all_written whole c.head_word.result letters (arcs_by s.letters s.follow.now) s.form.now (words s.k s.letters s.empty s.labels.now s.first.now s.last.now s.follow.now c.head_word.result c.head_word.ensures) c.requires.follow_in_bounds
+    w.new.form w.result w.ensures a.new.form a.result a.ensures
