@@ -6,7 +6,6 @@ use Rattle.lists.specs.Memory.{written}
 use Rattle.sheet_format.specs.Sheet.{fitting, width_or}
 use Rattle.sheet_format.specs.ColumnLines.{columns_in}
 use Rattle.sheet_columns.specs.Storing.{Spoilt}
-use Rattle.sheet_columns.specs.declared.Columns.TheVariants as columns
 use Rattle.sheet_columns.specs.declared.Body.{Body}
 use Rattle.sheet_columns.specs.declared.Body.TheVariants as body
 
