@@ -1,10 +1,10 @@
 -- `sheet_decimal::put_bytes` meets its contract: the memory before place n, what is written and the bytes still to come are the whole.
-use Prim.Native.Nat.{◌+◌, ◌-◌, ◌≤◌}
+use Prim.Native.Nat.{◌+◌}
 use mathlib.Core.List.{[], ◌∷◌, ◌++◌}
 use native.Mathlib.Omega.{arith}
-use lib.ListN.{length, get_or, take, drop}
+use lib.ListN.{get_or, take, drop}
 use Rattle.lists.proofs.EachLaws.{drop_here, drop_all}
-use Rattle.lists.proofs.FillingLoops.{Filling, filling_from, filling_stored, filling_room, filling_length, filling_stored_all}
+use Rattle.lists.proofs.FillingLoops.{filling_from, filling_stored, filling_room, filling_length, filling_stored_all}
 use Rattle.sheet_decimal.proofs.put_bytes.Goals as goal
 
 pub loop-i-init : goal.loop-i-init

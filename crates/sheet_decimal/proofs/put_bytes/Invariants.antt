@@ -1,10 +1,8 @@
 -- `sheet_decimal::put_bytes` meets its contract: the memory before place n, what is written and the bytes still to come are the whole.
-use Prim.Native.Nat.{◌+◌, ◌-◌, ◌≤◌}
-use mathlib.Core.List.{[], ◌∷◌, ◌++◌}
-use native.Mathlib.Omega.{arith}
-use lib.ListN.{length, get_or, take, drop}
-use Rattle.lists.proofs.EachLaws.{drop_here, drop_all}
-use Rattle.lists.proofs.FillingLoops.{Filling, filling_from, filling_stored, filling_room, filling_length, filling_stored_all}
+use Prim.Native.Nat.{◌-◌, ◌≤◌}
+use mathlib.Core.List.{◌++◌}
+use lib.ListN.{length, take, drop}
+use Rattle.lists.proofs.FillingLoops.{Filling}
 use Rattle.sheet_decimal.proofs.put_bytes.Given as goal
 
 abbrev pub invariant-loop-i : goal.invariant-loop-i
