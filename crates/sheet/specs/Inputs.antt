@@ -1,11 +1,14 @@
 -- What the program promises of its input: how much of the buffer was read, and what is printed for it. No contract can say which bytes
 -- are read.
-use Rattle.std.specs.Prelude.{◌≡◌, List, [], ℕ, take}
-use Rattle.io.specs.Counts.{IsPrefixLen}
+use Rattle.std.specs.Prelude.{◌≡◌, ◌≤◌, List, [], ℕ, length, take}
 use Rattle.text.specs.Bytes.{bytes}
 use Rattle.sheet_answer.specs.Answer.{Prints}
 use Rattle.sheet.specs.declared.Input.{Input}
 use Rattle.sheet.specs.declared.Input.TheVariants as input
+
+-- `&xs[..n]` is within bounds and has n bytes. The second part follows from the first, so that a proof of `&xs[..n]` finds both.
+abbrev pub IsPrefixLen : ℕ → List ℕ → Type 0
+IsPrefixLen n xs = (n ≤ length xs) × (n ≡ length (take n xs))
 
 -- The number counts bytes at the start of the buffer. A read that fails leaves nothing to count.
 abbrev pub Arrived : Input → List ℕ → Type 0

@@ -1,7 +1,6 @@
 // The sheet program (document 01, "Confidences and the sheet program"): a sheet on standard input, its lines on standard output.
 // After a read that fails nothing is printed: what has come so far may be a shorter sheet, whose reading would be wrong. A write that
-// fails ends the program. Both give exit code 0: the answer is what is printed. If nobody reads the output pipe any more, the system ends
-// the program as it ends any other.
+// fails ends the program, also one to a pipe that nobody reads any more. Both give exit code 0: the answer is what is printed.
 #![tactic(auto)]
 
 ghost use Rattle.std.specs.Prelude.{◌<◌, ◌≤◌, length};
@@ -10,7 +9,7 @@ ghost use Rattle.sheet_read.specs.Answer.{longest};
 ghost use Rattle.sheet_read.specs.Promise.{Answers};
 ghost use Rattle.sheet.specs.Inputs.{Arrived, PrintsInput};
 
-use libc::{STDIN_FILENO, STDOUT_FILENO};
+use std::io::{Read, Write};
 
 // How many bytes were read until the input ended or the buffer was full; or a read failed.
 #[derive(Drop)]
@@ -20,20 +19,17 @@ enum Input {
 }
 
 // Reads to the end of the input. There is room for one byte more than a sheet may have, so that a byte too many is seen.
-fn read_input(fd: i32, buffer: &mut [u8]) -> Input
+fn read_input<R: Read>(stdin: &mut R, buffer: &mut [u8]) -> Input
     requires { most_bytes < length buffer.old }
     ensures { Arrived result buffer.new }
 {
     let mut done = 0;
     while done < buffer.len() {
-        let got = libc::read(fd, &mut buffer[done..]);
-        if got < 0 {
-            return Input::Failed;
+        match stdin.read(&mut buffer[done..]) {
+            Ok(0) => return Input::Whole(done),
+            Ok(got) => done += got,
+            Err(_) => return Input::Failed,
         }
-        if got == 0 {
-            return Input::Whole(done);
-        }
-        done += got as usize;
     }
     Input::Whole(done)
 }
@@ -50,10 +46,10 @@ fn answer_input(input: Input, buffer: &[u8], out: &mut [u8]) -> usize
     }
 }
 
-fn main() {
+fn main(rt: HostRuntime) {
     let mut buffer = [0u8; 65536];
     let mut out = [0u8; 1031];
-    let input = read_input(STDIN_FILENO, &mut buffer);
+    let input = read_input(&mut rt.stdin(), &mut buffer);
     let n = answer_input(input, &buffer, &mut out);
-    io::write_all(STDOUT_FILENO, &out[..n]);
+    let _ = rt.stdout().write_all(&out[..n]);
 }

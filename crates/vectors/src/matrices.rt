@@ -1,20 +1,27 @@
 // Decode, Read and Compare.
 use super::{parts, show};
+use std::io;
 
 // Prints the last words of the lent work memory: field k has its length, and field n how many are printed.
-fn last(line: &[u8], k: usize, n: usize, work: &[u32; 65281]) {
+fn last(rt: &impl Print, line: &[u8], k: usize, n: usize, work: &[u32; 65281]) -> io::Result<()> {
     let room = parts::room(line, k, 65281);
-    show::words(work, room - parts::room(line, n, room), room);
+    show::words(rt, work, room - parts::room(line, n, room), room)
 }
 
 // Prints the lent path, word and work memory.
-fn memory(line: &[u8], path: &[u8; 256], word: &[u8; 256], work: &[u32; 65281]) {
-    show::memory(path, parts::size(line, 5));
-    show::memory(word, parts::size(line, 6));
-    last(line, 7, 8, work);
+fn memory(
+    rt: &impl Print,
+    line: &[u8],
+    path: &[u8; 256],
+    word: &[u8; 256],
+    work: &[u32; 65281],
+) -> io::Result<()> {
+    show::memory(rt, path, parts::size(line, 5))?;
+    show::memory(rt, word, parts::size(line, 6))?;
+    last(rt, line, 7, 8, work)
 }
 
-pub fn decode(line: &[u8], costs: &[u32], form: &[u32]) {
+pub fn decode(rt: &impl Print, line: &[u8], costs: &[u32], form: &[u32]) -> io::Result<()> {
     let mut path = [9u8; 256];
     let mut word = [9u8; 256];
     let mut work = [9u32; 65281];
@@ -32,13 +39,13 @@ pub fn decode(line: &[u8], costs: &[u32], form: &[u32]) {
         &mut work[..k],
         &mut counts,
     );
-    show::field(line, 1);
-    show::path(refused, counts[0], counts[1]);
-    memory(line, &path, &word, &work);
+    show::field(rt, line, 1)?;
+    show::path(rt, refused, counts[0], counts[1])?;
+    memory(rt, line, &path, &word, &work)
 }
 
 // With memory for a form of 300 words.
-pub fn read(line: &[u8], costs: &[u32]) {
+pub fn read(rt: &impl Print, line: &[u8], costs: &[u32]) -> io::Result<()> {
     let mut form = [9u32; 300];
     let mut path = [9u8; 256];
     let mut word = [9u8; 256];
@@ -59,14 +66,20 @@ pub fn read(line: &[u8], costs: &[u32]) {
         &mut work[..k],
         &mut counts,
     );
-    show::field(line, 1);
-    show::path(refused, counts[0], counts[1]);
-    show::form(refused, counts[2]);
-    memory(line, &path, &word, &work);
+    show::field(rt, line, 1)?;
+    show::path(rt, refused, counts[0], counts[1])?;
+    show::form(rt, refused, counts[2])?;
+    memory(rt, line, &path, &word, &work)
 }
 
 // Compare: the answer and the last work words.
-fn compared(line: &[u8], costs: &[u32], first: &[u32], second: &[u32]) {
+fn compared(
+    rt: &impl Print,
+    line: &[u8],
+    costs: &[u32],
+    first: &[u32],
+    second: &[u32],
+) -> io::Result<()> {
     let mut work = [9u32; 65281];
     let mut difference = [9i32; 1];
     let k = parts::room(line, 5, 65281);
@@ -79,15 +92,15 @@ fn compared(line: &[u8], costs: &[u32], first: &[u32], second: &[u32]) {
         &mut work[..k],
         &mut difference,
     );
-    show::difference(refused, difference[0]);
-    last(line, 5, 6, &work);
+    show::difference(rt, refused, difference[0])?;
+    last(rt, line, 5, 6, &work)
 }
 
 // The form with another, and the other way round.
-pub fn compare(line: &[u8], costs: &[u32], form: &[u32]) {
+pub fn compare(rt: &impl Print, line: &[u8], costs: &[u32], form: &[u32]) -> io::Result<()> {
     let mut other = [0u32; 300];
     let n = vectors_fields::numbers(vectors_fields::field(line, 7), true, &mut other);
-    show::field(line, 1);
-    compared(line, costs, form, &other[..n]);
-    compared(line, costs, &other[..n], form);
+    show::field(rt, line, 1)?;
+    compared(rt, line, costs, form, &other[..n])?;
+    compared(rt, line, costs, &other[..n], form)
 }

@@ -1,6 +1,7 @@
-// Prints answers and lists on standard output. What is written is compared with the stored output; no contract can speak of it.
-use libc::STDOUT_FILENO;
+// Prints answers and lists. What is written is compared with the stored output; no contract can speak of it.
 use numbers::{magnitude, wide_word};
+use std::io;
+use std::io::Write;
 
 // The words that are printed, by their places in `say`.
 const SPACE: usize = 0;
@@ -35,104 +36,108 @@ const DIFFERENCE: usize = 14;
 
 const MINUS: usize = 15;
 
-pub fn say(k: usize) {
+pub fn say(rt: &impl Print, k: usize) -> io::Result<()> {
     field(
+        rt,
         b" \t |\t:\t\n\t refused\t filled\t accepted\t rejected\t price\t length\t form\tcollapse\tspread\tcosts\t difference\t minus",
         k,
-    );
+    )
 }
 
 // Field k of a line.
-pub fn field(line: &[u8], k: usize) {
-    io::write_all(STDOUT_FILENO, vectors_fields::field(line, k));
+pub fn field(rt: &impl Print, line: &[u8], k: usize) -> io::Result<()> {
+    io::writer(rt).write_all(vectors_fields::field(line, k))
 }
 
 // A space and a number.
-pub fn number(n: usize) {
-    say(SPACE);
-    io::print_decimal(STDOUT_FILENO, n as u64);
+pub fn number(rt: &impl Print, n: usize) -> io::Result<()> {
+    say(rt, SPACE)?;
+    rt.print(n)
 }
 
-fn byte(x: u8) {
-    number(x as usize);
+fn byte(rt: &impl Print, x: u8) -> io::Result<()> {
+    number(rt, x as usize)
 }
 
 // The first n bytes of a list, or all.
-pub fn bytes(list: &[u8], n: usize) {
+pub fn bytes(rt: &impl Print, list: &[u8], n: usize) -> io::Result<()> {
     let mut i = 0;
     while i < n && i < list.len() {
-        byte(list[i]);
+        byte(rt, list[i])?;
         i += 1;
     }
+    Ok(())
 }
 
 // A bar and memory of n bytes.
-pub fn memory(list: &[u8], n: usize) {
-    say(BAR);
-    bytes(list, n);
+pub fn memory(rt: &impl Print, list: &[u8], n: usize) -> io::Result<()> {
+    say(rt, BAR)?;
+    bytes(rt, list, n)
 }
 
 // A bar and the words from one place to another, or to the end.
-pub fn words(list: &[u32], from: usize, to: usize) {
-    say(BAR);
+pub fn words(rt: &impl Print, list: &[u32], from: usize, to: usize) -> io::Result<()> {
+    say(rt, BAR)?;
     let mut i = from;
     while i < to && i < list.len() {
-        number(wide_word(list[i]));
+        number(rt, wide_word(list[i]))?;
         i += 1;
     }
+    Ok(())
 }
 
-fn named(k: usize, n: u32) {
-    say(k);
-    number(wide_word(n));
+fn named(rt: &impl Print, k: usize, n: u32) -> io::Result<()> {
+    say(rt, k)?;
+    number(rt, wide_word(n))
 }
 
 // The answer of a call that fills one list.
-pub fn filled(refused: u32, n: usize) {
+pub fn filled(rt: &impl Print, refused: u32, n: usize) -> io::Result<()> {
     if refused == 0 {
-        say(FILLED);
-        number(n);
+        say(rt, FILLED)?;
+        number(rt, n)
     } else {
-        named(REFUSED, refused);
+        named(rt, REFUSED, refused)
     }
 }
 
 // The answer of Judge.
-pub fn judged(refused: u32, accepted: u32) {
+pub fn judged(rt: &impl Print, refused: u32, accepted: u32) -> io::Result<()> {
     if refused != 0 {
-        named(REFUSED, refused);
+        named(rt, REFUSED, refused)
     } else if accepted == 1 {
-        say(ACCEPTED);
+        say(rt, ACCEPTED)
     } else {
-        say(REJECTED);
+        say(rt, REJECTED)
     }
 }
 
 // The answer of Decode and Read.
-pub fn path(refused: u32, price: u32, length: u32) {
+pub fn path(rt: &impl Print, refused: u32, price: u32, length: u32) -> io::Result<()> {
     if refused == 0 {
-        named(PRICE, price);
-        named(LENGTH, length);
+        named(rt, PRICE, price)?;
+        named(rt, LENGTH, length)
     } else {
-        named(REFUSED, refused);
+        named(rt, REFUSED, refused)
     }
 }
 
 // What Read answers besides: the form's length.
-pub fn form(refused: u32, length: u32) {
+pub fn form(rt: &impl Print, refused: u32, length: u32) -> io::Result<()> {
     if refused == 0 {
-        named(FORM, length);
+        named(rt, FORM, length)?;
     }
+    Ok(())
 }
 
 // The answer of Compare: the difference also at a refusal.
-pub fn difference(refused: u32, d: i32) {
+pub fn difference(rt: &impl Print, refused: u32, d: i32) -> io::Result<()> {
     if refused != 0 {
-        named(REFUSED, refused);
+        named(rt, REFUSED, refused)?;
     }
-    say(DIFFERENCE);
+    say(rt, DIFFERENCE)?;
     if d < 0 {
-        say(MINUS);
+        say(rt, MINUS)?;
     }
-    number(magnitude(d));
+    number(rt, magnitude(d))
 }
