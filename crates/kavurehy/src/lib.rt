@@ -1,5 +1,5 @@
-// The calls exported for C and Rust, and nothing else. A list is passed as a pointer and a length; each call returns 0 or the number of
-// the refusal, and hands its counts back through an array, zeros at a refusal.
+// The calls that `kavurehy_c` exports for C and Rust, and nothing else. Each call returns 0 or the number of the refusal, and hands its
+// counts back through an array, zeros at a refusal.
 #![tactic(auto)]
 
 ghost use Rattle.std.specs.Prelude.{length};
@@ -17,8 +17,7 @@ use export_difference::hand_difference;
 use export_paths::{hand_decoded, hand_reading};
 
 // Writes the form of an expression over an alphabet, and its length to `counts`.
-#[unsafe(no_mangle)]
-pub extern "C" fn kavurehy_compile(
+pub fn kavurehy_compile(
     alphabet: &[u8],
     text: &[u8],
     form: &mut [u32],
@@ -30,8 +29,7 @@ pub extern "C" fn kavurehy_compile(
 }
 
 // Writes the form of a list of words over an alphabet, and its length to `counts`.
-#[unsafe(no_mangle)]
-pub extern "C" fn kavurehy_compile_list(
+pub fn kavurehy_compile_list(
     alphabet: &[u8],
     list: &[u8],
     form: &mut [u32],
@@ -43,42 +41,28 @@ pub extern "C" fn kavurehy_compile_list(
 }
 
 // Does the form accept the word? Writes 1 or 0 to `accepted`.
-#[unsafe(no_mangle)]
-pub extern "C" fn kavurehy_judge(form: &[u32], word: &[u8], accepted: &mut [u32; 1]) -> u32
+pub fn kavurehy_judge(form: &[u32], word: &[u8], accepted: &mut [u32; 1]) -> u32
     ensures { Judges form.now word.now accepted.new result }
 {
     hand_judgement(judge::judge(form, word), accepted)
 }
 
 // Writes the word that a path of labels 0 to k collapses to, and its length to `counts`.
-#[unsafe(no_mangle)]
-pub extern "C" fn kavurehy_collapse(
-    k: usize,
-    path: &[u8],
-    word: &mut [u8],
-    counts: &mut [u32; 1],
-) -> u32
+pub fn kavurehy_collapse(k: usize, path: &[u8], word: &mut [u8], counts: &mut [u32; 1]) -> u32
     ensures { FillsCounted (collapse_call k path.now (length word.old)) word.old word.new counts.new result }
 {
     hand_length(ctc_collapse::collapse(k, path, word), counts)
 }
 
 // Writes the shortest path that collapses to a word of labels 1 to k, and its length to `counts`.
-#[unsafe(no_mangle)]
-pub extern "C" fn kavurehy_spread(
-    k: usize,
-    word: &[u8],
-    path: &mut [u8],
-    counts: &mut [u32; 1],
-) -> u32
+pub fn kavurehy_spread(k: usize, word: &[u8], path: &mut [u8], counts: &mut [u32; 1]) -> u32
     ensures { FillsCounted (spread_call k word.now (length path.old)) path.old path.new counts.new result }
 {
     hand_length(ctc_spread::spread(k, word, path), counts)
 }
 
 // Writes the cheapest path, without barred labels, whose collapse the form accepts, and its word; price and word length to `counts`.
-#[unsafe(no_mangle)]
-pub extern "C" fn kavurehy_decode(
+pub fn kavurehy_decode(
     form: &[u32],
     costs: &[u32],
     width: usize,
@@ -99,8 +83,7 @@ pub extern "C" fn kavurehy_decode(
 
 // Writes the form of an expression, the cheapest path, without barred labels, whose collapse is a word of it, and that word as characters;
 // price, word length and form length to `counts`.
-#[unsafe(no_mangle)]
-pub extern "C" fn kavurehy_read(
+pub fn kavurehy_read(
     alphabet: &[u8],
     text: &[u8],
     costs: &[u32],
@@ -124,8 +107,7 @@ pub extern "C" fn kavurehy_read(
 }
 
 // Writes to `difference` the price of the first form's cheapest path, without barred labels, less that of the second's.
-#[unsafe(no_mangle)]
-pub extern "C" fn kavurehy_compare(
+pub fn kavurehy_compare(
     first: &[u32],
     second: &[u32],
     costs: &[u32],
@@ -143,8 +125,7 @@ pub extern "C" fn kavurehy_compare(
 }
 
 // Writes one cost for each confidence.
-#[unsafe(no_mangle)]
-pub extern "C" fn kavurehy_costs(confidences: &[u8], costs: &mut [u32]) -> u32
+pub fn kavurehy_costs(confidences: &[u8], costs: &mut [u32]) -> u32
     ensures { FillsPlain (costs_call confidences.now (length costs.old)) costs.old costs.new result }
 {
     hand_number(confidence::costs(confidences, costs))
