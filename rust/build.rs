@@ -1,4 +1,4 @@
-//! Links the archive that `rt staticlib kavurehy` writes in the repository's root.
+//! Links the archive that `.ci/archive` writes in the repository's root.
 use std::{env, path::Path};
 
 fn main() {
@@ -8,7 +8,7 @@ fn main() {
     println!("cargo:rerun-if-changed={}", archive.display());
     if !archive.is_file() {
         panic!(
-            "{} is missing: run `rt staticlib kavurehy` first",
+            "{} is missing: run `.ci/archive` first",
             archive.display()
         );
     }

@@ -1,6 +1,6 @@
 // Computes the cost of every confidence by the rule and prints crates/confidence/src/table.rt. After a change of the rule:
 //
-//     (cd crates/confidence_table && rt run)   # builds the program; reports that its output is not that of its file stdout
+//     (cd crates/confidence_table && rt run)   # proves and builds the program, and runs it
 //     crates/confidence_table/out/confidence_table | tee crates/confidence_table/stdout > crates/confidence/src/table.rt
 //
 // The gate compares what is printed with both files; no contract can speak of it.

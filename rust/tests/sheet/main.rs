@@ -1,4 +1,4 @@
-//! The sheet program as a process, against document 01: `target/bin/sheet`, which `rt check sheet` builds. What is written here by
+//! The sheet program as a process, against document 01: `target/bin/sheet`, which `examples/read_mast` builds. What is written here by
 //! hand must hold for the program and for the model.
 
 mod barred;

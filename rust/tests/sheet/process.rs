@@ -16,7 +16,7 @@ pub fn program() -> PathBuf {
     let path = Path::new(env!("CARGO_MANIFEST_DIR")).join("../target/bin/sheet");
     assert!(
         path.is_file(),
-        "{} is missing: run `rt check sheet` first",
+        "{} is missing: run `examples/read_mast` first",
         path.display()
     );
     path

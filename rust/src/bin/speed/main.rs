@@ -3,7 +3,7 @@
 //! each line, with cleared work memory, and must find the same price and path; a line's time is the least of several rounds.
 //! And how long Costs takes: against its rule and against a table in Rust.
 //!
-//! In rust/, after `rt staticlib kavurehy`:
+//! In rust/, after `.ci/archive`:
 //!
 //!     cargo run --release --offline --bin speed                              all tables, nine rounds
 //!     cargo run --release --offline --bin speed -- 25                        all tables, 25 rounds
