@@ -7,10 +7,7 @@ fn main() {
     let archive = folder.join("libkavurehy.a");
     println!("cargo:rerun-if-changed={}", archive.display());
     if !archive.is_file() {
-        panic!(
-            "{} is missing: run `.ci/archive` first",
-            archive.display()
-        );
+        panic!("{} is missing: run `.ci/archive` first", archive.display());
     }
     println!("cargo:rustc-link-search=native={}", folder.display());
     println!("cargo:rustc-link-lib=static=kavurehy");
