@@ -22,7 +22,7 @@ use Rattle.regex_tree.proofs.OwnLaws.{Here}
 use Rattle.regex_tree.proofs.OwnCountsLaws.{InRange, Repeating, repetition_says}
 use Rattle.regex_tree.proofs.StepsLaws.{parse_step}
 use Rattle.positions.specs.Opened.{opened, repeated}
-use Rattle.text.proofs.TextLaws.{place_drop, beyond, next_at, rest_at, byte_is}
+use Rattle.text.proofs.TextLaws.{place_drop, next_at, rest_at, byte_is}
 use Rattle.regex_bracket.specs.Answers.{is_found, set_of}
 use Rattle.positions_letters.specs.Found.{rest_of, tree_of, count_of, counted}
 use Rattle.positions_letters.specs.FoundLaws.{counted_repeated, counted_plain, not_found}

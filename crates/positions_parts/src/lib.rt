@@ -10,7 +10,7 @@ use positions_follow::{link, unite};
 
 // A part that was built: where it ends in the text; how many letters there are up to its end; whether it has the empty word; and which
 // letters may be first in it, and which last.
-#[derive(Drop)]
+#[derive(Clone, Copy)]
 pub struct Built {
     pub end: usize,
     pub letters: usize,
