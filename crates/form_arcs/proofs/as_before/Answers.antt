@@ -3,7 +3,6 @@ use Prim.Native.Nat.{ℕ}
 use mathlib.Core.Path.{◌≡◌}
 use native.Mathlib.Omega.{arith}
 use Rattle.form_arcs.specs.EqualLaws.{starts_rise}
-use borrow.Author.Rules.{rules}
 use Rattle.form_arcs.proofs.as_before.Goals as goal
 
 pub overflow_sub-e : goal.overflow_sub-e

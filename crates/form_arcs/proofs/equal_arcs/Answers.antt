@@ -1,10 +1,8 @@
 -- `form_arcs::equal_arcs` meets its contract: the iterations so far have marked their letters.
-use Prim.Native.Nat.{◌+◌, ◌-◌, ◌≤◌}
 use mathlib.Core.Bool.{false}
 use native.Mathlib.Omega.{arith}
 use lib.ListN.{replicate}
 use Rattle.lists.proofs.MarksLaws.{iterations_none, iterations_more}
-use Rattle.lists.specs.Marks.{Marks, Iterations}
 use Rattle.form_arcs.specs.Equal.{SharesAt}
 use Rattle.form_arcs.specs.EqualLoops.{equal_all}
 use Rattle.form_arcs.proofs.equal_arcs.Goals as goal

@@ -2,7 +2,6 @@
 use mathlib.Core.Path.{sym, ◌∙◌}
 use native.Mathlib.Omega.{arith}
 use Rattle.form_arcs.specs.FirstsLoops.{firsts_not, firsts_more}
-use borrow.Author.Rules.{rules}
 use Rattle.form_arcs.proofs.list_first.Goals as goal
 
 pub narrow_byte-requires : goal.narrow_byte-requires

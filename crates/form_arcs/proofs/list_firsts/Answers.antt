@@ -1,5 +1,5 @@
 -- `form_arcs::list_firsts` meets its contract: the list has the letters so far that may be first.
-use Prim.Native.Nat.{◌+◌, ◌-◌, ◌≤◌}
+use Prim.Native.Nat.{◌+◌}
 use mathlib.Core.Path.{◌≡◌, subst}
 use native.Mathlib.Omega.{arith}
 use Rattle.automaton.specs.Form.{letters_of}

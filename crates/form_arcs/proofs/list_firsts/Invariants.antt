@@ -1,10 +1,7 @@
 -- `form_arcs::list_firsts` meets its contract: the list has the letters so far that may be first.
 use Prim.Native.Nat.{◌+◌, ◌-◌, ◌≤◌}
-use mathlib.Core.Path.{◌≡◌, subst}
-use native.Mathlib.Omega.{arith}
 use Rattle.automaton.specs.Form.{letters_of}
 use Rattle.form_arcs.specs.Firsts.{FirstsBelow}
-use Rattle.form_arcs.specs.FirstsLoops.{firsts_none}
 use Rattle.form_arcs.proofs.list_firsts.Given as goal
 
 abbrev pub invariant-loop-j : goal.invariant-loop-j

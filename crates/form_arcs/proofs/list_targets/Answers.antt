@@ -1,5 +1,4 @@
 -- `form_arcs::list_targets` meets its contract: the targets of the words so far are written.
-use Prim.Native.Nat.{◌-◌, ◌≤◌}
 use mathlib.Core.Path.{◌≡◌, subst, ◌∙◌}
 use native.Mathlib.Omega.{arith}
 use lib.ListN.{length}

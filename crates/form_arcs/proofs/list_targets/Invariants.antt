@@ -1,11 +1,7 @@
 -- `form_arcs::list_targets` meets its contract: the targets of the words so far are written.
 use Prim.Native.Nat.{◌-◌, ◌≤◌}
-use mathlib.Core.Path.{◌≡◌, subst, ◌∙◌}
-use native.Mathlib.Omega.{arith}
 use lib.ListN.{length}
 use Rattle.form_arcs.specs.Targets.{TargetsBelow}
-use Rattle.form_arcs.specs.TargetsLaws.{valid_short}
-use Rattle.form_arcs.specs.TargetsLoops.{targets_none, targets_listed}
 use Rattle.form_arcs.proofs.list_targets.Given as goal
 
 abbrev pub invariant-loop-k : goal.invariant-loop-k

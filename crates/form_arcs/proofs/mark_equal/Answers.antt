@@ -2,7 +2,6 @@
 use native.Mathlib.Omega.{arith}
 use Rattle.lists.proofs.OrderLaws.{not_both}
 use Rattle.form_arcs.specs.EqualLoops.{equal_marked, equal_not}
-use borrow.Author.Rules.{rules}
 use Rattle.form_arcs.proofs.mark_equal.Goals as goal
 
 pub bounds-same-i : goal.bounds-same-i

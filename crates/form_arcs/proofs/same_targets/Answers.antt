@@ -1,8 +1,7 @@
 -- `form_arcs::same_targets` meets its contract: the words that were compared have equal targets.
-use Prim.Native.Nat.{ℕ, ◌-◌, ◌≤◌}
+use Prim.Native.Nat.{ℕ}
 use mathlib.Core.Path.{◌≡◌, refl, sym, ◌∙◌}
 use native.Mathlib.Omega.{arith}
-use Rattle.form_arcs.specs.Equal.{SameTargets}
 use Rattle.form_arcs.specs.EqualLoops.{targets_more}
 use Rattle.form_arcs.proofs.same_targets.Goals as goal
 

@@ -1,9 +1,6 @@
 -- `form_arcs::same_targets` meets its contract: the words that were compared have equal targets.
-use Prim.Native.Nat.{ℕ, ◌-◌, ◌≤◌}
-use mathlib.Core.Path.{◌≡◌, refl, sym, ◌∙◌}
-use native.Mathlib.Omega.{arith}
+use Prim.Native.Nat.{◌-◌, ◌≤◌}
 use Rattle.form_arcs.specs.Equal.{SameTargets}
-use Rattle.form_arcs.specs.EqualLoops.{targets_more}
 use Rattle.form_arcs.proofs.same_targets.Given as goal
 
 abbrev pub invariant-loop-k : goal.invariant-loop-k

@@ -1,13 +1,10 @@
 -- `form_check::are_arcs` meets its contract: the words so far and the rest of the list decide.
-use Prim.Native.Nat.{◌+◌, ◌-◌, ◌≤◌}
-use mathlib.Core.Path.{◌≡◌, ap, ◌∙◌}
+use Prim.Native.Nat.{◌+◌}
+use mathlib.Core.Path.{ap, ◌∙◌}
 use mathlib.Core.Bool.{◌&&◌}
 use native.Mathlib.Omega.{arith}
 use lib.Dec.{ltb}
-use lib.ListN.{length, get_or, drop}
-use borrow.Author.Rules.{rules}
-use Rattle.lists.specs.Each.{all}
-use Rattle.automaton.specs.Form.{is_arc, ordered}
+use lib.ListN.{get_or, drop}
 use Rattle.form_check.specs.ChecksLaws.{beyond, beyond_none, beyond_more, beyond_end}
 use Rattle.form_check.proofs.are_arcs.Goals as goal
 

@@ -1,11 +1,7 @@
 -- `form_check::are_letters` meets its contract: what is left of the list decides.
 use Prim.Native.Nat.{◌≤◌, ◌-◌}
-use mathlib.Core.Path.{◌≡◌, refl, sym, ◌∙◌}
-use native.Mathlib.Omega.{arith}
+use mathlib.Core.Path.{◌≡◌}
 use lib.ListN.{length, drop}
-use borrow.Author.Rules.{rules}
-use borrow.Author.Tests.{not-true, not-false}
-use Rattle.lists.proofs.EachLaws.{all_more, all_fails, all_end}
 use Rattle.lists.specs.Each.{all}
 use Rattle.automaton.specs.Form.{is_letter}
 use Rattle.form_check.proofs.are_letters.Given as goal

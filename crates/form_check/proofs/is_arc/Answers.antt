@@ -1,5 +1,4 @@
 -- `form_check::is_arc` meets its contract: the comparisons are the definition's.
-use borrow.Author.Rules.{rules}
 use Rattle.form_check.specs.ChecksLaws.{arc_tests}
 use Rattle.form_check.proofs.is_arc.Goals as goal
 

@@ -2,11 +2,10 @@
 use mathlib.Core.Path.{◌≡◌, sym, ap, ap₂, ◌∙◌}
 use mathlib.Core.Bool.{true, ◌&&◌}
 use lib.Dec.{eqb}
-use borrow.Author.Tests.{eq-eqb, ne_eqb, not-true, not-false}
+use borrow.Author.Tests.{eq-eqb, ne_eqb}
 use Rattle.lists.specs.Lists.{in_range}
 use Rattle.automaton.specs.Form.{head_word, byte0, byte2, bit8}
 use Rattle.form_check.specs.ChecksLaws.{head_sum}
-use borrow.Author.Rules.{rules}
 use Rattle.form_check.proofs.is_head.Goals as goal
 
 pub returns-then-w-k : goal.returns-then-w-k

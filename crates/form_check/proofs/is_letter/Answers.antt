@@ -5,7 +5,6 @@ use borrow.Author.Tests.{eq-eqb, ne_eqb}
 use Rattle.lists.specs.Lists.{in_range}
 use Rattle.automaton.specs.Form.{letter_word, byte0, bit8, bit9}
 use Rattle.form_check.specs.ChecksLaws.{letter_sum}
-use borrow.Author.Rules.{rules}
 use Rattle.form_check.proofs.is_letter.Goals as goal
 
 pub returns-then-w-x : goal.returns-then-w-x

@@ -1,11 +1,9 @@
 -- `form_check::valid` meets its contract: the five tests in their order, the last two in one loop.
 use mathlib.Core.Path.{sym, ap, ◌∙◌}
 use mathlib.Core.Bool.{◌&&◌}
-use borrow.Author.Tests.{not-true, not-false}
 use Rattle.lists.specs.Each.{all}
 use Rattle.automaton.specs.Form.{is_letter, is_arc, ordered, letters_of, alphabet_of}
 use Rattle.form_check.specs.ChecksLaws.{valid_empty, valid_head, valid_short, valid_letters, valid_arcs, letters_part, arcs_part}
-use borrow.Author.Rules.{rules}
 use Rattle.form_check.proofs.valid.Goals as goal
 
 pub returns-then-form-eq0 : goal.returns-then-form-eq0

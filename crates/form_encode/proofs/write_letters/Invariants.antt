@@ -1,14 +1,10 @@
 -- `form_encode::write_letters` meets its contract: the head's place, what is written and the letters still to come make the whole.
-use Prim.Native.Nat.{◌+◌, ◌-◌, ◌≤◌, ◌<◌}
-use mathlib.Core.Path.{subst}
-use mathlib.Core.List.{[], ◌∷◌, ◌++◌, map}
-use native.Mathlib.Omega.{arith}
-use lib.ListN.{length, take}
-use borrow.Author.Rules.{rules}
-use Rattle.lists.proofs.FillingLoops.{Filling, filling_from, filling_more, filling_room, filling_length, filling_stored_all}
+use Prim.Native.Nat.{◌+◌, ◌-◌, ◌≤◌}
+use mathlib.Core.List.{◌++◌, map}
+use lib.ListN.{take}
+use Rattle.lists.proofs.FillingLoops.{Filling}
 use Rattle.form_encode.specs.Parts.{letter_by, letters_by}
-use Rattle.form_encode.specs.PartsLaws.{letters_first}
-use Rattle.lists.proofs.RemainingLoops.{from, map_here, map_past}
+use Rattle.lists.proofs.RemainingLoops.{from}
 use Rattle.form_encode.proofs.write_letters.Given as goal
 
 abbrev pub invariant-loop-letter : goal.invariant-loop-letter

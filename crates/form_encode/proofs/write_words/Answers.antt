@@ -5,7 +5,6 @@ use mathlib.Core.Bool.{Bool}
 use Prim.Native.Nat.{ℕ}
 use native.Mathlib.Omega.{arith}
 use lib.ListN.{length-set}
-use borrow.Author.Rules.{rules}
 use Rattle.automaton.specs.Form.{encode, head_word}
 use Rattle.form_encode_arcs.specs.Arcs.{arcs_by}
 use Rattle.automaton.specs.Arrays.{arrayed}

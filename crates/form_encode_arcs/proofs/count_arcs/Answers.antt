@@ -1,11 +1,7 @@
 -- `form_encode_arcs::count_arcs` meets its contract: the arcs counted and those of the letters still to come make the whole.
-use Prim.Native.Nat.{◌+◌, ◌-◌, ◌*◌, ◌≤◌}
-use mathlib.Core.Path.{◌≡◌, ap}
-use mathlib.Core.List.{flat_map}
+use mathlib.Core.Path.{ap}
 use native.Mathlib.Omega.{arith}
 use lib.ListN.{length}
-use Rattle.form_encode_arcs.specs.Arcs.{letter_arcs_at, arcs_by}
-use Rattle.lists.proofs.RemainingLoops.{from}
 use Rattle.form_encode_arcs.specs.Loops.{arcs_first, count_letter_arcs_here, count_letter_arcs_past}
 use Rattle.form_encode_arcs.proofs.count_arcs.Goals as goal
 

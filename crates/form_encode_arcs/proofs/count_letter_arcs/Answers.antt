@@ -1,12 +1,10 @@
 -- `form_encode_arcs::count_letter_arcs` meets its contract: the letters counted and those still to come make the whole.
-use Prim.Native.Nat.{◌+◌, ◌-◌, ◌<◌, ◌≤◌}
-use mathlib.Core.Path.{◌≡◌, ap}
+use mathlib.Core.Path.{ap}
 use native.Mathlib.Omega.{arith}
 use lib.ListN.{length}
-use borrow.Author.Rules.{rules}
-use Rattle.lists.specs.Lists.{keep, numbers}
+use Rattle.lists.specs.Lists.{keep}
 use Rattle.automaton.specs.Arrays.{has}
-use Rattle.lists.proofs.RemainingLoops.{from, from_first}
+use Rattle.lists.proofs.RemainingLoops.{from_first}
 use Rattle.form_encode_arcs.specs.Loops.{count_here, count_past}
 use Rattle.form_encode_arcs.proofs.count_letter_arcs.Goals as goal
 

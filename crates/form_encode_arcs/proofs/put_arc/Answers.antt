@@ -1,6 +1,5 @@
 -- `form_encode_arcs::put_arc` meets its contract, a lemma for each arm.
 use native.Mathlib.Omega.{arith}
-use borrow.Author.Rules.{rules}
 use Rattle.automaton.specs.Form.{arc_word}
 use Rattle.lists.proofs.KeptLaws.{kept_stored, kept_absent, kept_room}
 use Rattle.form_encode_arcs.proofs.put_arc.Goals as goal

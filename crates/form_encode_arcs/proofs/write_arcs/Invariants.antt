@@ -1,13 +1,10 @@
 -- `form_encode_arcs::write_arcs` meets its contract: what is before n, what is written and the arcs still to come make the whole.
 use Prim.Native.Nat.{◌+◌, ◌-◌, ◌≤◌}
-use mathlib.Core.Path.{subst}
 use mathlib.Core.List.{◌++◌, flat_map}
-use native.Mathlib.Omega.{arith}
 use lib.ListN.{take}
-use Rattle.lists.proofs.FillingLoops.{Filling, filling_from, filling_stored, filling_room, filling_length, filling_stored_all}
+use Rattle.lists.proofs.FillingLoops.{Filling}
 use Rattle.form_encode_arcs.specs.Arcs.{letter_arcs_at, arcs_by}
-use Rattle.lists.proofs.RemainingLoops.{from, flat_here, flat_past}
-use Rattle.form_encode_arcs.specs.Loops.{arcs_first}
+use Rattle.lists.proofs.RemainingLoops.{from}
 use Rattle.form_encode_arcs.proofs.write_arcs.Given as goal
 
 abbrev pub invariant-loop-source : goal.invariant-loop-source

@@ -1,5 +1,5 @@
 -- `form_encode_arcs::write_letter_arcs` meets its contract: what is before n, what is written and the arcs still to come make the whole.
-use Prim.Native.Nat.{◌+◌, ◌-◌, ◌≤◌}
+use Prim.Native.Nat.{◌+◌}
 use mathlib.Core.Path.{subst}
 use mathlib.Core.List.{[], ◌++◌, map}
 use native.Mathlib.Omega.{arith}

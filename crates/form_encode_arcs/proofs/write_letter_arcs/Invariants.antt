@@ -1,16 +1,13 @@
 -- `form_encode_arcs::write_letter_arcs` meets its contract: what is before n, what is written and the arcs still to come make the whole.
 use Prim.Native.Nat.{◌+◌, ◌-◌, ◌≤◌}
-use mathlib.Core.Path.{subst}
-use mathlib.Core.List.{[], ◌++◌, map}
-use native.Mathlib.Omega.{arith}
+use mathlib.Core.List.{◌++◌, map}
 use lib.ListN.{take}
-use Rattle.lists.specs.Lists.{keep, keeping}
-use Rattle.lists.proofs.FillingLoops.{Filling, filling_from, filling_stored, filling_room, filling_length, filling_stored_all}
+use Rattle.lists.specs.Lists.{keep}
+use Rattle.lists.proofs.FillingLoops.{Filling}
 use Rattle.automaton.specs.Form.{arc_word}
 use Rattle.form_encode_arcs.specs.Arcs.{letter_arcs}
 use Rattle.automaton.specs.Arrays.{has}
 use Rattle.lists.proofs.RemainingLoops.{from}
-use Rattle.form_encode_arcs.specs.Loops.{letter_first, letter_here, letter_past}
 use Rattle.form_encode_arcs.proofs.write_letter_arcs.Given as goal
 
 abbrev pub invariant-loop-target : goal.invariant-loop-target

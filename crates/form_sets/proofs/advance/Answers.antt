@@ -1,12 +1,11 @@
 -- `form_sets::advance` meets its contract: the iterations so far have marked what may follow their letters.
-use Prim.Native.Nat.{◌≤◌, ◌+◌, ◌-◌}
-use mathlib.Core.Path.{◌≡◌, sym, subst}
+use Prim.Native.Nat.{◌+◌}
+use mathlib.Core.Path.{sym, subst}
 use mathlib.Core.Bool.{false}
 use native.Mathlib.Omega.{arith}
 use lib.ListN.{replicate}
 use Rattle.lists.proofs.MarksLaws.{iterations_none, iterations_more}
-use Rattle.lists.specs.Marks.{Marks, Iterations}
-use Rattle.automaton.specs.Form.{letters_of}
+use Rattle.lists.specs.Marks.{Marks}
 use Rattle.form_sets.specs.Loops.{Left, left_beyond, left_out, all_left}
 use Rattle.form_sets.proofs.advance.Goals as goal
 use Rattle.form_sets.proofs.advance.Goals.{then-set-i, else-set-i}
@@ -62,7 +61,7 @@ loop-i-preserved c =
     let f = a.form.now in
     let marks : Marks (Left f a.x a.set l.i) l.next c.if-set-i.next =
     elim c.if-set-i.branch [
-      then-set-i w ↦ subst (Marks (Left f a.x a.set l.i) l.next) (sym w.next-is) (left_beyond f a.x a.set l.next w.mark_after.new.set l.i w.if-set-i.true w.mark_after.ensures)
+      | then-set-i w ↦ subst (Marks (Left f a.x a.set l.i) l.next) (sym w.next-is) (left_beyond f a.x a.set l.next w.mark_after.new.set l.i w.if-set-i.true w.mark_after.ensures)
       | else-set-i w ↦ subst (Marks (Left f a.x a.set l.i) l.next) (sym w.next-is) (left_out f a.x a.set l.next l.i w.if-set-i.false)
     ] in
     (l.invariant.0, omega arith, iterations_more (Left f a.x a.set) 0 l.i (replicate 128 false) l.next c.if-set-i.next (omega arith) l.invariant.2 marks)

@@ -1,14 +1,11 @@
 -- `form_sets::advance` meets its contract: the iterations so far have marked what may follow their letters.
 use Prim.Native.Nat.{◌≤◌, ◌+◌, ◌-◌}
-use mathlib.Core.Path.{◌≡◌, sym, subst}
+use mathlib.Core.Path.{◌≡◌}
 use mathlib.Core.Bool.{false}
-use mathlib.Core.Logic.{⊎_elim}
-use native.Mathlib.Omega.{arith}
 use lib.ListN.{replicate}
-use Rattle.lists.proofs.MarksLaws.{iterations_none, iterations_more}
 use Rattle.lists.specs.Marks.{Marks, Iterations}
 use Rattle.automaton.specs.Form.{letters_of}
-use Rattle.form_sets.specs.Loops.{Left, left_beyond, left_out, all_left}
+use Rattle.form_sets.specs.Loops.{Left}
 use Rattle.form_sets.proofs.advance.Given as goal
 
 abbrev pub invariant-loop-i : goal.invariant-loop-i

@@ -2,7 +2,6 @@
 use mathlib.Core.Path.{sym, ◌∙◌}
 use native.Mathlib.Omega.{arith}
 use Rattle.form_sets.specs.Loops.{mark_label, mark_other}
-use borrow.Author.Rules.{rules}
 use Rattle.form_sets.proofs.mark.Goals as goal
 
 pub returns-then-label-x : goal.returns-then-label-x

@@ -7,7 +7,6 @@ use Rattle.automaton.specs.Form.{view}
 use Rattle.form_starts.specs.Loops.{range_rises}
 use Rattle.form_sets.specs.Sets.{Enters}
 use Rattle.form_sets.specs.Loops.{all_reached}
-use borrow.Author.Rules.{rules}
 use Rattle.form_sets.proofs.mark_after.Goals as goal
 
 pub returns-then-i-eq0 : goal.returns-then-i-eq0

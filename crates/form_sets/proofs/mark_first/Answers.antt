@@ -1,7 +1,6 @@
 -- `form_sets::mark_first` meets its contract, by its two arms.
 use mathlib.Core.Path.{sym, ◌∙◌}
 use Rattle.form_sets.specs.Loops.{begun_first, begun_other}
-use borrow.Author.Rules.{rules}
 use Rattle.form_sets.proofs.mark_first.Goals as goal
 
 pub returns-then-may_be_first : goal.returns-then-may_be_first

@@ -1,12 +1,9 @@
 -- `form_sets::mark_firsts` meets its contract: the iterations so far have marked their letters.
 use Prim.Native.Nat.{◌≤◌, ◌+◌, ◌-◌}
-use mathlib.Core.Path.{◌≡◌, ◌∙◌}
-use native.Mathlib.Omega.{arith}
-use Rattle.lists.proofs.MarksLaws.{iterations_none, iterations_more}
+use mathlib.Core.Path.{◌≡◌}
 use Rattle.lists.specs.Marks.{Marks, Iterations}
 use Rattle.automaton.specs.Form.{letters_of}
 use Rattle.form_sets.specs.Sets.{Begun}
-use Rattle.form_sets.specs.Loops.{all_begun}
 use Rattle.form_sets.proofs.mark_firsts.Given as goal
 
 abbrev pub invariant-loop-j : goal.invariant-loop-j

@@ -1,5 +1,4 @@
 -- `form_sets::mark_targets` meets its contract: the iterations so far have marked the targets of their arcs.
-use Prim.Native.Nat.{◌≤◌, ◌-◌}
 use mathlib.Core.Path.{◌≡◌, subst, ◌∙◌}
 use native.Mathlib.Omega.{arith}
 use Rattle.lists.proofs.MarksLaws.{iterations_none, iterations_more}

@@ -1,10 +1,7 @@
 -- `form_sets::mark_targets` meets its contract: the iterations so far have marked the targets of their arcs.
 use Prim.Native.Nat.{◌≤◌, ◌-◌}
-use mathlib.Core.Path.{◌≡◌, subst, ◌∙◌}
-use native.Mathlib.Omega.{arith}
-use Rattle.lists.proofs.MarksLaws.{iterations_none, iterations_more}
 use Rattle.lists.specs.Marks.{Marks, Iterations}
-use Rattle.form_sets.specs.Sets.{Labelled, Reached}
+use Rattle.form_sets.specs.Sets.{Reached}
 use Rattle.form_sets.proofs.mark_targets.Given as goal
 
 abbrev pub invariant-loop-n : goal.invariant-loop-n

@@ -1,12 +1,12 @@
 -- `form_sets::some_may_end` meets its contract: none of the letters passed is in the set and may end a word.
-use Prim.Native.Nat.{ℕ, ◌≤◌, ◌<◌, ◌+◌, ◌-◌}
+use Prim.Native.Nat.{ℕ}
 use mathlib.Core.Path.{◌≡◌, refl, sym, ◌∙◌}
 use mathlib.Core.Bool.{true, false}
 use native.Mathlib.Omega.{arith}
 use lib.ListN.{get_or}
 use Rattle.lists.proofs.OrderLaws.{not_both}
 use Rattle.lists.specs.Marks.{Has}
-use Rattle.automaton.specs.Form.{letters_of, ends_of}
+use Rattle.automaton.specs.Form.{ends_of}
 use Rattle.automaton.proofs.ValidLaws.{ends_letter}
 use borrow.Author.Count.{below_more}
 use Rattle.form_sets.proofs.some_may_end.Goals as goal
@@ -41,7 +41,7 @@ loop-i-preserved c =
       omega arith,
       below_more (λ k. Has a.set k → ends_of f k ≡ true → ⊥) l.i l.invariant.2
           (elim c.if-set-i.branch [
-            then-set-i+else-may_end w ↦ λ h e. not_both (ends_of f l.i) e (sym w.may_end.ensures ∙ w.if-may_end.false)
+            | then-set-i+else-may_end w ↦ λ h e. not_both (ends_of f l.i) e (sym w.may_end.ensures ∙ w.if-may_end.false)
             | else-set-i w ↦ λ h e. not_both (get_or a.set l.i false) h w.if-set-i.false
           ]),
     )

@@ -1,15 +1,9 @@
 -- `form_sets::some_may_end` meets its contract: none of the letters passed is in the set and may end a word.
 use Prim.Native.Nat.{ℕ, ◌≤◌, ◌<◌, ◌+◌, ◌-◌}
-use mathlib.Core.Path.{◌≡◌, refl, sym, ◌∙◌}
-use mathlib.Core.Bool.{true, false}
-use mathlib.Core.Logic.{⊎_elim}
-use native.Mathlib.Omega.{arith}
-use lib.ListN.{get_or}
-use Rattle.lists.proofs.OrderLaws.{not_both}
+use mathlib.Core.Path.{◌≡◌}
+use mathlib.Core.Bool.{true}
 use Rattle.lists.specs.Marks.{Has}
 use Rattle.automaton.specs.Form.{letters_of, ends_of}
-use Rattle.automaton.proofs.ValidLaws.{ends_letter}
-use borrow.Author.Count.{below_more}
 use Rattle.form_sets.proofs.some_may_end.Given as goal
 
 abbrev pub invariant-loop-i : goal.invariant-loop-i

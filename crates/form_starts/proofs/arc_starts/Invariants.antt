@@ -1,10 +1,9 @@
 -- `form_starts::arc_starts` meets its contract: the starts noted so far are right, and the sources passed are below i.
 use Prim.Native.Nat.{ℕ, ◌≤◌, ◌<◌, ◌-◌}
-use mathlib.Core.Path.{◌≡◌, refl, ◌∙◌}
-use native.Mathlib.Omega.{arith}
-use lib.ListN.{length, get_or, length-set}
+use mathlib.Core.Path.{◌≡◌}
+use lib.ListN.{length, get_or}
 use Rattle.form_starts.specs.Starts.{StartsAt}
-use Rattle.form_starts.specs.Loops.{Passed, skipped_starts, starts_passed, starts_more}
+use Rattle.form_starts.specs.Loops.{Passed}
 use Rattle.form_starts.proofs.arc_starts.Given as goal
 
 abbrev pub invariant-loop-i : goal.invariant-loop-i

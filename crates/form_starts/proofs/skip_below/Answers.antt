@@ -1,9 +1,7 @@
 -- `form_starts::skip_below` meets its contract: the sources passed are below i.
-use Prim.Native.Nat.{ℕ, ◌≤◌, ◌<◌, ◌-◌}
+use Prim.Native.Nat.{◌≤◌}
 use mathlib.Core.Path.{subst}
 use native.Mathlib.Omega.{arith}
-use lib.ListN.{length, get_or}
-use Rattle.automaton.specs.Form.{source}
 use Rattle.form_starts.specs.Loops.{below_more}
 use Rattle.form_starts.proofs.skip_below.Goals as goal
 

@@ -1,6 +1,5 @@
 -- `form_words::may_be_first` meets its contract: the bit is what the automaton says of the letter.
 use mathlib.Core.Path.{sym}
-use borrow.Author.Rules.{rules}
 use Rattle.automaton.proofs.ValidLaws.{may_be_first}
 use Rattle.form_words.proofs.may_be_first.Goals as goal
 

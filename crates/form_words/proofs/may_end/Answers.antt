@@ -2,7 +2,6 @@
 use Prim.Native.Nat.{◌≤◌}
 use mathlib.Core.Path.{sym, ap, ◌∙◌}
 use native.Mathlib.Omega.{arith}
-use borrow.Author.Rules.{rules}
 use Rattle.automaton.specs.Form.{ends_of}
 use Rattle.automaton.proofs.ValidLaws.{may_be_last, accepts_empty}
 use Rattle.form_words.proofs.may_end.Goals as goal

@@ -1,15 +1,10 @@
 -- `judge::accepts` meets its contract: what is left of the word, from the present set, decides.
 use Prim.Native.Nat.{◌≤◌, ◌-◌}
-use mathlib.Core.Path.{sym, subst}
 use mathlib.Core.Logic.{◌↔◌}
-use native.Mathlib.Omega.{arith}
 use lib.ListN.{length, drop}
-use borrow.Author.Rules.{rules}
 use Rattle.automaton.specs.Automaton.{Accepts}
-use Rattle.automaton.specs.Form.{view, alphabet_of}
-use Rattle.automaton.proofs.ValidLaws.{valid_at, view_proper}
-use Rattle.form_sets.specs.Sets.{Advanced}
-use Rattle.form_sets.specs.Loops.{SpellsFrom, begin, set_more, set_end}
+use Rattle.automaton.specs.Form.{view}
+use Rattle.form_sets.specs.Loops.{SpellsFrom}
 use Rattle.judge.proofs.accepts.Given as goal
 
 abbrev pub invariant-loop-n : goal.invariant-loop-n

@@ -4,7 +4,6 @@ use mathlib.Core.Bool.{Bool, true, false}
 use mathlib.Core.List.{List}
 use Prim.Native.Nat.{ℕ}
 use native.Mathlib.Omega.{arith}
-use borrow.Author.Tests.{not-true, not-false}
 use Rattle.refusal.specs.Verdict.{passed}
 use Rattle.answers.specs.Judgement.{Judgement, report}
 use Rattle.ctc_labels.specs.Calls.{label_fault}
@@ -13,7 +12,6 @@ use Rattle.automaton.specs.Form.{valid_form, alphabet_of, view}
 use Rattle.automaton.proofs.ValidLaws.{valid_at}
 use Rattle.judge.specs.Judge.{judged}
 use Rattle.judge.proofs.JudgeLaws.{judged_invalid, judged_no_word, judged_word}
-use borrow.Author.Rules.{rules}
 use Rattle.judge.proofs.judge.Goals as goal
 
 pub returns-then-not-valid : goal.returns-then-not-valid

@@ -1,10 +1,7 @@
 -- `trellis_column::advance` meets its contract: some state is kept, so there is a lowest label.
-use Prim.Native.Nat.{◌≤◌}
 use native.Mathlib.Omega.{arith}
-use Rattle.lists.specs.Marks.{Has}
-use Rattle.automaton.specs.Form.{alphabet_of}
 use Rattle.trellis_members.specs.MembersLaws.{members_most}
-use Rattle.trellis_column.specs.ColumnLaws.{Nearby, listed_some, listed_within, nearby, near_within, lowest_label, lowest_paid, taken}
+use Rattle.trellis_column.specs.ColumnLaws.{listed_some, listed_within, nearby, near_within, lowest_label, lowest_paid, taken}
 use Rattle.trellis_column.proofs.advance.Goals as goal
 
 pub put_lowest-m-requires : goal.put_lowest-m-requires

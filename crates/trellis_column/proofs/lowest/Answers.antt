@@ -1,9 +1,8 @@
 -- `trellis_column::lowest` meets its contract: the loop has the lowest of the labels so far.
-use Prim.Native.Nat.{◌≤◌, ◌+◌, ◌-◌}
+use Prim.Native.Nat.{◌+◌}
 use mathlib.Core.Path.{◌≡◌, refl, sym, ap, ◌∙◌, subst}
 use native.Mathlib.Omega.{arith}
 use lib.ListN.{get_or}
-use borrow.Author.Rules.{rules}
 use Rattle.lists.proofs.LeastLaws.{least_start, least_more}
 use Rattle.lists.specs.Least.{Least, Among}
 use Rattle.automaton.specs.Form.{view}

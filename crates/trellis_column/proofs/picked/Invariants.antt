@@ -1,15 +1,9 @@
 -- `trellis_column::picked` meets its contract: the iterations so far have put their states.
 use Prim.Native.Nat.{◌≤◌, ◌-◌}
-use mathlib.Core.Path.{◌≡◌, refl, subst}
-use native.Mathlib.Omega.{arith}
-use lib.ListN.{get_or}
-use borrow.Author.Rules.{rules}
-use Rattle.lists.proofs.MarksLaws.{iterations_none, iterations_more}
 use Rattle.lists.specs.Marks.{Marks, Iterations}
 use Rattle.automaton.specs.Form.{view}
 use Rattle.trellis_members.specs.Members.{Members}
-use Rattle.trellis_column.specs.Column.{Picks, PicksAt}
-use Rattle.trellis_column.specs.Loops.{picked_all}
+use Rattle.trellis_column.specs.Column.{PicksAt}
 use Rattle.trellis_column.proofs.picked.Given as goal
 
 abbrev pub invariant-loop-k : goal.invariant-loop-k

@@ -3,7 +3,6 @@ use mathlib.Core.Path.{refl}
 use lib.ListN.{get_or}
 use Rattle.trellis_column.specs.Column.{blank_after}
 use Rattle.trellis_column.specs.Loops.{put_valued}
-use borrow.Author.Rules.{rules}
 use Rattle.trellis_column.proofs.put_blank.Goals as goal
 
 pub returns : goal.returns

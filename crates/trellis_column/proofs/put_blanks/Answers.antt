@@ -1,12 +1,10 @@
 -- `trellis_column::put_blanks` meets its contract: the iterations so far have put their blanks.
-use Prim.Native.Nat.{◌≤◌, ◌-◌}
+use Prim.Native.Nat.{◌-◌}
 use mathlib.Core.Path.{◌≡◌, refl, subst}
 use native.Mathlib.Omega.{arith}
 use lib.ListN.{get_or}
-use borrow.Author.Rules.{rules}
 use Rattle.lists.proofs.MarksLaws.{iterations_none, iterations_more}
 use Rattle.lists.specs.Marks.{Marks, Iterations}
-use Rattle.trellis_members.specs.Members.{Members}
 use Rattle.trellis_column.specs.Column.{BlankOf, BlankAt}
 use Rattle.trellis_column.specs.Loops.{blanks_dear, blanks_all}
 use Rattle.trellis_column.proofs.put_blanks.Goals as goal

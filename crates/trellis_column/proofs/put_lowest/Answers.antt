@@ -1,7 +1,6 @@
 -- `trellis_column::put_lowest` meets its contract: the blank is the lowest label, so kept blanks are enough.
 use mathlib.Core.Path.{◌≡◌, sym, subst}
 use native.Mathlib.Omega.{arith}
-use borrow.Author.Rules.{rules}
 use Rattle.lists.specs.Marks.{Marks, Listed}
 use Rattle.automaton.specs.Form.{view}
 use Rattle.trellis_members.specs.Members.{Members}

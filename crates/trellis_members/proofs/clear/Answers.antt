@@ -1,12 +1,11 @@
 -- `trellis_members::clear` meets its contract: the iterations so far have taken the members before place k out of the set.
-use Prim.Native.Nat.{◌+◌, ◌≤◌, ◌-◌}
+use Prim.Native.Nat.{◌+◌}
 use mathlib.Core.Path.{◌≡◌, sym, subst}
 use mathlib.Core.Bool.{false}
 use native.Mathlib.Omega.{arith}
 use lib.ListN.{set as put}
 use Rattle.trellis_members.specs.MembersLaws.{members_most, listed_low}
 use Rattle.trellis_members.specs.Loops.{TakenOut, taken_none, taken_more, taken_all}
-use borrow.Author.Rules.{rules}
 use Rattle.trellis_members.proofs.clear.Goals as goal
 
 pub loop-k-init : goal.loop-k-init

@@ -1,12 +1,6 @@
 -- `trellis_members::clear` meets its contract: the iterations so far have taken the members before place k out of the set.
-use Prim.Native.Nat.{◌+◌, ◌≤◌, ◌-◌}
-use mathlib.Core.Path.{◌≡◌, sym, subst}
-use mathlib.Core.Bool.{false}
-use native.Mathlib.Omega.{arith}
-use lib.ListN.{set as put}
-use Rattle.trellis_members.specs.MembersLaws.{members_most, listed_low}
-use Rattle.trellis_members.specs.Loops.{TakenOut, taken_none, taken_more, taken_all}
-use borrow.Author.Rules.{rules}
+use Prim.Native.Nat.{◌≤◌, ◌-◌}
+use Rattle.trellis_members.specs.Loops.{TakenOut}
 use Rattle.trellis_members.proofs.clear.Given as goal
 
 abbrev pub invariant-loop-k : goal.invariant-loop-k

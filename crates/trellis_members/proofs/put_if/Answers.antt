@@ -6,7 +6,6 @@ use native.Mathlib.Omega.{arith}
 use lib.ListN.{get_or, set}
 use Rattle.trellis_members.specs.Members.{Members}
 use Rattle.trellis_members.specs.MembersLaws.{members_most, marks_put, members_put}
-use borrow.Author.Rules.{rules}
 use Rattle.trellis_members.proofs.put_if.Goals as goal
 
 pub bounds-list-n : goal.bounds-list-n

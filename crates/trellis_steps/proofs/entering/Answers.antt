@@ -2,7 +2,6 @@
 use Prim.Native.Nat.{◌+◌, ◌/◌}
 use mathlib.Core.Path.{sym, ◌∙◌}
 use native.Mathlib.Omega.{arith}
-use borrow.Author.Rules.{rules}
 use Rattle.automaton.specs.Form.{view}
 use Rattle.trellis.proofs.ReachedLaws.{entering_blanks, entering_letter}
 use Rattle.trellis_steps.proofs.entering.Goals as goal

@@ -2,7 +2,6 @@
 use Prim.Native.Nat.{◌+◌}
 use native.Mathlib.Omega.{arith}
 use Rattle.trellis_steps.specs.Loops.{add_up}
-use borrow.Author.Rules.{rules}
 use Rattle.trellis_steps.proofs.keeps.Goals as goal
 
 pub overflow_add-result : goal.overflow_add-result

@@ -2,7 +2,6 @@
 use mathlib.Core.Path.{sym, ◌∙◌}
 use Rattle.automaton.specs.Form.{view}
 use Rattle.trellis_steps.specs.Loops.{led_put, led_not}
-use borrow.Author.Rules.{rules}
 use Rattle.trellis_steps.proofs.put_first.Goals as goal
 
 pub returns-then-may_be_first : goal.returns-then-may_be_first

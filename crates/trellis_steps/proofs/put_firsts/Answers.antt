@@ -1,10 +1,9 @@
 -- `trellis_steps::put_firsts` meets its contract: the iterations so far have put their letters.
-use Prim.Native.Nat.{◌≤◌, ◌+◌, ◌-◌}
+use Prim.Native.Nat.{◌+◌}
 use mathlib.Core.Path.{◌≡◌, subst}
 use native.Mathlib.Omega.{arith}
 use Rattle.lists.specs.Marks.{Marks, Iterations}
 use Rattle.automaton.specs.Form.{letters_of, view}
-use Rattle.trellis_members.specs.Members.{Members}
 use Rattle.trellis_steps.specs.Steps.{KeptIn, Led}
 use Rattle.trellis_steps.specs.Loops.{kept_iterations_none, kept_iterations_more, firsts_put}
 use Rattle.trellis_steps.proofs.put_firsts.Goals as goal

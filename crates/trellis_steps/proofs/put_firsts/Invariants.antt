@@ -1,12 +1,10 @@
 -- `trellis_steps::put_firsts` meets its contract: the iterations so far have put their letters.
 use Prim.Native.Nat.{◌≤◌, ◌+◌, ◌-◌}
-use mathlib.Core.Path.{◌≡◌, subst}
-use native.Mathlib.Omega.{arith}
+use mathlib.Core.Path.{◌≡◌}
 use Rattle.lists.specs.Marks.{Marks, Iterations}
 use Rattle.automaton.specs.Form.{letters_of, view}
 use Rattle.trellis_members.specs.Members.{Members}
 use Rattle.trellis_steps.specs.Steps.{KeptIn, Led}
-use Rattle.trellis_steps.specs.Loops.{kept_iterations_none, kept_iterations_more, firsts_put}
 use Rattle.trellis_steps.proofs.put_firsts.Given as goal
 
 abbrev pub invariant-loop-j : goal.invariant-loop-j

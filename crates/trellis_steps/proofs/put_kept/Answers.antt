@@ -1,14 +1,11 @@
 -- `trellis_steps::put_kept` meets its contract: the iterations so far have put what steps from their states lead to.
-use Prim.Native.Nat.{◌≤◌, ◌-◌}
 use mathlib.Core.Path.{◌≡◌, refl, subst}
 use native.Mathlib.Omega.{arith}
 use lib.ListN.{get_or}
 use Rattle.lists.specs.Marks.{Marks, Iterations}
 use Rattle.automaton.specs.Form.{view}
-use Rattle.trellis_members.specs.Members.{Members}
 use Rattle.trellis_steps.specs.Steps.{KeptIn, Onto, From}
 use Rattle.trellis_steps.specs.Loops.{kept_iterations_none, kept_iterations_more, all_put}
-use borrow.Author.Rules.{rules}
 use Rattle.trellis_steps.proofs.put_kept.Goals as goal
 
 pub loop-k-init : goal.loop-k-init

@@ -1,6 +1,5 @@
 -- `trellis_steps::put_kept_at` meets its contract: the state is put if the two costs add up.
 use Rattle.trellis_steps.specs.Loops.{at_put}
-use borrow.Author.Rules.{rules}
 use Rattle.trellis_steps.proofs.put_kept_at.Goals as goal
 
 pub returns : goal.returns

@@ -2,7 +2,6 @@
 use native.Mathlib.Omega.{arith}
 use Rattle.automaton.specs.Form.{view}
 use Rattle.trellis_steps.specs.Loops.{letter_put}
-use borrow.Author.Rules.{rules}
 use Rattle.trellis_steps.proofs.put_letter.Goals as goal
 
 pub keeps-requires : goal.keeps-requires

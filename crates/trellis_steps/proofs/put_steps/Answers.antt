@@ -8,7 +8,6 @@ use Rattle.trellis.proofs.ExtendedLaws.{at_letter}
 use Rattle.trellis.proofs.ReachedLaws.{entering_blanks}
 use Rattle.trellis_steps.specs.Steps.{KeptIn, Following}
 use Rattle.trellis_steps.specs.Loops.{entering_high, kept_one, steps_put}
-use borrow.Author.Rules.{rules}
 use Rattle.trellis_steps.proofs.put_steps.Goals as goal
 
 pub put_kept_at-one-requires : goal.put_kept_at-one-requires

@@ -1,10 +1,8 @@
 -- `trellis_steps::put_targets` meets its contract: the iterations so far have put the targets of their arcs.
-use Prim.Native.Nat.{◌≤◌, ◌-◌}
 use mathlib.Core.Path.{◌≡◌, subst}
 use native.Mathlib.Omega.{arith}
 use Rattle.lists.specs.Marks.{Marks, Iterations}
 use Rattle.automaton.specs.Form.{view}
-use Rattle.trellis_members.specs.Members.{Members}
 use Rattle.trellis_steps.specs.Steps.{KeptIn, OtherLetter, TargetOf}
 use Rattle.trellis_steps.specs.Loops.{kept_iterations_none, kept_iterations_more}
 use Rattle.trellis_steps.proofs.put_targets.Goals as goal

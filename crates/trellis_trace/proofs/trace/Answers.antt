@@ -2,7 +2,6 @@
 use mathlib.Core.Path.{refl}
 use lib.ListN.{replicate}
 use Rattle.trellis_members.specs.MembersLaws.{members_none}
-use borrow.Author.Rules.{rules}
 use Rattle.trellis_trace.proofs.trace.Goals as goal
 
 pub trace_columns-requires : goal.trace_columns-requires
