@@ -5,7 +5,6 @@ use mathlib.Core.Path.{sym, ap, ◌∙◌}
 use lib.Dec.{eqb}
 use Rattle.text.proofs.TextLaws.{byte_is}
 use Rattle.regex_signs.specs.SignsLaws.{opens_not, opens_by}
-use borrow.Author.Rules.{rules}
 use Rattle.regex_signs.proofs.begins_class.Goals as goal
 
 pub returns-then-peek-ne91 : goal.returns-then-peek-ne91

@@ -2,7 +2,6 @@
 use native.Mathlib.Omega.{arith}
 use Prim.Native.Nat.{◌+◌}
 use Rattle.regex_signs.specs.SignsLaws.{opens_within, name_within, name_part}
-use borrow.Author.Rules.{rules}
 use Rattle.regex_signs.proofs.class_name.Goals as goal
 
 pub overflow_add-from : goal.overflow_add-from

@@ -4,7 +4,6 @@ use Prim.Native.Char.{code}
 use lib.ListN.{get_or}
 use lib.Dec.{eqb}
 use Rattle.regex_signs.specs.SignsLaws.{closes_first, closes_by}
-use borrow.Author.Rules.{rules}
 use Rattle.regex_signs.proofs.closes.Goals as goal
 
 pub returns-then-at-first : goal.returns-then-at-first

@@ -3,7 +3,6 @@ use mathlib.Core.Path.{ap}
 use Prim.Native.Char.{code}
 use lib.Dec.{eqb}
 use borrow.Author.Tests.{eq-eqb, ne_eqb}
-use borrow.Author.Rules.{rules}
 use Rattle.regex_signs.proofs.ends_class.Goals as goal
 
 pub returns-then-text-at-ne58 : goal.returns-then-text-at-ne58

@@ -1,9 +1,5 @@
 -- `regex_signs::name_end` meets its contract: the nearest `:]` from i on is the nearest one from the start on.
-use native.Mathlib.Omega.{arith}
-use Prim.Native.Nat.{◌-◌, ◌+◌}
-use mathlib.Core.Path.{◌≡◌, refl, sym, ◌∙◌}
-use lib.ListN.{length, drop}
-use Rattle.regex_signs.specs.Signs.{name}
+use mathlib.Core.Path.{refl, sym, ◌∙◌}
 use Rattle.regex_signs.specs.SignsLaws.{name_here, name_past, name_end}
 use Rattle.regex_signs.proofs.name_end.Goals as goal
 

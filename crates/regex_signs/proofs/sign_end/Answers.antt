@@ -3,7 +3,6 @@ use native.Mathlib.Omega.{arith}
 use Prim.Native.Nat.{◌+◌}
 use mathlib.Core.Path.{sym, ap, ◌∙◌}
 use Rattle.regex_signs.specs.SignsLaws.{opens_within, name_within, sign_width_class, sign_width_byte}
-use borrow.Author.Rules.{rules}
 use Rattle.regex_signs.proofs.sign_end.Goals as goal
 
 pub overflow_add-result : goal.overflow_add-result
