@@ -1,7 +1,7 @@
 -- The bracket at a place of a text: its first sign, its end and its members.
 use Rattle.std.proofs.Math.Path.{◌≡◌, refl, sym, ap}
 use Rattle.std.proofs.Common.{◌∙◌, inl, inr, eq-eqb, ne_eqb, lt-ltb, le-ltb}
-use Rattle.std.specs.Prelude.{◌⊎◌, Bool, ℕ, ◌+◌, ◌-◌, ◌≤◌, ◌<◌, get_or, drop, eqb}
+use Rattle.std.specs.Prelude.{◌⊎◌, Bool, ℕ, ◌+◌, ◌≤◌, ◌<◌, get_or, drop, eqb}
 use Rattle.std.proofs.Math.Option.{Option, some, none}
 use mathlib.Core.List.{List, flat_map}
 use Rattle.std.proofs.Math.Bool.{true, false, cond, not}
@@ -18,7 +18,7 @@ use Rattle.text.proofs.TextLaws.{next_at, rest_at, place_drop}
 use Rattle.regex_tree.specs.Tree.{Range, Set, only, except, member, among}
 use Rattle.regex_tree.specs.Parsing.{Parsing, found, fault, then, enclosed}
 use Rattle.regex_tree.specs.Sets.{Sign, closed, sign_bytes, reserved, Item, items, members, ranges_of, known, inside, bracket}
-use Rattle.regex_signs.specs.Signs.{sign, signs}
+use Rattle.regex_signs.specs.Signs.{signs}
 use Rattle.regex_items.specs.Items.{Closing, left, resolved}
 use Rattle.regex_items.specs.LeftLoops.{left_first, closing_first}
 use Rattle.regex_bracket.specs.declared.End.TheVariants as end

@@ -1,9 +1,7 @@
 -- `regex_bracket::bracket_end` meets its contract.
 use native.Mathlib.Omega.{arith}
 use mathlib.Core.Path.{sym, ◌∙◌}
-use borrow.Author.Tests.{not-true, not-false}
 use Rattle.regex_bracket.specs.BracketLaws.{bracket_spoilt, bracket_left, bracket_closing, bracket_end, bracket_unknown, bracket_ends}
-use borrow.Author.Rules.{rules}
 use Rattle.regex_bracket.proofs.bracket_end.Goals as goal
 
 pub is_well_formed-requires : goal.is_well_formed-requires

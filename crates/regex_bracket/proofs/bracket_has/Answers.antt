@@ -2,7 +2,6 @@
 use mathlib.Core.Path.{ap, ◌∙◌}
 use mathlib.Core.Bool.{not}
 use Rattle.regex_bracket.specs.BracketLaws.{bracket_closing, good_formed, good_known, bracket_only, bracket_except}
-use borrow.Author.Rules.{rules}
 use Rattle.regex_bracket.proofs.bracket_has.Goals as goal
 
 pub has-requires : goal.has-requires

@@ -1,15 +1,8 @@
 -- `regex_bracket::closing` meets its contract: the closing `]` from i on is that of the bracket.
 use native.Mathlib.Omega.{arith}
-use Prim.Native.Nat.{◌≤◌, ◌-◌}
-use mathlib.Core.Path.{◌≡◌, sym, ◌∙◌}
-use mathlib.Core.Bool.{true}
-use lib.ListN.{length, drop}
-use lib.Dec.{eqb}
-use Rattle.regex_tree.specs.Sets.{closed}
+use mathlib.Core.Path.{sym, ◌∙◌}
 use Rattle.regex_signs.specs.SignsLaws.{sign_width_some}
-use Rattle.regex_bracket.specs.Answers.{after}
 use Rattle.regex_bracket.specs.ClosingLaws.{after_first, after_here, after_past, after_end}
-use borrow.Author.Rules.{rules}
 use Rattle.regex_bracket.proofs.closing.Goals as goal
 
 pub loop-i-init : goal.loop-i-init

@@ -2,7 +2,6 @@
 use mathlib.Core.Path.{sym, ap, ◌∙◌}
 use Rattle.lists.specs.Options.{is_some}
 use Rattle.regex_bracket.specs.ClosingLaws.{formed_open, formed_reserved, formed_closing, formed_left}
-use borrow.Author.Rules.{rules}
 use Rattle.regex_bracket.proofs.is_well_formed.Goals as goal
 
 pub returns-then-text-e : goal.returns-then-text-e

@@ -1,5 +1,4 @@
 -- `regex_bracket::opening` meets its contract.
-use borrow.Author.Rules.{rules}
 use mathlib.Core.Path.{sym, ◌∙◌}
 use Rattle.regex_bracket.specs.BracketLaws.{opened_except, opened_only}
 use Rattle.regex_bracket.proofs.opening.Goals as goal

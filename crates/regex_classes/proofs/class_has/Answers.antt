@@ -1,10 +1,6 @@
 -- `regex_classes::class_has` meets its contract: the byte is in no range before j, and the ranges from j on decide.
 use native.Mathlib.Omega.{arith}
-use Prim.Native.Nat.{◌≤◌, ◌-◌}
-use mathlib.Core.Path.{◌≡◌, refl, sym, ◌∙◌}
-use lib.ListN.{drop}
-use Rattle.regex_tree.specs.Tree.{among}
-use Rattle.regex_classes.specs.Table.{ranges_in}
+use mathlib.Core.Path.{refl, sym, ◌∙◌}
 use Rattle.regex_classes.specs.TableLaws.{in_range_here, in_range_past, in_range_end}
 use borrow.Author.Rules.{rules}
 use Rattle.regex_classes.proofs.class_has.Goals as goal

@@ -1,6 +1,5 @@
 -- `regex_classes::is_class` meets its contract.
 use mathlib.Core.Path.{sym}
-use borrow.Author.Rules.{rules}
 use Rattle.regex_classes.proofs.is_class.Goals as goal
 
 pub returns : goal.returns

@@ -1,9 +1,6 @@
 -- `regex_classes::is_name` meets its contract: the bytes from i on decide.
 use native.Mathlib.Omega.{arith}
-use Prim.Native.Nat.{◌≤◌, ◌-◌}
-use mathlib.Core.Path.{◌≡◌, refl, sym, ◌∙◌}
-use lib.ListN.{length, drop, take}
-use Rattle.lists.specs.Lists.{same_list}
+use mathlib.Core.Path.{refl, sym, ◌∙◌}
 use Rattle.regex_classes.specs.TableLaws.{byte_same, byte_other, bytes_end, name_fits, name_sized, other_length}
 use Rattle.regex_classes.proofs.is_name.Goals as goal
 

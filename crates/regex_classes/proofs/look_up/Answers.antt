@@ -4,7 +4,6 @@ use Rattle.lists.specs.Each.{all}
 use Rattle.lists.specs.Lists.{numbers}
 use Rattle.regex_tree.specs.Classes.{classes}
 use Rattle.regex_classes.specs.Table.{is_row, agrees}
-use borrow.Author.Rules.{rules}
 use Rattle.regex_classes.proofs.look_up.Goals as goal
 
 pub search-requires : goal.search-requires

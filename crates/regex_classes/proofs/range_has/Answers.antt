@@ -1,6 +1,5 @@
 -- `regex_classes::range_has` meets its contract.
 use borrow.Author.Tests.{lt-leb, le-leb}
-use borrow.Author.Rules.{rules}
 use Rattle.regex_classes.proofs.range_has.Goals as goal
 
 pub returns-then-b-range : goal.returns-then-b-range

@@ -1,9 +1,8 @@
 -- `regex_classes::search` meets its contract: the classes from row k on decide.
-use native.Mathlib.Omega.{arith}
 use Prim.Native.Nat.{◌≤◌, ◌-◌}
-use mathlib.Core.Path.{◌≡◌, refl, sym, ◌∙◌}
+use mathlib.Core.Path.{◌≡◌}
 use Rattle.regex_tree.specs.Classes.{class_ranges}
-use Rattle.regex_classes.specs.TableLaws.{sought, sought_all, sought_none, sought_past, sought_here, row_here}
+use Rattle.regex_classes.specs.TableLaws.{sought}
 use Rattle.regex_classes.proofs.search.Given as goal
 
 abbrev pub invariant-loop-k : goal.invariant-loop-k

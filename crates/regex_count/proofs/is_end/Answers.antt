@@ -1,5 +1,4 @@
 -- `regex_count::is_end` meets its contract.
-use borrow.Author.Rules.{rules}
 use mathlib.Core.Path.{◌∙◌}
 use Rattle.regex_count.specs.PartsLaws.{ends_none, ends_by}
 use Rattle.regex_count.proofs.is_end.Goals as goal

@@ -1,5 +1,4 @@
 -- `regex_count::sum` meets its contract.
-use native.Mathlib.Omega.{arith}
 use Rattle.regex_count.proofs.sum.Goals as goal
 
 pub capped_at_128-requires : goal.capped_at_128-requires

@@ -1,14 +1,9 @@
 -- `regex_items::are_items` meets its contract: the items from i on decide.
 use native.Mathlib.Omega.{arith}
-use Prim.Native.Nat.{◌-◌}
-use mathlib.Core.Path.{◌≡◌, refl, sym, ◌∙◌}
-use lib.ListN.{length, drop}
-use borrow.Author.Tests.{not-true, not-false}
-use Rattle.lists.specs.Options.{is_some}
-use Rattle.regex_items.specs.Items.{left}
+use mathlib.Core.Path.{refl, sym, ◌∙◌}
+use lib.ListN.{drop}
 use Rattle.regex_items.specs.ItemsLaws.{width_some}
-use Rattle.regex_items.specs.LeftLoops.{Inner, inner_within, some_end, inner_more, left_spoilt, left_more}
-use borrow.Author.Rules.{rules}
+use Rattle.regex_items.specs.LeftLoops.{inner_within, some_end, inner_more, left_spoilt, left_more}
 use Rattle.regex_items.proofs.are_items.Goals as goal
 
 pub loop-i-init : goal.loop-i-init

@@ -1,15 +1,11 @@
 -- `regex_items::are_known` meets its contract: the items from i on decide.
-use native.Mathlib.Omega.{arith}
 use Prim.Native.Nat.{◌-◌}
-use mathlib.Core.Path.{◌≡◌, refl, sym, ◌∙◌}
+use mathlib.Core.Path.{◌≡◌}
 use mathlib.Core.Bool.{true}
-use lib.ListN.{length, drop}
-use borrow.Author.Tests.{not-true, not-false}
+use lib.ListN.{length}
 use Rattle.lists.specs.Options.{is_some}
 use Rattle.regex_items.specs.Items.{left, resolved}
-use Rattle.regex_items.specs.ItemsLaws.{width_some}
-use Rattle.regex_items.specs.LeftLoops.{Inner, inner_within, known_end, inner_more, is_allowed, some_more, unknown_here, known_more}
-use borrow.Author.Rules.{rules}
+use Rattle.regex_items.specs.LeftLoops.{Inner}
 use Rattle.regex_items.proofs.are_known.Given as goal
 
 abbrev pub invariant-loop-i : goal.invariant-loop-i

@@ -1,15 +1,12 @@
 -- `regex_items::has` meets its contract: the byte is in no item before i, and the items from i on decide.
-use native.Mathlib.Omega.{arith}
 use Prim.Native.Nat.{◌-◌}
-use mathlib.Core.Path.{◌≡◌, refl, sym, ◌∙◌}
+use mathlib.Core.Path.{◌≡◌}
 use mathlib.Core.Bool.{true}
-use lib.ListN.{length, drop}
+use lib.ListN.{length}
 use Rattle.lists.specs.Options.{is_some, listed}
 use Rattle.regex_tree.specs.Tree.{among}
 use Rattle.regex_items.specs.Items.{left, resolved}
-use Rattle.regex_items.specs.ItemsLaws.{width_some}
-use Rattle.regex_items.specs.LeftLoops.{Inner, inner_within, among_end, inner_more, is_allowed, known_good, resolved_more, among_here, among_past}
-use borrow.Author.Rules.{rules}
+use Rattle.regex_items.specs.LeftLoops.{Inner}
 use Rattle.regex_items.proofs.has.Given as goal
 
 abbrev pub invariant-loop-i : goal.invariant-loop-i

@@ -4,7 +4,6 @@ use mathlib.Core.Path.{sym, ap, ◌∙◌}
 use mathlib.Core.Bool.{not}
 use lib.Dec.{eqb}
 use Rattle.regex_items.specs.ItemAtLaws.{ranges_not, ranges_by}
-use borrow.Author.Rules.{rules}
 use Rattle.regex_items.proofs.is_range.Goals as goal
 
 pub returns-then-peek-ne45 : goal.returns-then-peek-ne45

@@ -1,9 +1,6 @@
 -- `regex_items::is_reserved` meets its contract: what is left inside decides.
 use native.Mathlib.Omega.{arith}
-use Prim.Native.Nat.{◌≤◌, ◌-◌}
-use mathlib.Core.Path.{◌≡◌, refl, sym, ◌∙◌}
-use lib.ListN.{length, drop}
-use Rattle.regex_tree.specs.Sets.{reserved}
+use mathlib.Core.Path.{refl, sym, ◌∙◌}
 use Rattle.regex_items.specs.ReservedLaws.{reserved_here, reserved_more, reserved_end}
 use Rattle.regex_items.proofs.is_reserved.Goals as goal
 

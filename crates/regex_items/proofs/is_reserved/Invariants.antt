@@ -1,10 +1,8 @@
 -- `regex_items::is_reserved` meets its contract: what is left inside decides.
-use native.Mathlib.Omega.{arith}
 use Prim.Native.Nat.{◌≤◌, ◌-◌}
-use mathlib.Core.Path.{◌≡◌, refl, sym, ◌∙◌}
+use mathlib.Core.Path.{◌≡◌}
 use lib.ListN.{length, drop}
 use Rattle.regex_tree.specs.Sets.{reserved}
-use Rattle.regex_items.specs.ReservedLaws.{reserved_here, reserved_more, reserved_end}
 use Rattle.regex_items.proofs.is_reserved.Given as goal
 
 abbrev pub invariant-loop-i : goal.invariant-loop-i

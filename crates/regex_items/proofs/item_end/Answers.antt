@@ -3,7 +3,6 @@ use Prim.Native.Nat.{◌+◌}
 use mathlib.Core.Path.{sym, ap, ◌∙◌}
 use lib.ListN.{drop}
 use Rattle.regex_items.specs.ItemsLaws.{width_range, width_sign}
-use borrow.Author.Rules.{rules}
 use Rattle.regex_items.proofs.item_end.Goals as goal
 
 pub returns-then-is_range : goal.returns-then-is_range

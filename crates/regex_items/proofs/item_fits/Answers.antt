@@ -2,10 +2,8 @@
 use mathlib.Core.Path.{sym, ◌∙◌}
 use lib.ListN.{drop}
 use lib.Dec.{eqb}
-use borrow.Author.Tests.{not-true, not-false}
 use Rattle.regex_items.specs.ItemsLaws.{fits_class}
 use Rattle.regex_items.specs.ItemAtLaws.{fits_last_at, fits_not_at, fits_by_at}
-use borrow.Author.Rules.{rules}
 use Rattle.regex_items.proofs.item_fits.Goals as goal
 
 pub returns-then-begins_class : goal.returns-then-begins_class

@@ -4,7 +4,6 @@ use Rattle.lists.specs.Options.{listed}
 use Rattle.regex_tree.specs.Tree.{among}
 use Rattle.regex_tree.specs.Classes.{class_ranges}
 use Rattle.regex_items.specs.ItemAtLaws.{has_class, has_range}
-use borrow.Author.Rules.{rules}
 use Rattle.regex_items.proofs.item_has.Goals as goal
 
 pub class_name-requires : goal.class_name-requires

@@ -3,7 +3,6 @@ use mathlib.Core.Path.{sym, ap, ◌∙◌}
 use Rattle.lists.specs.Options.{is_some}
 use Rattle.regex_tree.specs.Classes.{class_ranges}
 use Rattle.regex_items.specs.ItemAtLaws.{known_class, known_range}
-use borrow.Author.Rules.{rules}
 use Rattle.regex_items.proofs.item_known.Goals as goal
 
 pub class_name-requires : goal.class_name-requires

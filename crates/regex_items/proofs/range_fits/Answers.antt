@@ -2,10 +2,8 @@
 use mathlib.Core.Path.{sym, ap, ◌∙◌}
 use lib.ListN.{get_or, drop}
 use lib.Dec.{leb}
-use borrow.Author.Tests.{not-true, not-false}
 use Rattle.regex_items.specs.ItemsLaws.{range_fits_one}
 use Rattle.regex_items.specs.ItemAtLaws.{range_fits_class_at, range_fits_by_at}
-use borrow.Author.Rules.{rules}
 use Rattle.regex_items.proofs.range_fits.Goals as goal
 
 pub returns-then-not-is_range : goal.returns-then-not-is_range

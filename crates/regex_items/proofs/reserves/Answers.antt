@@ -1,5 +1,4 @@
 -- `regex_items::reserves` meets its contract.
-use borrow.Author.Rules.{rules}
 use mathlib.Core.Path.{ap, ◌∙◌}
 use Rattle.text.specs.Bytes.{bytes}
 use Rattle.text.specs.Text.{one_of}

@@ -1,7 +1,6 @@
 -- `regex_items::upto` meets its contract.
 use mathlib.Core.Path.{sym, ◌∙◌}
 use Rattle.regex_items.specs.ItemAtLaws.{upto_range_at, upto_one_at}
-use borrow.Author.Rules.{rules}
 use Rattle.regex_items.proofs.upto.Goals as goal
 
 pub returns-then-is_range : goal.returns-then-is_range

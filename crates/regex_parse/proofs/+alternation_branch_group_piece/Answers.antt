@@ -1,9 +1,6 @@
 -- `alternation`, `branch`, `piece` and `group` meet their contracts, together, where the functions that they call meet theirs below the measure.
 use mathlib.Core.Path.{sym, ap, ◌∙◌}
 use native.Mathlib.Omega.{arith}
-use borrow.Author.Rules.{rules}
-use Prim.Native.Nat.{◌<◌, ◌+◌, ◌-◌, ◌*◌}
-use lib.ListN.{length}
 use Rattle.regex_tree.specs.Parse.{m_branch, m_piece, m_group}
 use Rattle.text.proofs.TextLaws.{byte_is}
 use Rattle.regex_count.specs.Parts.{add, repeated, closed}

@@ -1,9 +1,5 @@
 -- `regex_set::count_labels` meets its contract: the labels counted and those from i on are all.
 use native.Mathlib.Omega.{arith}
-use Prim.Native.Nat.{◌≤◌, ◌-◌, ◌+◌}
-use mathlib.Core.Path.{◌≡◌}
-use lib.ListN.{length, drop}
-use Rattle.regex_tree.specs.Letters.{labels_of}
 use Rattle.regex_set.specs.Answers.{set_at}
 use Rattle.regex_set.specs.SetsLaws.{labels_none, labels_more, labels_end}
 use Rattle.regex_set.proofs.count_labels.Goals as goal

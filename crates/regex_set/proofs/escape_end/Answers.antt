@@ -1,5 +1,4 @@
 -- `regex_set::escape_end` meets its contract.
-use borrow.Author.Rules.{rules}
 use mathlib.Core.Path.{sym, ap, ◌∙◌}
 use lib.ListN.{drop}
 use Rattle.regex_tree.specs.Sets.{special}

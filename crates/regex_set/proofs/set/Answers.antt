@@ -1,6 +1,5 @@
 -- `regex_set::set` meets its contract.
-use borrow.Author.Rules.{rules}
-use mathlib.Core.Path.{sym, ap, ◌∙◌}
+use mathlib.Core.Path.{ap, ◌∙◌}
 use lib.ListN.{drop}
 use Rattle.regex_set.specs.declared.Part.TheVariants as part
 use Rattle.regex_set.specs.SetsLaws.{ends_set, part_refused, part_foreign, part_labels}

@@ -1,5 +1,4 @@
 -- `regex_set::set_end` meets its contract.
-use borrow.Author.Rules.{rules}
 use mathlib.Core.Path.{sym, ◌∙◌}
 use Rattle.regex_set.specs.SetsLaws.{end_none, end_escape, end_dot, end_bracket, end_special, end_alone}
 use Rattle.regex_set.proofs.set_end.Goals as goal
