@@ -1,0 +1,6 @@
+-- `kavurehy::kavurehy_judge` meets its contract.
+use borrow.Author.Rules.{rules}
+use Rattle.kavurehy.proofs.kavurehy_judge.Goals as goal
+
+pub returns : goal.returns
+returns c = rw c.judge.ensures at c.hand_judgement.ensures
