@@ -11,7 +11,7 @@ use Rattle.refusal.specs.declared.Refusal.TheVariants.{MisplacedSign, Depth, Bra
 use Rattle.refusal.specs.declared.Refusal.TheVariants as refusal
 use Rattle.refusal.specs.Number.{number_of}
 use Rattle.text.specs.Bytes.{bytes}
-use Rattle.regex_tree.specs.Tree.{range, Count, between, onward, only, except, Tree, set, group, times, join, either}
+use Rattle.regex_tree.specs.Tree.{range, between, onward, only, except, Tree, set, group, times, join, either}
 use Rattle.regex_tree.specs.Letters.{labels_of, letter_count}
 use Rattle.regex_tree.specs.Classes.{classes, look_up, class_ranges}
 use Rattle.regex_tree.specs.Parsing.{Parsing, found, fault, then, enclosed}

@@ -4,7 +4,7 @@ use Rattle.std.specs.Prelude.{◌≡◌, List, [], ◌∷◌, ◌++◌, Bool, tr
 use Rattle.refusal.specs.declared.Refusal.{Refusal}
 use Rattle.refusal.specs.declared.Refusal.TheVariants as refusal
 use Rattle.text.specs.Bytes.{bytes}
-use Rattle.regex_tree.specs.Tree.{Count, Set, Tree}
+use Rattle.regex_tree.specs.Tree.{Set, Tree}
 use Rattle.regex_tree.specs.Letters.{labels_of}
 use Rattle.regex_tree.specs.Parsing.{found, fault}
 use Rattle.text.specs.Text.{one_of, next}
