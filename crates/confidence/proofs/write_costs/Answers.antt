@@ -1,10 +1,9 @@
 -- `confidence::write_costs` meets its contract: what is written, and the costs of the rest, make the whole.
-use Prim.Native.Nat.{◌≤◌, ◌+◌, ◌-◌}
+use Prim.Native.Nat.{◌+◌}
 use mathlib.Core.List.{map}
 use native.Mathlib.Omega.{arith}
-use lib.ListN.{length, length-map, get_or, drop}
-use borrow.Author.Rules.{rules}
-use Rattle.lists.proofs.FillingLoops.{Filling, filling_none, filling_more, filling_length, filling_all}
+use lib.ListN.{length-map, get_or, drop}
+use Rattle.lists.proofs.FillingLoops.{filling_none, filling_more, filling_length, filling_all}
 use Rattle.confidence_rule.specs.Cost.{cost_of}
 use Rattle.confidence.proofs.Loops.{cost_step, cost_end}
 use Rattle.confidence.proofs.write_costs.Goals as goal

@@ -1,6 +1,5 @@
 -- `confidence_rule::cost` meets its contract.
 use mathlib.Core.Path.{sym, ap, ◌∙◌}
-use borrow.Author.Rules.{rules}
 use Rattle.confidence_rule.specs.Cost.{cost_of}
 use Rattle.confidence_rule.proofs.Loops.{cost_more}
 use Rattle.confidence_rule.proofs.cost.Goals as goal

@@ -1,8 +1,7 @@
 -- `confidence_rule::largest_shift` meets its contract: the search goes down from 64, and what is left of it decides.
-use Prim.Native.Nat.{◌*◌, ◌^◌, ◌≤◌}
-use mathlib.Core.Path.{◌≡◌, refl, sym, ◌∙◌}
+use mathlib.Core.Path.{refl, sym, ◌∙◌}
 use native.Mathlib.Omega.{arith}
-use Rattle.confidence_rule.specs.Cost.{largest, within, shift}
+use Rattle.confidence_rule.specs.Cost.{shift}
 use Rattle.confidence_rule.proofs.Loops.{shift_found, shift_past, shift_one, limit_doubled, limit_small}
 use Rattle.confidence_rule.proofs.largest_shift.Goals as goal
 

@@ -1,5 +1,5 @@
 -- `vectors_fields::narrow` meets its contract: as many numbers as the loop has passed are written as bytes.
-use Rattle.std.proofs.Common.{length, arith}
+use Rattle.std.proofs.Common.{arith}
 use Rattle.std.proofs.Math.ListN.{length-set}
 use Rattle.vectors_fields.specs.NarrowLoops.{narrowed_none, narrowed_length, narrowed_more, narrowed_all}
 use Rattle.vectors_fields.proofs.narrow.Goals as goal

@@ -1,9 +1,7 @@
 -- `vectors_fields::narrow` meets its contract: as many numbers as the loop has passed are written as bytes.
 use Prim.Native.Nat.{◌-◌, ◌≤◌}
-use native.Mathlib.Omega.{arith}
-use lib.ListN.{length, length-set}
-use borrow.Author.Rules.{rules}
-use Rattle.vectors_fields.specs.NarrowLoops.{Narrowed, narrowed_none, narrowed_length, narrowed_more, narrowed_all}
+use lib.ListN.{length}
+use Rattle.vectors_fields.specs.NarrowLoops.{Narrowed}
 use Rattle.vectors_fields.proofs.narrow.Given as goal
 
 abbrev pub invariant-loop-i : goal.invariant-loop-i

@@ -1,10 +1,8 @@
 -- `vectors_fields::start` meets its contract: the field wanted is a field of the line from `at` on.
-use mathlib.Core.Path.{◌≡◌, ◌∙◌}
+use mathlib.Core.Path.{◌≡◌}
 use Prim.Native.Nat.{◌-◌, ◌≤◌}
-use native.Mathlib.Omega.{arith}
 use lib.ListN.{length, drop}
 use Rattle.vectors_fields.specs.Fields.{field_of}
-use Rattle.vectors_fields.specs.CutLoops.{next_within, cut_further, cut_ends}
 use Rattle.vectors_fields.proofs.start.Given as goal
 
 abbrev pub invariant-loop-i : goal.invariant-loop-i
