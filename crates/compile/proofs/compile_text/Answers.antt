@@ -1,5 +1,6 @@
 -- `compile::compile_text` meets its contract: the parser's refusal, too many letters, or the form.
 use mathlib.Core.Path.{sym, ◌∙◌, subst}
+use native.Mathlib.Omega.{arith}
 use lib.ListN.{length}
 use Rattle.refusal.specs.declared.Refusal.TheVariants.{Letters}
 use Rattle.refusal.specs.Fills.{reported, Fills}
@@ -15,13 +16,13 @@ returns-then-n-gt127 c =
     let t = c.args.text.now in
     let m = c.args.form.now in
     fills_refused (parsed_form A (length m) (expression_of A t)) Letters m
-    (text_many A t (length m) c.in-Letters.n (sym c.in-Letters.is ∙ c.expression.ensures) c.if-n-gt127.true)
+    (text_many A t (length m) c.in-Letters.n (sym c.in-Letters.is ∙ c.expression.ensures) (omega arith))
 
 pub write-requires : goal.write-requires
 write-requires c =
     let A = c.args.alphabet.now in
     let t = c.args.text.now in
-    (c.requires, text_compilable A t (length c.args.form.now) c.in-Letters.n (sym c.in-Letters.is ∙ c.expression.ensures) c.if-n-gt127.false)
+    (c.requires, text_compilable A t (length c.args.form.now) c.in-Letters.n (sym c.in-Letters.is ∙ c.expression.ensures) (omega arith))
 
 pub returns-in-Refused : goal.returns-in-Refused
 returns-in-Refused c =
@@ -37,5 +38,5 @@ returns-else-n-gt127 c =
     let t = c.args.text.now in
     let m = c.args.form.now in
     let wrote = c.write in
-    let some = text_compilable A t (length m) c.in-Letters.n (sym c.in-Letters.is ∙ c.expression.ensures) c.if-n-gt127.false in
+    let some = text_compilable A t (length m) c.in-Letters.n (sym c.in-Letters.is ∙ c.expression.ensures) (omega arith) in
     subst (λ v. Fills v (reported wrote.result) m wrote.new.form) (sym (text_form A t (length m) some)) wrote.ensures
