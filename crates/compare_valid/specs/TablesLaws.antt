@@ -8,7 +8,7 @@ use Rattle.refusal.specs.declared.Refusal.TheVariants.{NoReading}
 use Rattle.automaton.specs.Automaton.{Accepts}
 use Rattle.automaton.specs.Form.{letters_of, view}
 use Rattle.automaton.proofs.ValidLaws.{valid_at, view_proper}
-use Rattle.matrix.specs.Matrix.{Matrix, price}
+use Rattle.matrix.specs.Matrix.{Matrix}
 use Rattle.outcome.specs.Outcome.{Outcome}
 use Rattle.trellis.specs.Impossible.{TOP}
 use Rattle.trellis.proofs.OutcomeLaws.{Pays, outcome_exists, outcome_pays}

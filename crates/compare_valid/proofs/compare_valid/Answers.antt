@@ -2,7 +2,7 @@
 use mathlib.Core.Path.{◌∙◌}
 use mir.Syntax.{w32}
 use mir.ValLaws.{to_z-of_z}
-use borrow.Author.Rules.{rules, sfits_of}
+use borrow.Author.Rules.{sfits_of}
 use Rattle.compare_valid.specs.TablesLaws.{sized_first, sized_second, nothing_first, nothing_second, both}
 use Rattle.compare_valid.proofs.compare_valid.Goals as goal
 

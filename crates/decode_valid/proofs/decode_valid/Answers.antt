@@ -3,7 +3,6 @@ use Prim.Native.Nat.{◌+◌, ◌*◌}
 use mathlib.Core.Path.{sym, ap}
 use native.Mathlib.Omega.{arith}
 use lib.Seq.{length-take-le}
-use borrow.Author.Rules.{rules}
 use Rattle.decode_valid.specs.Lent.{lent}
 use Rattle.decode_valid.proofs.PhasesLaws.{sized, nothing, ready, something}
 use Rattle.decode_valid.proofs.decode_valid.Goals as goal

@@ -1,6 +1,5 @@
 -- `trellis_costs::last_cost` meets its contract.
 use mathlib.Core.Path.{sym, ap, ◌∙◌}
-use borrow.Author.Rules.{rules}
 use Rattle.trellis.specs.Cells.{ending}
 use Rattle.trellis_costs.proofs.last_cost.Goals as goal
 

@@ -1,5 +1,5 @@
 -- `trellis_keys::fill_keys` meets its contract: the keys of the letters so far are written.
-use Prim.Native.Nat.{◌+◌, ◌-◌, ◌≤◌}
+use Prim.Native.Nat.{◌+◌}
 use mathlib.Core.Path.{◌≡◌, subst}
 use native.Mathlib.Omega.{arith}
 use Rattle.automaton.specs.Form.{letters_of}

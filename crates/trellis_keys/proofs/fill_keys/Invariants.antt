@@ -1,10 +1,7 @@
 -- `trellis_keys::fill_keys` meets its contract: the keys of the letters so far are written.
 use Prim.Native.Nat.{◌+◌, ◌-◌, ◌≤◌}
-use mathlib.Core.Path.{◌≡◌, subst}
-use native.Mathlib.Omega.{arith}
 use Rattle.automaton.specs.Form.{letters_of}
 use Rattle.trellis_keys.specs.Keys.{KeysBelow}
-use Rattle.trellis_keys.specs.KeysLoops.{keys_none, keys_more}
 use Rattle.trellis_keys.proofs.fill_keys.Given as goal
 
 abbrev pub invariant-loop-j : goal.invariant-loop-j

@@ -1,7 +1,6 @@
 -- `trellis_offers::key_at` meets its contract.
 use mathlib.Core.Path.{ap}
 use lib.ListN.{get_or}
-use borrow.Author.Rules.{rules}
 use Rattle.trellis_offers.proofs.key_at.Goals as goal
 
 pub returns : goal.returns

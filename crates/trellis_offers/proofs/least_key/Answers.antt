@@ -1,10 +1,9 @@
 -- `trellis_offers::least_key` meets its contract: the least of the letters so far.
-use Prim.Native.Nat.{◌-◌, ◌≤◌, min}
+use Prim.Native.Nat.{min}
 use mathlib.Core.Path.{ap, ap₂, ◌∙◌}
 use native.Mathlib.Omega.{arith}
 use Rattle.trellis_offers.specs.Offers.{KeyAt, key_at}
-use Rattle.trellis_offers.specs.OffersLoops.{key_more, Pairs, pairs_start, has_key, pair_inside, next_has_key, pairs_more, pairs_last, pairs_end}
-use borrow.Author.Rules.{rules}
+use Rattle.trellis_offers.specs.OffersLoops.{key_more, pairs_start, has_key, pair_inside, next_has_key, pairs_more, pairs_last, pairs_end}
 use Rattle.trellis_offers.proofs.least_key.Goals as goal
 
 pub overflow_sub-end : goal.overflow_sub-end

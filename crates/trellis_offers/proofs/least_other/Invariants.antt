@@ -1,10 +1,7 @@
 -- `trellis_offers::least_other` meets its contract: the least of the letters so far that have another label.
-use Prim.Native.Nat.{◌-◌, ◌≤◌, min}
-use mathlib.Core.Path.{ap, ap₂, ◌∙◌}
-use native.Mathlib.Omega.{arith}
-use Rattle.trellis_offers.specs.Offers.{OtherAt, key_at, unless_own}
-use Rattle.trellis_offers.specs.OffersLoops.{other_more, Pairs, pairs_start, has_key, pair_inside, next_has_key, pairs_more, pairs_last, pairs_end}
-use borrow.Author.Rules.{rules}
+use Prim.Native.Nat.{◌-◌}
+use Rattle.trellis_offers.specs.Offers.{OtherAt}
+use Rattle.trellis_offers.specs.OffersLoops.{Pairs}
 use Rattle.trellis_offers.proofs.least_other.Given as goal
 
 abbrev pub invariant-loop-k : goal.invariant-loop-k

@@ -3,7 +3,6 @@ use native.Mathlib.Omega.{arith}
 use Prim.Native.Nat.{◌-◌}
 use Rattle.form_arcs.specs.EqualLaws.{equal_letters}
 use Rattle.trellis_offers.specs.OffersLaws.{arcs_looked, arcs_all, least_equal}
-use borrow.Author.Rules.{rules}
 use Rattle.trellis_offers.proofs.next_key.Goals as goal
 
 pub bounds-same-i : goal.bounds-same-i

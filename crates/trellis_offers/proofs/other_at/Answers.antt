@@ -4,7 +4,6 @@ use mathlib.Core.Path.{sym, ap, ◌∙◌}
 use mathlib.Core.Bool.{cond}
 use borrow.Author.Tests.{eq-eqb, ne_eqb}
 use Rattle.trellis_offers.specs.Offers.{FAR, key_at}
-use borrow.Author.Rules.{rules}
 use Rattle.trellis_offers.proofs.other_at.Goals as goal
 
 pub returns-then-label_of-own : goal.returns-then-label_of-own

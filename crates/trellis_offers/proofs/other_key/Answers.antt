@@ -4,7 +4,6 @@ use native.Mathlib.Omega.{arith}
 use Rattle.automaton.specs.Form.{label_of}
 use Rattle.trellis_offers.specs.Offers.{LeastOther}
 use Rattle.trellis_offers.specs.OffersLaws.{arcs_looked, arcs_other, least_another}
-use borrow.Author.Rules.{rules}
 use Rattle.trellis_offers.proofs.other_key.Goals as goal
 
 pub offset_bounds-keys-i : goal.offset_bounds-keys-i

@@ -4,7 +4,6 @@ use mathlib.Core.Path.{ap, ◌∙◌}
 use native.Mathlib.Omega.{arith}
 use lib.ListN.{length-set}
 use Rattle.trellis_row.specs.LettersLoops.{letter_filled}
-use borrow.Author.Rules.{rules}
 use Rattle.trellis_row.proofs.fill_letter.Goals as goal
 
 pub next_key-least-requires : goal.next_key-least-requires

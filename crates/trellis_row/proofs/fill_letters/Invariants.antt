@@ -1,11 +1,9 @@
 -- `trellis_row::fill_letters` meets its contract: the states of the letters so far are written.
 use Prim.Native.Nat.{◌+◌, ◌*◌, ◌-◌, ◌≤◌}
-use mathlib.Core.Path.{◌≡◌, subst}
-use native.Mathlib.Omega.{arith}
+use mathlib.Core.Path.{◌≡◌}
 use Rattle.automaton.specs.Form.{letters_of}
 use Rattle.trellis_offers.specs.Offers.{LeastKey}
 use Rattle.trellis_row.specs.Letters.{LettersFilled}
-use Rattle.trellis_row.specs.LettersLoops.{letter_ready, letters_none, letters_more}
 use Rattle.trellis_row.proofs.fill_letters.Given as goal
 
 abbrev pub invariant-loop-i : goal.invariant-loop-i

@@ -4,7 +4,6 @@ use mathlib.Core.Path.{ap, ◌∙◌}
 use native.Mathlib.Omega.{arith}
 use Rattle.trellis_keys.specs.KeysLaws.{keys_labels}
 use Rattle.trellis_row.specs.RowsLaws.{row_filled}
-use borrow.Author.Rules.{rules}
 use Rattle.trellis_row.proofs.fill_row.Goals as goal
 
 pub bounds-column-0 : goal.bounds-column-0

@@ -1,6 +1,5 @@
 -- `trellis_table::fill` meets its contract: the last row, and then the others.
 use native.Mathlib.Omega.{arith}
-use borrow.Author.Rules.{rules}
 use Rattle.matrix.specs.Matrix.{matrix}
 use Rattle.trellis_table.specs.FillLoops.{filled}
 use Rattle.trellis_table.proofs.fill.Goals as goal

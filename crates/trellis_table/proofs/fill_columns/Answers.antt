@@ -1,8 +1,8 @@
 -- `trellis_table::fill_columns` meets its contract: the loop has written the rows from that of column t on.
-use Prim.Native.Nat.{◌+◌, ◌*◌, ◌-◌, ◌<◌, ◌≤◌}
+use Prim.Native.Nat.{◌+◌, ◌*◌, ◌-◌}
 use mathlib.Core.Path.{◌≡◌, refl, subst}
 use native.Mathlib.Omega.{arith}
-use lib.ListN.{length, take, drop}
+use lib.ListN.{take, drop}
 use Rattle.matrix.specs.Matrix.{matrix}
 use Rattle.trellis_table.specs.Fill.{RowsFilled}
 use Rattle.trellis_table.specs.FillLoops.{rows_last, column_inside, row_inside, column_wide, column_of, rows_more}

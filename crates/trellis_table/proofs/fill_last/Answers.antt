@@ -1,8 +1,7 @@
 -- `trellis_table::fill_last` meets its contract: the loop has written the states so far.
-use Prim.Native.Nat.{◌+◌, ◌*◌, ◌-◌, ◌<◌, ◌≤◌}
+use Prim.Native.Nat.{◌+◌, ◌*◌}
 use mathlib.Core.Path.{◌≡◌, subst}
 use native.Mathlib.Omega.{arith}
-use lib.ListN.{length}
 use Rattle.automaton.specs.Form.{letters_of}
 use Rattle.trellis_table.specs.LastLoops.{LastBelow, last_none, last_more, last_filled}
 use Rattle.trellis_table.proofs.fill_last.Goals as goal

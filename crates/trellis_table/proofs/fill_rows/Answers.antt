@@ -1,7 +1,6 @@
 -- `trellis_table::fill_rows` meets its contract.
 use mathlib.Core.Path.{refl, sym, ◌∙◌}
 use Rattle.form_arcs.specs.TargetsLaws.{targets_there}
-use borrow.Author.Rules.{rules}
 use Rattle.trellis_table.proofs.fill_rows.Goals as goal
 
 pub list_targets-requires : goal.list_targets-requires
