@@ -28,7 +28,7 @@ put_kept-requires c =
     let a = c.args in
     let p = c.requires in
     let b = c.put_blanks-m in
-    let none : b.result ≡ 0 = omega (arith, c.if-m-gt0.false) in
+    let none : b.result ≡ 0 = omega arith in
     (subst (ColumnReady a.form.now a.column.now a.row.now) (sym c.wide_word.ensures) p.0, p.1, p.2, p.3, subst (Members b.new.set b.new.list) none b.ensures.1)
 
 pub returns : goal.returns
@@ -38,7 +38,7 @@ returns c =
     let b = c.put_blanks-m in
     let set = b.new.set in
     let near = c.put_kept.new.set in
-    let none : b.result ≡ 0 = omega (arith, c.if-m-gt0.false) in
+    let none : b.result ≡ 0 = omega arith in
     let empty = subst (Members set b.new.list) none b.ensures.1 in
     let marks = subst (λ v. Marks (KeptOf (view a.form.now) a.column.now a.row.now v (Listed a.from.now a.n)) set near) c.wide_word.ensures c.put_kept.ensures.0 in
     (lowest_all a.form.now a.column.now a.row.now a.v (Listed a.from.now a.n) empty p.4 marks, c.put_kept.ensures.1)

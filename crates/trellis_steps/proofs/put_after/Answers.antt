@@ -30,7 +30,6 @@ pub returns : goal.returns
 returns c =
     let a = c.args in
     let p = c.requires in
-    let d = c.if-i-eq0.false in
     let after = c.put_targets.new.set in (
       targets_put a.form.now a.column.now a.row.now a.v p.0.valid a.own a.set.now after a.i a.b a.e (omega arith) p.1 p.2
           c.put_targets.ensures.0,
