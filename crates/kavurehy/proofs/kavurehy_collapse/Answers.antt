@@ -1,5 +1,4 @@
 -- `kavurehy::kavurehy_collapse` meets its contract.
-use borrow.Author.Rules.{rules}
 use Rattle.kavurehy.specs.HandedLaws.{fills_counted}
 use Rattle.kavurehy.specs.BoundsLaws.{collapse_fits}
 use Rattle.kavurehy.proofs.kavurehy_collapse.Goals as goal

@@ -1,5 +1,4 @@
 -- `kavurehy::kavurehy_compile` meets its contract.
-use borrow.Author.Rules.{rules}
 use Rattle.kavurehy.specs.HandedLaws.{fills_counted}
 use Rattle.kavurehy.specs.BoundsLaws.{compile_fits}
 use Rattle.kavurehy.proofs.kavurehy_compile.Goals as goal

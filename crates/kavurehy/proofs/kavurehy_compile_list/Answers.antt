@@ -1,5 +1,4 @@
 -- `kavurehy::kavurehy_compile_list` meets its contract.
-use borrow.Author.Rules.{rules}
 use Rattle.kavurehy.specs.HandedLaws.{fills_counted}
 use Rattle.kavurehy.specs.BoundsLaws.{list_fits}
 use Rattle.kavurehy.proofs.kavurehy_compile_list.Goals as goal

@@ -1,5 +1,4 @@
 -- `kavurehy::kavurehy_costs` meets its contract.
-use borrow.Author.Rules.{rules}
 use Rattle.kavurehy.specs.HandedLaws.{fills_plain}
 use Rattle.kavurehy.proofs.kavurehy_costs.Goals as goal
 

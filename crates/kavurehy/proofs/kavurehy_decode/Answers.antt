@@ -1,5 +1,4 @@
 -- `kavurehy::kavurehy_decode` meets its contract.
-use borrow.Author.Rules.{rules}
 use Rattle.answers.specs.Decoded.{reported}
 use Rattle.matrix.specs.Matrix.{matrix}
 use Rattle.decode_valid.specs.Lent.{Lent}

@@ -1,5 +1,4 @@
 -- `kavurehy::kavurehy_judge` meets its contract.
-use borrow.Author.Rules.{rules}
 use Rattle.kavurehy.proofs.kavurehy_judge.Goals as goal
 
 pub returns : goal.returns

@@ -1,5 +1,4 @@
 -- `kavurehy::kavurehy_read` meets its contract.
-use borrow.Author.Rules.{rules}
 use Rattle.kavurehy.specs.BoundsLaws.{read_fits}
 use Rattle.kavurehy.proofs.kavurehy_read.Goals as goal
 

@@ -1,5 +1,4 @@
 -- `kavurehy::kavurehy_spread` meets its contract.
-use borrow.Author.Rules.{rules}
 use Rattle.kavurehy.specs.HandedLaws.{fills_counted}
 use Rattle.kavurehy.specs.BoundsLaws.{spread_fits}
 use Rattle.kavurehy.proofs.kavurehy_spread.Goals as goal

@@ -1,5 +1,5 @@
 -- `read_text::read_form` meets its contract: the first refusal that applies, or the answer past the checks.
-use Rattle.std.proofs.Common.{length, sym, ap, ◌∙◌, subst, ◌≡◌}
+use Rattle.std.proofs.Common.{length, sym, ap, ◌∙◌, subst}
 use Rattle.refusal.specs.Verdict.{first_refusal}
 use Rattle.automaton.specs.Form.{letters_of}
 use Rattle.matrix.specs.Matrix.{matrix}

@@ -1,5 +1,5 @@
 -- `read_text::read_parts` meets its contract: Compile's refusal, or the answer by the form that it wrote.
-use Rattle.std.proofs.Common.{sym, length}
+use Rattle.std.proofs.Common.{sym}
 use lib.Seq.{length-take-le}
 use Rattle.automaton.proofs.ValidLaws.{valid_at}
 use Rattle.matrix.specs.Matrix.{matrix}

@@ -4,15 +4,14 @@ use mathlib.Core.Path.{◌≡◌}
 use mathlib.Core.List.{List}
 use native.Mathlib.Omega.{arith}
 use lib.ListN.{length, replicate, length-replicate}
-use borrow.Author.Rules.{rules}
 use Rattle.answers.specs.Reading.{reported}
-use Rattle.matrix.specs.Matrix.{Matrix, matrix}
+use Rattle.matrix.specs.Matrix.{matrix}
 use Rattle.decode_valid.specs.Lent.{Lent}
 use Rattle.sheet_print.specs.Printed.{answer_lines}
 use Rattle.sheet_read.specs.Answer.{PrintsReading}
 use Rattle.sheet_read.proofs.PromiseLaws.{answers}
 use Rattle.sheet_read.proofs.LongestLaws.{reading_bound}
-use Rattle.sheet_read.proofs.StepsLaws.{Sized, Said, said, said_shown, said_lines}
+use Rattle.sheet_read.proofs.StepsLaws.{Sized, said, said_shown, said_lines}
 use Rattle.sheet_read.proofs.answer_reading.Goals as goal
 
 abbrev zeros : ℕ → List ℕ
