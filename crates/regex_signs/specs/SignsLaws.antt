@@ -14,7 +14,7 @@ use Rattle.lists.specs.Options.{is_some}
 use Rattle.text.specs.Text.{in_front}
 use Rattle.text.proofs.TextLaws.{byte_is}
 use Rattle.regex_tree.specs.Sets.{Sign, byte, class, class_begins, class_ends, closes, closed, naming}
-use Rattle.regex_tree.proofs.ClosedLaws.{closed_here, closed_class, closed_byte, closed_last, naming_here, naming_more}
+use Rattle.regex_tree.proofs.FirstBytesLaws.{closed_here, closed_class, closed_byte, closed_last, naming_here, naming_more}
 use Rattle.regex_signs.specs.Signs.{name, opens, sign, sign_width, signs}
 
 name_short : (s : List ℕ) → length (name s) ≤ length s

@@ -2,6 +2,7 @@ pub mod Examples
 pub mod SignExamples
 pub mod SaysLaws
 pub mod OwnLaws
+pub mod FirstBytesLaws
 pub mod ClosedLaws
 pub mod RangesLaws
 pub mod OwnSetsLaws

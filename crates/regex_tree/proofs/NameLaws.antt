@@ -10,7 +10,7 @@ use Rattle.lists.proofs.OrderLaws.{and_left, and_right}
 use Rattle.text.specs.Bytes.{bytes}
 use Rattle.text.specs.Text.{in_front}
 use Rattle.regex_tree.specs.Sets.{class, class_ends, closes, closed, naming}
-use Rattle.regex_tree.proofs.ClosedLaws.{closed_class, naming_here, naming_more}
+use Rattle.regex_tree.proofs.FirstBytesLaws.{closed_class, naming_here, naming_more}
 
 -- no `:]` is in it
 abbrev pub no_end : List ℕ → Bool
