@@ -1,14 +1,11 @@
 -- `compare::check_both` meets its contract: the first check that holds.
 use Prim.Native.Nat.{max}
 use mathlib.Core.Path.{◌≡◌, sym, ap₂, ◌∙◌}
-use mathlib.Core.Bool.{true}
 use native.Mathlib.Omega.{arith}
-use borrow.Author.Rules.{rules}
-use borrow.Author.Tests.{not-true, not-false}
 use Rattle.refusal.specs.Verdict.{first_refusal}
-use Rattle.automaton.specs.Form.{valid_form}
+use Rattle.automaton.specs.Form.{alphabet_of}
 use Rattle.automaton.proofs.ValidLaws.{valid_at}
-use Rattle.matrix.specs.Matrix.{Matrix, matrix}
+use Rattle.matrix.specs.Matrix.{matrix}
 use Rattle.decode_checks.specs.Checks.{matrix_checks}
 use Rattle.comparison.proofs.PassingLaws.{work_alone, bad_first, bad_second, unequal_alphabets, equal_alphabets}
 use Rattle.compare.proofs.check_both.Goals as goal
@@ -29,7 +26,7 @@ pub returns-then-alphabet-k : goal.returns-then-alphabet-k
 returns-then-alphabet-k c =
     sym
     (unequal_alphabets c.args.first.now c.args.second.now (matrix c.args.costs.now c.args.width c.args.count) c.args.room (sym c.valid.ensures ∙ c.if-not-valid.false) (sym c.valid-2.ensures ∙ c.if-not-valid-2.false)
-    (λ e. c.if-alphabet-k.true (c.alphabet.ensures ∙ e ∙ sym c.alphabet-k.ensures)))
+    (λ e. omega (arith, e, c.alphabet.ensures, c.alphabet-k.ensures)))
 
 pub letters-requires : goal.letters-requires
 letters-requires c = let v = (valid_at c.args.first.now (sym c.valid.ensures ∙ c.if-not-valid.false)).long in omega arith
@@ -53,9 +50,10 @@ check_matrix-requires c =
 pub returns : goal.returns
 returns c =
     let k = c.alphabet-k.ensures in
+    let equal : alphabet_of c.args.second.now ≡ alphabet_of c.args.first.now = omega (arith, c.alphabet.ensures, k) in
     c.check_matrix.ensures
     ∙ ap₂ (λ k l. first_refusal (matrix_checks k l (matrix c.args.costs.now c.args.width c.args.count) (work_alone (matrix c.args.costs.now c.args.width c.args.count) c.args.room))) k
     (c.greatest_size-l.ensures ∙ ap₂ max c.letters.ensures c.letters-2.ensures)
     ∙ sym
     (equal_alphabets c.args.first.now c.args.second.now (matrix c.args.costs.now c.args.width c.args.count) c.args.room (sym c.valid.ensures ∙ c.if-not-valid.false) (sym c.valid-2.ensures ∙ c.if-not-valid-2.false)
-    (sym c.alphabet.ensures ∙ c.if-alphabet-k.false ∙ k))
+    equal)

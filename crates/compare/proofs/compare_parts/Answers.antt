@@ -1,11 +1,9 @@
 -- `compare::compare_parts` meets its contract: the first refusal that applies, or the answer past the checks.
 use mathlib.Core.Path.{sym, ◌∙◌}
-use borrow.Author.Rules.{rules}
 use lib.ListN.{length}
-use Rattle.refusal.specs.declared.Checked.{Checked}
 use Rattle.refusal.specs.Verdict.{first_refusal}
 use Rattle.refusal.proofs.ChecksLaws.{checks_refused, checks_passed}
-use Rattle.matrix.specs.Matrix.{Matrix, matrix}
+use Rattle.matrix.specs.Matrix.{matrix}
 use Rattle.comparison.specs.Comparison.{turned_away}
 use Rattle.comparison.specs.Checks.{compare_checks}
 use Rattle.comparison.proofs.PassingLaws.{fits_both_exactly}

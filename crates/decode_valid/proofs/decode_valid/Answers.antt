@@ -10,9 +10,6 @@ use Rattle.decode_valid.proofs.decode_valid.Goals as goal
 pub fill-price-requires : goal.fill-price-requires
 fill-price-requires c = sized c.requires.0 (lent c.args.path.now c.args.word.now c.args.work.now) c.requires.1
 
-pub shape_of-work-then-price-ge-TOP : goal.shape_of-work-then-price-ge-TOP
-shape_of-work-then-price-ge-TOP c = c.fill-price.auto.work
-
 pub returns-then-price-ge-TOP : goal.returns-then-price-ge-TOP
 returns-then-price-ge-TOP c = nothing c.requires.0 (lent c.args.path.now c.args.word.now c.args.work.now) c.requires.1 c.fill-price.ensures c.if-price-ge-TOP.true c.fill-price.auto.work
 
