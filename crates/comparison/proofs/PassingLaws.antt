@@ -17,7 +17,8 @@ use Rattle.automaton.specs.Form.{valid_form, letters_of, alphabet_of}
 use Rattle.matrix.specs.Matrix.{Matrix}
 use Rattle.matrix.specs.Paths.{Passing}
 use Rattle.decode_checks.specs.Checks.{Rooms, matrix_fault, passes, matrix_checks}
-use Rattle.decode_checks.proofs.PassingLaws.{passes_exactly, fault_count, fault_width, fault_length, sized}
+use Rattle.decode_checks.proofs.PassesLaws.{passes_exactly}
+use Rattle.decode_checks.proofs.PassingLaws.{fault_count, fault_width, fault_length, sized}
 use Rattle.comparison.specs.Checks.{larger_need, compare_checks}
 use Rattle.comparison.specs.Passing.{FitsBoth}
 

@@ -1,3 +1,4 @@
+pub mod PassesLaws
 pub mod PassingLaws
 pub mod Loops
 pub mod Examples

@@ -1,28 +1,21 @@
 -- Laws of the checks: which refusal each of them gives, and that an input passes them all exactly if it fits.
-use Rattle.std.specs.Prelude.{ℕ, ◌+◌, ◌*◌, ◌<◌, ◌≤◌, ◌≡◌, true, false, not, ◌||◌, ◌⊎◌, ◌↔◌, length, leb, eqb}
-use Rattle.std.proofs.Common.{ap, ◌∙◌, inl, inr, ⊎_elim, mul-le-mul, arith}
+use Rattle.std.specs.Prelude.{ℕ, ◌+◌, ◌*◌, ◌<◌, ◌≤◌, ◌≡◌, true, false, not, ◌||◌, ◌↔◌, length, eqb}
+use Rattle.std.proofs.Common.{ap, ◌∙◌, mul-le-mul, arith}
 use mathlib.Core.List.{List, [], ◌∷◌}
 use Rattle.std.proofs.Math.Dec.{ltb}
-use borrow.Author.Tests.{lt-ltb, le-ltb, ltb-false, ne_eqb, eq-eqb, eqb-true, leb-true, le-leb, not-false}
-use Rattle.lists.proofs.OrderLaws.{or_either, or_left, or_right, or_neither}
+use borrow.Author.Tests.{lt-ltb, le-ltb, ltb-false, ne_eqb, eq-eqb, eqb-true, not-false}
+use Rattle.lists.proofs.OrderLaws.{or_neither}
 use Rattle.lists.proofs.EachLaws.{all_each, each_all}
 use Rattle.lists.specs.Each.{all}
 use Rattle.refusal.specs.declared.Refusal.TheVariants.{Matrix as MatrixRefusal, Cost, OutputMemory, Work}
 use Rattle.refusal.specs.declared.Checked.TheVariants.{Passed, Refused}
 use Rattle.refusal.specs.Verdict.{Check, check, first_refusal}
 use Rattle.refusal.proofs.VerdictLaws.{first_holds, first_fails, first_passed}
-use Rattle.matrix.specs.Matrix.{Matrix, BARRED}
+use Rattle.matrix.specs.Matrix.{Matrix}
 use Rattle.matrix.specs.Paths.{Passing}
 use Rattle.decode_checks.specs.Checks.{Rooms, needed, matrix_fault, passes, matrix_checks}
 use Rattle.decode_checks.specs.Passing.{Fits}
-
--- refusal 13 lets through the costs up to 1,000,000 and 4,294,967,295, and no others
-pub passes_exactly : (c : ℕ) → (passes c ≡ true) ↔ ((c ≤ 1000000) ⊎ (c ≡ 4294967295))
-passes_exactly c = (
-  λ h. ⊎_elim (λ l. inl (leb-true c 1000000 l)) (λ e. inr (eqb-true c BARRED e)) (or_either (leb c 1000000) (eqb c BARRED) h),
-  ⊎_elim (λ l. or_left (leb c 1000000) (eqb c BARRED) (le-leb c 1000000 l))
-      (λ e. or_right (leb c 1000000) (eqb c BARRED) (eq-eqb c BARRED e)),
-)
+use Rattle.decode_checks.proofs.PassesLaws.{passes_exactly}
 
 module _ (k : ℕ) (M : Matrix) where
   pub fault_count : 255 < M.count → matrix_fault k M ≡ true

@@ -13,7 +13,8 @@ use Rattle.matrix.specs.Paths.{PathFrom}
 use Rattle.matrix.proofs.PathsLaws.{path_labels}
 use Rattle.outcome.specs.Outcome.{OutcomeOf, Outcome}
 use Rattle.outcome.proofs.OutcomeLaws.{outcome_of_same}
-use Rattle.outcome.proofs.ChoiceLaws.{not_after, preferred, better, outcome_either}
+use Rattle.outcome.proofs.ChoiceLaws.{not_after, preferred, better}
+use Rattle.outcome.proofs.UnionLaws.{outcome_either}
 
 abbrev pub prefixed : ℕ → Option (List ℕ) → Option (List ℕ)
 prefixed x none = none
@@ -128,21 +129,6 @@ usable M t [] = true
 usable M t (x ∷ p) = leb (cost M t x) 1000000 && usable M (t + 1) p
 
 module _ (M : Matrix) where
-  usable_path : (t : ℕ) (p : List ℕ) → Each (λ x. x < M.width) p → usable M t p ≡ true → PathFrom M t p
-  unfolding usable
-  usable_path t [] h e = tt
-  usable_path t (x ∷ p) h e = (
-    h.0,
-    leb-true (cost M t x) 1000000 (and_left (leb (cost M t x) 1000000) (usable M (t + 1) p) e),
-    usable_path (t + 1) p h.1 (and_right (leb (cost M t x) 1000000) (usable M (t + 1) p) e),
-  )
-
-  path_usable : (t : ℕ) (p : List ℕ) → PathFrom M t p → usable M t p ≡ true
-  unfolding usable
-  path_usable t [] h = refl
-  path_usable t (x ∷ p) h =
-      and_both (leb (cost M t x) 1000000) (usable M (t + 1) p) (le-leb (cost M t x) 1000000 h.1) (path_usable (t + 1) p h.2)
-
   -- the outcome, where `test` decides the words
   unfoldable pub decided : (List ℕ → Bool) → Option (List ℕ)
   decided test = exhaustive (price M) (λ p. usable M 0 p && test (collapse p)) M.width M.count
@@ -150,7 +136,7 @@ module _ (M : Matrix) where
   pub decided_outcome :
       (Word : List ℕ → Type 0) (test : List ℕ → Bool) → ((w : List ℕ) → test w ≡ true → Word w) → ((w : List ℕ) → Word w → test w ≡ true)
       → Outcome Word M (decided test)
-  unfolding decided
+  unfolding decided usable
   decided_outcome Word test to from =
       outcome_of_same (price M)
       (λ p h.
@@ -166,6 +152,19 @@ module _ (M : Matrix) where
       })
       (exhaustive (price M) (λ p. usable M 0 p && test (collapse p)) M.width M.count)
       (exhaustive_outcome (price M) (λ p. usable M 0 p && test (collapse p)) M.width M.count)
+    where
+      usable_path : (t : ℕ) (p : List ℕ) → Each (λ x. x < M.width) p → usable M t p ≡ true → PathFrom M t p
+      usable_path t [] h e = tt
+      usable_path t (x ∷ p) h e = (
+        h.0,
+        leb-true (cost M t x) 1000000 (and_left (leb (cost M t x) 1000000) (usable M (t + 1) p) e),
+        usable_path (t + 1) p h.1 (and_right (leb (cost M t x) 1000000) (usable M (t + 1) p) e),
+      )
+
+      path_usable : (t : ℕ) (p : List ℕ) → PathFrom M t p → usable M t p ≡ true
+      path_usable t [] h = refl
+      path_usable t (x ∷ p) h =
+          and_both (leb (cost M t x) 1000000) (usable M (t + 1) p) (le-leb (cost M t x) 1000000 h.1) (path_usable (t + 1) p h.2)
 
 -- document 01's line to try: `aa` over three columns of 5, 1, 9
 three : Matrix

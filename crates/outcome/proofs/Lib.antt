@@ -1,7 +1,9 @@
 pub mod BestLaws
 pub mod OrderLaws
+pub mod PlainLaws
 pub mod OutcomeLaws
 pub mod ChoiceLaws
+pub mod UnionLaws
 pub mod Exhaustive
 pub mod ColumnsLaws
 pub mod Examples

@@ -11,8 +11,9 @@ use Rattle.lists.proofs.EachLaws.{each_map, each_both}
 use Rattle.matrix.specs.Matrix.{Matrix, price}
 use Rattle.matrix.specs.Barred.{NoneBarred}
 use Rattle.matrix.specs.Paths.{PathOf, CostsPass}
-use Rattle.matrix.proofs.PathsLaws.{none_barred, path_labels, path_unbarred, unbarred_path}
+use Rattle.matrix.proofs.PathsLaws.{none_barred, path_labels, unbarred_path}
 use Rattle.outcome.proofs.OrderLaws.{order_antisymmetric}
+use Rattle.outcome.proofs.PlainLaws.{rival_plain}
 use Rattle.outcome.specs.Outcome.{Rival, OutcomeOf, Outcome}
 use Rattle.outcome.specs.Plain.{PlainRival}
 
@@ -47,22 +48,12 @@ collapse_labels k M wide p h =
 
 -- A rival is what demand 3 says (`PlainRival`), whatever the costs are; past refusals 12 and 13 nothing else is asked of it.
 module _ (Word : List ℕ → Type 0) (k : ℕ) (M : Matrix) (wide : M.width ≡ k + 1) (p : List ℕ) where
-  pub rival_plain : Rival Word M p → PlainRival Word k M p
-  rival_plain r =
-      let path = r.path.labels in
-      record {
-        one_each = r.path.one_each;
-        labels = each_map (λ x. x < M.width) (λ x. x ≤ k) (λ x h. omega arith) p (path_labels M 0 p path);
-        unbarred = path_unbarred M 0 p path;
-        word = r.word;
-      }
-
   pub plain_exactly : CostsPass M → PlainRival Word k M p ↔ Rival Word M p
   plain_exactly pass = (
     λ h.
         let labels = each_map (λ x. x ≤ k) (λ x. x < M.width) (λ x l. omega arith) p h.labels in
         record { path = record { one_each = h.one_each; labels = unbarred_path M pass 0 p labels h.unbarred }; word = h.word },
-    rival_plain,
+    rival_plain Word k M wide p,
   )
 
 -- where no label is barred: one label of the matrix for each column, with a word as its collapse
