@@ -29,16 +29,7 @@ use Rattle.comparison.specs.Comparison.{Comparison, compared, turned_away}
 use Rattle.comparison.specs.Checks.{larger_need, compare_checks}
 use Rattle.comparison.proofs.PassingLaws.{fits_both_exactly}
 use Rattle.comparison.specs.Promise.{difference_report, CompareAnswers, Compares}
-
--- what is reported by two answers of Decode: the first price less the second where both read, else 'no reading'
-abbrev pub decoded_report : (first second : Report) → Comparison
-decoded_report a b = cond (eqb a.number 0 && eqb b.number 0) (compared (pos a.price -ℤ pos b.price)) (turned_away NoReading)
-
-outcomes_report : (M : Matrix) (a b : Option (List ℕ)) → difference_report M a b ≡ decoded_report (outcome_report 0 M a) (outcome_report 0 M b)
-outcomes_report M none none = refl
-outcomes_report M none (some q) = refl
-outcomes_report M (some p) none = refl
-outcomes_report M (some p) (some q) = refl
+use Rattle.compare_decode.proofs.Reports.{decoded_report, outcomes_report}
 
 -- Decode read the line, or said that there is no reading
 abbrev pub Looked : Report → Type 0

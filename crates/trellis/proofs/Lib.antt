@@ -5,6 +5,7 @@ pub mod ExtendedLaws
 pub mod Examples
 pub mod AcceptedLaws
 pub mod BeginningLaws
+pub mod Tight
 pub mod TraceLaws
 pub mod OutcomeLaws
 pub mod CellsLaws

@@ -7,7 +7,8 @@ use Rattle.automaton.specs.Proper.{Proper}
 use Rattle.matrix.specs.Matrix.{Matrix, cost}
 use Rattle.trellis.specs.Impossible.{plus}
 use Rattle.trellis.specs.CostToGo.{CostToGo}
-use Rattle.trellis.proofs.TraceLaws.{Shared, Tight, Chosen, some_tight}
+use Rattle.trellis.proofs.Tight.{Tight, Chosen}
+use Rattle.trellis.proofs.TraceLaws.{Shared, some_tight}
 use Rattle.trellis.specs.Extended.{OnLetter, InBlanks, Step, stay, pass, arc, rest, leave, extended}
 use Rattle.trellis.proofs.ExtendedLaws.{step_within}
 use Rattle.trellis.specs.Reached.{entering, Reached}

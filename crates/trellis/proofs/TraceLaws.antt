@@ -8,9 +8,10 @@ use Rattle.matrix.specs.Matrix.{Matrix, cost, price_from}
 use Rattle.outcome.specs.Order.{NotAfter}
 use Rattle.trellis.specs.Graph.{Graph, Way}
 use Rattle.trellis.proofs.GraphLaws.{way_step, way_split}
-use Rattle.trellis.specs.Impossible.{TOP, plus}
+use Rattle.trellis.specs.Impossible.{TOP}
 use Rattle.trellis.specs.CostToGo.{WayOf, CostToGo}
 use Rattle.trellis.specs.BestWay.{WayFrom, BestFrom}
+use Rattle.trellis.proofs.Tight.{Tight, Chosen}
 
 module _ {S : Type 0} (G : Graph S) (M : Matrix) where
   -- the set has at least one state, and its states share a cost to go, v, below TOP
@@ -19,21 +20,6 @@ module _ {S : Type 0} (G : Graph S) (M : Matrix) where
     pub member : In one
     pub all : (s : S) → In s → CostToGo G M t n s v
     pub below : v < TOP
-
-  -- a step from the set to state s by label x in column t is tight if its cost and the cost to go from s, by the next row, add up to v
-  pub record Tight (t : ℕ) (row : S → ℕ) (In : S → Type 0) (v x : ℕ) (s : S) : Type 0 where
-    pub from : S
-    pub member : In from
-    pub step : G.Step from x s
-    pub keeps : plus (cost M t x) (row s) ≡ v
-
-  -- x is the lowest label of a tight step, and the second set has the states that the tight steps by x lead to
-  pub record Chosen (t : ℕ) (row : S → ℕ) (In : S → Type 0) (v x : ℕ) (In' : S → Type 0) : Type 0 where
-    pub lowest : (y : ℕ) (s : S) → Tight t row In v y s → x ≤ y
-    pub one : S
-    pub by_x : Tight t row In v x one
-    pub hit : (s : S) → In' s → Tight t row In v x s
-    pub all : (s : S) → Tight t row In v x s → In' s
 
   -- some way from the set has the price that its states share, and none costs less
   shared_way : {t n v : ℕ} {In : S → Type 0} (sh : Shared t n In v) → WayOf G M t n sh.one v
@@ -86,7 +72,7 @@ module _ {S : Type 0} (G : Graph S) (M : Matrix) where
     -- the first step of a cheapest way is tight
     way_tight :
         (y : ℕ) (q : List ℕ) → length q ≡ n → (s : S) → In s → (s' : S) → G.Step s y s' → Way G s' q → price_from M t (y ∷ q) ≡ v
-        → Tight t row In v y s'
+        → Tight G M t row In v y s'
     way_tight y q l s i s' st w e =
         let c = next s i y s' st in
         let b = sh.below in
@@ -98,18 +84,18 @@ module _ {S : Type 0} (G : Graph S) (M : Matrix) where
         record { from = s; member = i; step = st; keeps = omega arith }
 
     -- so some step is tight
-    pub some_tight : (x : ℕ) × (s : S) × Tight t row In v x s
+    pub some_tight : (x : ℕ) × (s : S) × Tight G M t row In v x s
     some_tight = let w = shared_way sh in by w.path w.long w.way w.paid
       where
-        by : (p : List ℕ) → length p ≡ n + 1 → Way G sh.one p → price_from M t p ≡ v → (x : ℕ) × (s : S) × Tight t row In v x s
+        by : (p : List ℕ) → length p ≡ n + 1 → Way G sh.one p → price_from M t p ≡ v → (x : ℕ) × (s : S) × Tight G M t row In v x s
         by [] l w e = absurd (omega arith)
         by (y ∷ q) l w e =
             let g = way_split G sh.one y q w in
             (y, g.0, way_tight y q (omega arith) sh.one sh.member g.0 g.1 g.2 e)
 
-    module _ {x : ℕ} {In' : S → Type 0} (ch : Chosen t row In v x In') where
+    module _ {x : ℕ} {In' : S → Type 0} (ch : Chosen G M t row In v x In') where
       -- the cost of a tight step and what is left to pay after it
-      tight_left : (s : S) → Tight t row In v x s → cost M t x + row s ≡ v
+      tight_left : (s : S) → Tight G M t row In v x s → cost M t x + row s ≡ v
       tight_left s h = let b = sh.below in let e = h.keeps in omega arith
 
       pub tight_cost : cost M t x ≤ v
@@ -143,9 +129,9 @@ module _ {S : Type 0} (G : Graph S) (M : Matrix) where
           pays : price_from M (t + 1) p + cost M t x ≡ v
           pays = let e = shared_price p shared_next b in let c = tight_cost in omega arith
 
-          same : (y : ℕ) (q : List ℕ) (s : S) → length q ≡ n → Tight t row In v y s → Way G s q → price_from M t (y ∷ q) ≡ v → x ≡ y → NotAfter p q
+          same : (y : ℕ) (q : List ℕ) (s : S) → length q ≡ n → Tight G M t row In v y s → Way G s q → price_from M t (y ∷ q) ≡ v → x ≡ y → NotAfter p q
           same y q s l h w e z =
-              let i : In' s = ch.all s (subst (λ l. Tight t row In v l s) (sym z) h) in
+              let i : In' s = ch.all s (subst (λ l. Tight G M t row In v l s) (sym z) h) in
               let c : cost M t x ≡ cost M t y = ap (cost M t) z in
               let k = pays in
               b.first q (record { long = l; from = s; member = i; way = w }) (omega arith)

@@ -41,15 +41,15 @@ compiled = refl
 abbrev line : Matrix
 line = matrix (9 ∷ 9 ∷ 9 ∷ 4 ∷ 1 ∷ 9 ∷ 5 ∷ 1 ∷ 9 ∷ 9 ∷ []) 5 2
 
-accepted : Outcome (Accepts (view form)) line (some (3 ∷ 2 ∷ []))
-unfolding decided exhaustive over better preferred not_after usable collapse merge without_blanks spells any numbers follow_of ends_of valid_form ordered all
-accepted =
-    let d = accepts_decides (view form) 4 (view_proper form refl) in
-    decided_outcome line (Accepts (view form)) (accepts (view form)) (λ w. (d w).0) (λ w. (d w).1)
-
 -- L2 for 5; C1 is 6, and C2 would be 2
 read : Outcome (Listed A (words list)) line (some (3 ∷ 2 ∷ []))
+unfolding decided exhaustive over better preferred not_after usable collapse merge without_blanks spells any numbers follow_of ends_of valid_form ordered all
 read = (listed_outcome A list 9 form compiled line (some (3 ∷ 2 ∷ []))).0 accepted
+  where
+    accepted : Outcome (Accepts (view form)) line (some (3 ∷ 2 ∷ []))
+    accepted =
+        let d = accepts_decides (view form) 4 (view_proper form refl) in
+        decided_outcome line (Accepts (view form)) (accepts (view form)) (λ w. (d w).0) (λ w. (d w).1)
 
 -- one column is too short for every name
 short : Matrix
