@@ -15,14 +15,13 @@ pub returns-then-n-eq16384 : goal.returns-then-n-eq16384
 returns-then-n-eq16384 c =
     let l = c.loop-v in
     let k = c.in-Is in
-    l.invariant.3 l.costs Bad (column_full c.args.input.now l.i l.n l.costs k.v k.end k.ensures c.if-n-eq16384.true)
+    l.invariant.3 l.costs Bad (column_full c.args.input.now l.i l.n l.costs k.v k.end k.ensures (omega arith))
 
 pub returns-then-input-end-eq10 : goal.returns-then-input-end-eq10
 returns-then-input-end-eq10 c =
     let l = c.loop-v in
     let k = c.in-Is in
     let below = l.invariant.1 in
-    let more = c.if-n-eq16384.false in
     l.invariant.3 (set l.costs l.n k.v) (Ends (k.end + 1) (l.n + 1))
     (column_last c.args.input.now l.i l.n l.costs k.v k.end k.ensures (omega arith) c.if-input-end-eq10.true)
 
@@ -39,8 +38,7 @@ loop-v-preserved c =
     let l = c.loop-v in
     let k = c.in-Is in
     let within = k.ensures.within in
-    let below = l.invariant.1 in
-    let more = c.if-n-eq16384.false in (
+    let below = l.invariant.1 in (
       omega arith,
       omega arith,
       length-set l.costs l.n k.v ∙ l.invariant.2,

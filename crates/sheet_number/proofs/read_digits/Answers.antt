@@ -24,7 +24,7 @@ overflow_sub-i c = c.loop-i.invariant.from
 pub returns-then-i-at-eq7 : goal.returns-then-i-at-eq7
 returns-then-i-at-eq7 c =
     let a = c.args in
-    digits_seven a.input.now a.at c.loop-i.i c.loop-i.v c.loop-i.invariant c.if-i-at-eq7.true
+    digits_seven a.input.now a.at c.loop-i.i c.loop-i.v c.loop-i.invariant (omega arith)
 
 pub overflow_mul-v : goal.overflow_mul-v
 overflow_mul-v c =

@@ -31,7 +31,6 @@ returns-then-j-gt0 c =
     let j = c.narrow_byte in
     let e = j.ensures in
     let f = c.next_letter-j.ensures in
-    let some = c.if-j-gt0.true in
     (roomy_moved a.t j.result c.requires.0, λ ws u s. character_known a.alphabet.now ws u a.character a.t j.result c.if-t-gt127.false (omega arith) (omega arith) s)
 
 pub overflow_add-t : goal.overflow_add-t
@@ -48,8 +47,8 @@ returns-then-t-n-gt127 c =
     let a = c.args in
     let p = c.requires.0 in
     let A = a.alphabet.now in
-    let none : 0 ≡ lowest (leads_on a.t a.character) a.t.letters = (let h = c.if-j-gt0.false in let f = c.next_letter-j.ensures in omega arith) in
-    let many : 127 < a.t.letters + length (labels_of_character A a.character) = (let h = c.if-t-n-gt127.true in let n = c.count_labels-n.ensures in omega arith) in
+    let none : 0 ≡ lowest (leads_on a.t a.character) a.t.letters = (let f = c.next_letter-j.ensures in omega arith) in
+    let many : 127 < a.t.letters + length (labels_of_character A a.character) = (let n = c.count_labels-n.ensures in omega arith) in
     (record { labels = p.labels; characters = p.characters; parents = p.parents; heads = p.heads; last = p.last }, λ ws u s. character_full A ws u a.character a.t c.if-t-gt127.false none c.requires.2 s _ many refl)
 
 pub push_all-requires : goal.push_all-requires
@@ -66,8 +65,8 @@ returns c =
     let b = a.character in
     let xs = labels_of_character A b in
     let e = c.push_all.ensures in
-    let none : 0 ≡ lowest (leads_on a.t b) a.t.letters = (let h = c.if-j-gt0.false in let f = c.next_letter-j.ensures in omega arith) in
-    let fits : a.t.letters + length xs ≤ 127 = (let h = c.if-t-n-gt127.false in let n = c.count_labels-n.ensures in omega arith) in (
+    let none : 0 ≡ lowest (leads_on a.t b) a.t.letters = (let f = c.next_letter-j.ensures in omega arith) in
+    let fits : a.t.letters + length xs ≤ 127 = (let n = c.count_labels-n.ensures in omega arith) in (
       subst Roomy (sym e) (roomy_moved (pushes a.t b (a.t.letters + 1) xs) (a.t.letters + 1) (roomy_pushes a.t b (a.t.letters + 1) xs p)),
       λ ws u s. subst (State A ws (u ++ (b ∷ []))) (sym e) (character_new A ws u b a.t c.if-t-gt127.false none c.requires.2 s p fits),
     )

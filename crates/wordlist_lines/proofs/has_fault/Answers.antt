@@ -24,7 +24,7 @@ returns-then-end-at c =
     let l = c.loop-at in
     let e = c.line_end-end in
     let w = e.ensures.within in
-    sym (fault_empty s l.at e.result e.ensures (omega arith) c.if-end-at.true) ∙ l.invariant.1
+    sym (fault_empty s l.at e.result e.ensures (omega arith) (omega arith)) ∙ l.invariant.1
 
 pub slice_bounds-comes_again-count : goal.slice_bounds-comes_again-count
 slice_bounds-comes_again-count c = let f = c.line_end-end.ensures.from in omega arith
@@ -52,7 +52,7 @@ returns-then-comes_again c =
     let w = e.ensures.within in
     let r = c.comes_again in
     let again = subst (λ t. Again (part l.at e.result s) t r.result) (part_rest s (e.result + 1)) r.ensures in
-    sym (fault_again s l.at e.result e.ensures (omega arith) c.if-end-at.false r.result again c.if-comes_again.true) ∙ l.invariant.1
+    sym (fault_again s l.at e.result e.ensures (omega arith) (λ q. omega arith) r.result again c.if-comes_again.true) ∙ l.invariant.1
 
 pub overflow_add-at : goal.overflow_add-at
 overflow_add-at c = let w = c.line_end-end.ensures.within in omega arith
@@ -68,7 +68,7 @@ loop-at-preserved c =
     let w = e.ensures.within in
     let r = c.comes_again in
     let again = subst (λ t. Again (part l.at e.result s) t r.result) (part_rest s (e.result + 1)) r.ensures in
-    (omega arith, sym (fault_later s l.at e.result e.ensures (omega arith) c.if-end-at.false r.result again c.if-comes_again.false) ∙ l.invariant.1)
+    (omega arith, sym (fault_later s l.at e.result e.ensures (omega arith) (λ q. omega arith) r.result again c.if-comes_again.false) ∙ l.invariant.1)
 
 pub returns : goal.returns
 returns c =
