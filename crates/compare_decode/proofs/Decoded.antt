@@ -1,13 +1,12 @@
 -- "Two forms over one matrix are decoded, and the answer is the first price less the second" (document 02, T-04): what Compare has to do
 -- with two calls of Decode, as a theorem on what they promise.
 -- For the reader: nothing uses it.
-use Rattle.std.specs.Prelude.{ℕ, ◌<◌, ◌≤◌, max, ◌≡◌, refl, false, not, cond, ◌&&◌, ◌⊎◌, List, length, eqb, pos, ◌-ℤ◌}
+use Rattle.std.specs.Prelude.{ℕ, ◌<◌, ◌≤◌, max, ◌≡◌, refl, false, not, ◌⊎◌, List, length}
 use Rattle.std.proofs.Common.{sym, ap, ap₂, ◌∙◌, inl, inr, ⊎_elim, arith}
-use Rattle.std.proofs.Math.Option.{Option, some, none}
 use Rattle.std.proofs.lemmas.Bool.{not-false}
 use Rattle.lists.proofs.OrderLaws.{lt_or_le}
 use Rattle.refusal.specs.declared.Refusal.{Refusal}
-use Rattle.refusal.specs.declared.Refusal.TheVariants.{BadForm, NoReading}
+use Rattle.refusal.specs.declared.Refusal.TheVariants.{BadForm}
 use Rattle.refusal.specs.declared.Checked.{Checked}
 use Rattle.refusal.specs.declared.Checked.TheVariants.{Passed, Refused}
 use Rattle.refusal.specs.Number.{number_of}
@@ -22,10 +21,10 @@ use Rattle.outcome.proofs.OutcomeLaws.{outcome_unique}
 use Rattle.decode_checks.specs.Checks.{needed, matrix_checks, decode_checks}
 use Rattle.decode_checks.specs.Passing.{Fits}
 use Rattle.decode_checks.proofs.PassingLaws.{fits}
-use Rattle.decode_valid.specs.Answers.{outcome_report, DecodeAnswers}
+use Rattle.decode_valid.specs.Answers.{DecodeAnswers}
 use Rattle.decode_valid.specs.Lent.{Lent, rooms}
 use Rattle.decode.specs.Promise.{Decodes}
-use Rattle.comparison.specs.Comparison.{Comparison, compared, turned_away}
+use Rattle.comparison.specs.Comparison.{Comparison}
 use Rattle.comparison.specs.Checks.{larger_need, compare_checks}
 use Rattle.comparison.proofs.PassingLaws.{fits_both_exactly}
 use Rattle.comparison.specs.Promise.{difference_report, CompareAnswers, Compares}
