@@ -39,14 +39,12 @@ use Rattle.regex_tree.specs.Sets.{closed, reserved, items, members, ranges_of, k
 use Rattle.regex_tree.specs.Repetition.{number, from_on, from_to, comma, counts, sign, repetition}
 use Rattle.regex_tree.specs.Parse.{grouped, step, go, parse, whole, expression_of}
 use Rattle.regex_tree.specs.Grammar.{WordsOf}
-use Rattle.regex_tree.specs.Characters.{SpellsWord}
 use Rattle.positions.specs.Opened.{any_of, copies, nested, repeated, opened, labels}
 use Rattle.positions.specs.Numbered.{numbered, position_automaton}
 use Rattle.compile.specs.Call.{compile_call}
 use Rattle.compile.proofs.Meaning.{compiled_means}
 use Rattle.decode_checks.specs.Checks.{Rooms, needed, matrix_checks}
 use Rattle.decode_valid.specs.Answers.{outcome_report, word_of}
-use Rattle.read_text.specs.SpeltLaws.{outcome_spelt}
 
 -- A case of Read: alphabet, text, costs, number of columns and words of form memory, with the path, its price and its word, or with the
 -- number of the refusal. Or a case of Compile: alphabet and text, with the words of their form.
@@ -213,10 +211,3 @@ cases =
 pub cases_stated : Each Stated cases
 unfolding cases holds compiled tried answered passing figures first_refusal same decided exhaustive over better preferred not_after usable collapse merge without_blanks spells follow_of ends_of compile_call if_passed unless all any keep numbers flat_map encode labels_of letter_count then first_of split enclosed provided closed reserved items members ranges_of class_ranges look_up classes known inside bracket escaped a_set labelled_set number from_on from_to comma counts sign repetition grouped step go parse whole expression_of any_of copies nested repeated opened labels numbered position_automaton
 cases_stated = all_each holds Stated holds_stated cases refl
-
--- the two sevens, with words as lists of characters
-pub sevens_spelt : Outcome (SpellsWord (bytes "77") (bytes "77")) (matrix (0 ∷ 1 ∷ 5 ∷ 0 ∷ 5 ∷ 1 ∷ []) 3 2) (some (1 ∷ 2 ∷ []))
-unfolding cases
-sevens_spelt =
-    (outcome_spelt (bytes "77") (bytes "77") (matrix (0 ∷ 1 ∷ 5 ∷ 0 ∷ 5 ∷ 1 ∷ []) 3 2) (some (1 ∷ 2 ∷ []))).0
-    cases_stated.1.1.1.1.1.1.1.1.1.1.1.1.1.1.0.0

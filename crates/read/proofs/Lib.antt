@@ -1,2 +1,3 @@
 pub mod Cases
+pub mod Sevens
 pub mod Demands
