@@ -40,7 +40,7 @@ record Examples : Type 0 where
   length_and_byte : said ab (replicate 256 9) ≡ Refused TextLength
 
 examples : Examples
-unfolding first_refusal all keep numbers
+unfolding first_refusal keep numbers
 examples = record {
   spelt = refl;
   two_labels = refl;

@@ -1,10 +1,8 @@
 -- What Preview reports: by their answer, and by the verdict on their input.
-use Rattle.std.specs.Prelude.{ℕ, Bool, true, false}
+use Rattle.std.specs.Prelude.{ℕ, Bool, false, Result, Ok, Err}
 use Rattle.refusal.specs.declared.Refusal.{Refusal}
 use Rattle.refusal.specs.Number.{number_of}
 use Rattle.refusal.specs.Verdict.{Verdict, passed, refused}
-use Rattle.answers.specs.declared.Decided.{Decided}
-use Rattle.answers.specs.declared.Decided.TheVariants as answer
 
 -- 0 or the refusal's number, and whether the answer is yes (false at a refusal)
 pub record Decision : Type 0 where
@@ -17,10 +15,9 @@ decided b = record { number = 0; yes = b }
 abbrev pub turned_away : Refusal → Decision
 turned_away n = record { number = number_of n; yes = false }
 
-abbrev pub reported : Decided → Decision
-reported answer.Yes = decided true
-reported answer.No = decided false
-reported (answer.Refused n) = turned_away n
+abbrev pub reported : Result Bool Refusal → Decision
+reported (Ok b) = decided b
+reported (Err n) = turned_away n
 
 abbrev pub report : Verdict Bool → Decision
 report (passed b) = decided b

@@ -1,38 +1,17 @@
-// What Judge, Decode and Read answer.
+// What Decode and Read answer. Judge and Preview answer yes or no, a `bool`; each call answers its refusal in place of these.
 #![tactic(auto)]
 
-use refusal::Refusal;
-
-// What Judge answers.
-#[derive(Drop)]
-pub enum Judged {
-    Accepted,
-    Rejected,
-    Refused(Refusal),
+// What Decode answers: the price of the path and the length of its word.
+#[derive(Clone, Copy, Debug, PartialEq, Eq)]
+pub struct Decoded {
+    pub price: u32,
+    pub length: usize,
 }
 
-// What Decode answers: the price of the path and the length of its word, or why it turned the input away.
-#[derive(Drop)]
-pub enum Decoded {
-    Path { price: u32, length: usize },
-    Refused(Refusal),
-}
-
-// What Read answers: the price of the path, the length of its word and that of the form; or why it turned the input away.
-#[derive(Drop)]
-pub enum Reading {
-    Path {
-        price: u32,
-        length: usize,
-        form: usize,
-    },
-    Refused(Refusal),
-}
-
-// What Preview is to answer: yes or no, or why the input was turned away.
-#[derive(Drop)]
-pub enum Decided {
-    Yes,
-    No,
-    Refused(Refusal),
+// What Read answers: the price of the path, the length of its word and that of the form.
+#[derive(Clone, Copy, Debug, PartialEq, Eq)]
+pub struct Reading {
+    pub price: u32,
+    pub length: usize,
+    pub form: usize,
 }

@@ -59,7 +59,7 @@ record Parts : Type 0 where
   arcs : map (λ i. keep (follow_of nullable i) (numbers 0 4)) (numbers 0 4) ≡ (1 ∷ []) ∷ (2 ∷ []) ∷ (1 ∷ []) ∷ [] ∷ []
 
 parts : Parts
-unfolding keep numbers follow_of ends_of any
+unfolding keep numbers follow_of ends_of
 parts = record { counts = refl; firsts = refl; lasts = refl; nullable_ends = refl; arcs = refl }
 
 -- Accepted words, as labels.
@@ -71,7 +71,7 @@ record Words : Type 0 where
   empty_word : map (accepts (view nullable)) words ≡ true ∷ false ∷ false ∷ true ∷ false ∷ false ∷ true ∷ []
 
 accepted : Words
-unfolding spells any numbers follow_of ends_of
+unfolding spells numbers follow_of ends_of
 accepted = record { starred = refl; empty_word = refl }
 
 -- Lists that are forms: those above, one letter and one character, 95 characters, 127 letters.
@@ -96,7 +96,7 @@ no_forms =
     ∷ (0x10010002 ∷ 0x20000001 ∷ 0x20000001 ∷ 0x30000102 ∷ 0x30000101 ∷ []) ∷ []
 
 valid : (all valid_form forms ≡ true) × (any valid_form no_forms ≡ false)
-unfolding forms no_forms all any valid_form ordered
+unfolding forms no_forms valid_form ordered
 valid = (refl, refl)
 
 -- the same `ab*` by arrays, with a third entry that means nothing

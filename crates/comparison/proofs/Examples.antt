@@ -77,7 +77,7 @@ record Examples : Type 0 where
   neither : (M : Matrix) → difference_report M none none ≡ turned_away NoReading
 
 examples : Examples
-unfolding first_refusal valid_form ordered all
+unfolding first_refusal valid_form ordered
 examples = record {
   need = refl;
   need_exchanged = refl;
@@ -101,19 +101,19 @@ examples = record {
 
 -- the outcome for each form
 best_fl : Outcome (Accepts (view fl)) line (some (1 ∷ 2 ∷ []))
-unfolding decided exhaustive over better preferred not_after usable collapse merge without_blanks spells any numbers follow_of ends_of valid_form ordered all
+unfolding decided exhaustive over better preferred not_after usable collapse merge without_blanks spells numbers follow_of ends_of valid_form ordered
 best_fl =
     let d = accepts_decides (view fl) 3 (view_proper fl refl) in
     decided_outcome line (Accepts (view fl)) (accepts (view fl)) (λ w. (d w).0) (λ w. (d w).1)
 
 best_fr : Outcome (Accepts (view fr)) line (some (1 ∷ 3 ∷ []))
-unfolding decided exhaustive over better preferred not_after usable collapse merge without_blanks spells any numbers follow_of ends_of valid_form ordered all
+unfolding decided exhaustive over better preferred not_after usable collapse merge without_blanks spells numbers follow_of ends_of valid_form ordered
 best_fr =
     let d = accepts_decides (view fr) 3 (view_proper fr refl) in
     decided_outcome line (Accepts (view fr)) (accepts (view fr)) (λ w. (d w).0) (λ w. (d w).1)
 
 best_f : Outcome (Accepts (view f₃)) line (some (1 ∷ 0 ∷ []))
-unfolding decided exhaustive over better preferred not_after usable collapse merge without_blanks spells any numbers follow_of ends_of valid_form ordered all
+unfolding decided exhaustive over better preferred not_after usable collapse merge without_blanks spells numbers follow_of ends_of valid_form ordered
 best_f =
     let d = accepts_decides (view f₃) 3 (view_proper f₃ refl) in
     decided_outcome line (Accepts (view f₃)) (accepts (view f₃)) (λ w. (d w).0) (λ w. (d w).1)
@@ -123,7 +123,7 @@ abbrev barred : Matrix
 barred = matrix (9 ∷ 0 ∷ 9 ∷ BARRED ∷ 9 ∷ 9 ∷ 2 ∷ BARRED ∷ []) 4 2
 
 no_fr : Outcome (Accepts (view fr)) barred none
-unfolding decided exhaustive over better preferred not_after usable collapse merge without_blanks spells any numbers follow_of ends_of valid_form ordered all
+unfolding decided exhaustive over better preferred not_after usable collapse merge without_blanks spells numbers follow_of ends_of valid_form ordered
 no_fr =
     let d = accepts_decides (view fr) 3 (view_proper fr refl) in
     decided_outcome barred (Accepts (view fr)) (accepts (view fr)) (λ w. (d w).0) (λ w. (d w).1)
@@ -132,7 +132,7 @@ no_fr =
 fl_less_fr :
     (after : List ℕ) (answer : Comparison) → Compares fl fr line (replicate 16 7) after answer
     → (answer ≡ compared (negsuc 2)) × (drop 15 after ≡ 7 ∷ []) × (length after ≡ 16)
-unfolding first_refusal valid_form ordered all
+unfolding first_refusal valid_form ordered
 fl_less_fr after answer h = (
   h.answered
       ∙ ap₂ (difference_report line) (outcome_unique line (Accepts (view fl)) h.first (some (1 ∷ 2 ∷ [])) h.first_is best_fl)
@@ -143,7 +143,7 @@ fl_less_fr after answer h = (
 
 -- the forms exchanged
 fr_less_fl : (before after : List ℕ) (answer : Comparison) → length before ≡ 15 → Compares fr fl line before after answer → answer ≡ compared (pos 3)
-unfolding first_refusal valid_form ordered all
+unfolding first_refusal valid_form ordered
 fr_less_fl before after answer e h =
     let c = rw e at h in
     c.answered
@@ -153,7 +153,7 @@ fr_less_fl before after answer e h =
 -- the larger form second: F is read for 9, and its table would need 9 words, but 15 may change
 f_less_fl :
     (after : List ℕ) (answer : Comparison) → Compares f₃ fl line (replicate 16 7) after answer → (answer ≡ compared (pos 7)) × (drop 15 after ≡ 7 ∷ [])
-unfolding first_refusal valid_form ordered all
+unfolding first_refusal valid_form ordered
 f_less_fl after answer h = (
   h.answered
       ∙ ap₂ (difference_report line) (outcome_unique line (Accepts (view f₃)) h.first (some (1 ∷ 0 ∷ [])) h.first_is best_f)
@@ -165,7 +165,7 @@ f_less_fl after answer h = (
 fl_without_fr :
     (after : List ℕ) (answer : Comparison) → Compares fl fr barred (replicate 16 7) after answer
     → (answer ≡ record { number = 16; difference = pos 0 }) × (drop 15 after ≡ 7 ∷ [])
-unfolding first_refusal valid_form ordered all
+unfolding first_refusal valid_form ordered
 fl_without_fr after answer h = (
   h.answered ∙ without h.first h.second (outcome_unique barred (Accepts (view fr)) h.second none h.second_is no_fr),
   h.work.beyond,

@@ -54,7 +54,7 @@ cases =
     ∷ []
 
 computed : failing cases ≡ []
-unfolding failing meets said cases compile_call if_passed unless all any keep numbers flat_map encode labels_of letter_count then first_of split enclosed provided closed reserved items members ranges_of class_ranges look_up classes known inside bracket escaped a_set labelled_set number from_on from_to comma counts sign repetition grouped step go parse whole expression_of any_of copies nested repeated opened labels numbered position_automaton
+unfolding failing meets said cases compile_call if_passed unless keep numbers flat_map encode labels_of letter_count then first_of split enclosed provided closed reserved items members ranges_of class_ranges look_up classes known inside bracket escaped a_set labelled_set number from_on from_to comma counts sign repetition grouped step go parse whole expression_of any_of copies nested repeated opened labels numbered position_automaton
 computed = refl
 
 -- A character, a range, `.`, a class, a bracket and its complement mean all labels of their characters, in label order.
@@ -69,7 +69,7 @@ all_labels :
     (map (meant "7a7") ("7" ∷ "[5-8]" ∷ "." ∷ "[[:digit:]]" ∷ "[a7]" ∷ "[^a]" ∷ "[^7]" ∷ "[^[:digit:]]" ∷ [])
     ≡ (1 ∷ 3 ∷ []) ∷ (1 ∷ 3 ∷ []) ∷ (1 ∷ 2 ∷ 3 ∷ []) ∷ (1 ∷ 3 ∷ []) ∷ (1 ∷ 2 ∷ 3 ∷ []) ∷ (1 ∷ 3 ∷ []) ∷ (2 ∷ []) ∷ (2 ∷ []) ∷ [])
     × (meant "+a++" "\\+" ≡ 1 ∷ 3 ∷ 4 ∷ [])
-unfolding labels_of_character compile_call if_passed unless all any keep numbers flat_map encode labels_of letter_count then first_of split enclosed provided closed reserved items members ranges_of class_ranges look_up classes known inside bracket escaped a_set labelled_set number from_on from_to comma counts sign repetition grouped step go parse whole expression_of any_of copies nested repeated opened labels numbered position_automaton
+unfolding labels_of_character compile_call if_passed unless keep numbers flat_map encode labels_of letter_count then first_of split enclosed provided closed reserved items members ranges_of class_ranges look_up classes known inside bracket escaped a_set labelled_set number from_on from_to comma counts sign repetition grouped step go parse whole expression_of any_of copies nested repeated opened labels numbered position_automaton
 all_labels = (refl, refl)
 
 -- "`a{127}` compiles, `a{128}` is 9": for 127 letters only refusal 10 is possible. A character with three labels has 126 letters if it is
@@ -81,5 +81,5 @@ most_letters :
     (room : ℕ)
     → memory_only "ab" "a{127}" room (form_of (bytes "ab") (times (set (alone 97)) (between 127 127)))
     × memory_only "777" "7{42}" room (form_of (bytes "777") (times (set (alone 55)) (between 42 42)))
-unfolding compile_call if_passed unless all any labels_of letter_count then first_of split enclosed provided a_set labelled_set number from_to counts sign repetition step go parse whole expression_of
+unfolding compile_call if_passed unless labels_of letter_count then first_of split enclosed provided a_set labelled_set number from_to counts sign repetition step go parse whole expression_of
 most_letters room = (refl, refl)

@@ -44,7 +44,7 @@ cases =
     ∷ []
 
 computed : failing cases ≡ []
-unfolding failing meets said cases compile_list_call if_passed unless all any keep numbers flat_map encode onto pieces both closed repeated list_fault foreign prefixes_from once letters_in prefix_read_at prefix_tree
+unfolding failing meets said cases compile_list_call if_passed unless keep numbers flat_map encode onto pieces both closed repeated list_fault foreign prefixes_from once letters_in prefix_read_at prefix_tree
 computed = refl
 
 -- the number that is given for a list of bytes over the alphabet `ab`
@@ -59,12 +59,12 @@ number s = given (compile_list_call (bytes "ab") s 9)
 lengths :
     map (λ b. map (λ n. number (replicate n b)) (0 ∷ 1 ∷ 4096 ∷ 4097 ∷ [])) (97 ∷ 10 ∷ 9 ∷ [])
     ≡ (2 ∷ 21 ∷ 21 ∷ 2 ∷ []) ∷ (2 ∷ 21 ∷ 21 ∷ 2 ∷ []) ∷ (2 ∷ 3 ∷ 3 ∷ 2 ∷ []) ∷ []
-unfolding number compile_list_call if_passed unless all any onto pieces both closed repeated list_fault
+unfolding number compile_list_call if_passed unless onto pieces both closed repeated list_fault
 lengths = refl
 
 -- which bytes are no refusal 3
 list_bytes : map (λ b. number (97 ∷ b ∷ [])) (0 ∷ 9 ∷ 10 ∷ 11 ∷ 13 ∷ 31 ∷ 32 ∷ 97 ∷ 126 ∷ 127 ∷ 128 ∷ 255 ∷ []) ≡ 3 ∷ 3 ∷ 0 ∷ 3 ∷ 3 ∷ 3 ∷ 21 ∷ 21 ∷ 21 ∷ 3 ∷ 3 ∷ 3 ∷ []
-unfolding number compile_list_call if_passed unless all any keep numbers flat_map encode onto pieces both closed repeated list_fault foreign prefixes_from once letters_in prefix_read_at prefix_tree
+unfolding number compile_list_call if_passed unless keep numbers flat_map encode onto pieces both closed repeated list_fault foreign prefixes_from once letters_in prefix_read_at prefix_tree
 list_bytes = refl
 
 form : String → String → Verdict (List ℕ)
@@ -91,5 +91,5 @@ record Forms : Type 0 where
       ≡ passed (0x10040005 ∷ 0x20000103 ∷ 0x20000201 ∷ 0x20000202 ∷ 0x20000104 ∷ 0x20000201 ∷ 0x30000102 ∷ 0x30000103 ∷ 0x30000405 ∷ [])
 
 forms : Forms
-unfolding form compile_list_call if_passed unless all any keep numbers flat_map encode onto pieces both closed repeated list_fault foreign prefixes_from once letters_in prefix_read_at prefix_tree
+unfolding form compile_list_call if_passed unless keep numbers flat_map encode onto pieces both closed repeated list_fault foreign prefixes_from once letters_in prefix_read_at prefix_tree
 forms = record { shared = refl; in_order = refl; two_shapes = refl; two_sevens = refl; levels = refl }

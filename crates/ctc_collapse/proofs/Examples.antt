@@ -22,5 +22,5 @@ record Examples : Type 0 where
   both : collapse_call 96 path 3 ≡ refused OutputMemory
 
 examples : Examples
-unfolding collapse_call unless all collapse merge without_blanks
+unfolding collapse_call unless collapse merge without_blanks
 examples = record { enough = refl; more = refl; short = refl; nothing = refl; over_k = refl; no_alphabet = refl; both = refl }

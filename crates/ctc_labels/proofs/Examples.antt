@@ -14,5 +14,4 @@ record Examples : Type 0 where
   lengths : map (λ n. label_fault 1 1 (replicate n 1)) (0 ∷ 255 ∷ 256 ∷ []) ≡ false ∷ false ∷ true ∷ []
 
 examples : Examples
-unfolding all
 examples = record { alphabets = refl; path_labels = refl; word_labels = refl; highest = refl; lengths = refl }

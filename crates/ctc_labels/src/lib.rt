@@ -6,20 +6,13 @@ ghost use Rattle.lists.specs.Lists.{in_range};
 ghost use Rattle.lists.specs.Each.{all};
 ghost use Rattle.ctc_labels.specs.Calls.{label_fault};
 
-use numbers::{in_range, wide};
+use numbers::in_range;
 
 // Is each number of a list from `low` to `high`?
 pub fn all_in_range(low: usize, high: usize, list: &[u8]) -> bool
     ensures { result ≡ all (in_range low high) list.now }
 {
-    let mut i: usize = 0;
-    while i < list.len() {
-        if !in_range(low, high, wide(list[i])) {
-            return false;
-        }
-        i += 1;
-    }
-    true
+    list.iter().all(|&x| in_range(low, high, x as usize))
 }
 
 // Is the list turned away as no list of labels of an alphabet of k characters? (Refusal 17.)

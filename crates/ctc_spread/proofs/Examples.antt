@@ -22,5 +22,5 @@ record Examples : Type 0 where
   both : spread_call 1 word 3 ≡ refused OutputMemory
 
 examples : Examples
-unfolding spread_call unless all spread
+unfolding spread_call unless spread
 examples = record { enough = refl; more = refl; short = refl; nothing = refl; over_k = refl; blank = refl; both = refl }

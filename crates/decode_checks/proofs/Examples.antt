@@ -59,7 +59,7 @@ record Examples : Type 0 where
   form_and_matrix : first_refusal (decode_checks [] (matrix [] 0 256) (record { path = 0; word = 0; work = 0 })) ≡ Refused BadForm
 
 examples : Examples
-unfolding first_refusal valid_form ordered all
+unfolding first_refusal valid_form ordered
 examples = record {
   need = refl;
   least = refl;

@@ -8,9 +8,7 @@ use Rattle.lists.specs.Each.{all}
 
 module _ (p : ℕ → Bool) (xs : List ℕ) (so_far : Bool) (i : ℕ) (decide : (so_far && all p (drop i xs)) ≡ all p xs) where
   pub decide_more : i < length xs → (so_far && p (get_or xs i 0) && all p (drop (i + 1) xs)) ≡ all p xs
-  unfolding all
   decide_more l = and_assoc so_far (p (get_or xs i 0)) (all p (drop (i + 1) xs)) ∙ ap (λ rest. so_far && all p rest) (sym (drop_here 0 xs i l)) ∙ decide
 
   pub decide_end : length xs ≤ i → so_far ≡ all p xs
-  unfolding all
   decide_end l = sym (ap (λ rest. so_far && all p rest) (drop_all xs i l) ∙ and-true so_far) ∙ decide

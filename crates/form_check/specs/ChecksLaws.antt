@@ -53,7 +53,7 @@ both true false false x false z f g = refl
 
 module _ (l : ℕ) where
   beyond_arc : (p : ℕ) (ws : List ℕ) → Arc l p → beyond l p ws ≡ (all (is_arc l) ws && ordered (p ∷ ws))
-  unfolding beyond all ordered
+  unfolding beyond ordered
   beyond_arc p [] a = refl
   beyond_arc p (w ∷ ws) a =
       both (is_arc l w) (before p w) (ltb p w) (beyond l w ws) (all (is_arc l) ws) (ordered (w ∷ ws))
@@ -62,7 +62,7 @@ module _ (l : ℕ) where
 
   -- 0 is below every arc
   pub beyond_none : (ws : List ℕ) → beyond l 0 ws ≡ (all (is_arc l) ws && ordered ws)
-  unfolding beyond all ordered
+  unfolding beyond ordered
   beyond_none [] = refl
   beyond_none (w ∷ ws) =
       both (is_arc l w) true (ltb 0 w) (beyond l w ws) (all (is_arc l) ws) (ordered (w ∷ ws))

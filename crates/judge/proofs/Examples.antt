@@ -38,5 +38,5 @@ record Examples : Type 0 where
   both : judged no_form (3 ∷ []) ≡ refused BadForm
 
 examples : Examples
-unfolding judged unless valid_form ordered all any spells numbers follow_of ends_of
+unfolding judged unless valid_form ordered spells numbers follow_of ends_of
 examples = record { accepted = refl; rejected = refl; no_letter = refl; bad_form = refl; labels = refl; lengths = refl; over_characters = refl; both = refl }

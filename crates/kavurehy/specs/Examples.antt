@@ -71,11 +71,11 @@ judges :
     ((handed : List ℕ) (result : ℕ) → Judges form (1 ∷ 2 ∷ []) handed result → (result ≡ 0) × (handed ≡ 1 ∷ []))
     × ((handed : List ℕ) (result : ℕ) → Judges form (2 ∷ []) handed result → (result ≡ 0) × (handed ≡ 0 ∷ []))
     × ((handed : List ℕ) (result : ℕ) → Judges [] (1 ∷ []) handed result → (result ≡ 11) × (handed ≡ 0 ∷ []))
-unfolding judged unless valid_form ordered all any spells numbers follow_of ends_of
+unfolding judged unless valid_form ordered spells numbers follow_of ends_of
 judges = (λ handed result h. (h.number, h.accepted), λ handed result h. (h.number, h.accepted), λ handed result h. (h.number, h.accepted))
 
 accepted : Outcome (Accepts (view form)) three (some (1 ∷ 1 ∷ 2 ∷ []))
-unfolding decided exhaustive over better preferred not_after usable collapse merge without_blanks spells any numbers follow_of ends_of valid_form ordered all
+unfolding decided exhaustive over better preferred not_after usable collapse merge without_blanks spells numbers follow_of ends_of valid_form ordered
 accepted =
     let d = accepts_decides (view form) 2 (view_proper form refl) in
     decided_outcome three (Accepts (view form)) (accepts (view form)) (λ w. (d w).0) (λ w. (d w).1)
@@ -88,7 +88,7 @@ decodes :
     × (after.path ≡ 1 ∷ 1 ∷ 2 ∷ 7 ∷ [])
     × (after.word ≡ 1 ∷ 2 ∷ 7 ∷ 7 ∷ [])
     × (drop 20 after.work ≡ 7 ∷ [])
-unfolding first_refusal valid_form ordered all written collapse merge without_blanks
+unfolding first_refusal valid_form ordered written collapse merge without_blanks
 decodes after handed result h =
     let a = h.decodes in
     let same = outcome_unique three (Accepts (view form)) a.outcome (some (1 ∷ 1 ∷ 2 ∷ [])) a.is accepted in
@@ -123,7 +123,7 @@ reads :
     × (after.path ≡ 1 ∷ 1 ∷ 2 ∷ 7 ∷ [])
     × (after.word ≡ 97 ∷ 98 ∷ 7 ∷ 7 ∷ [])
     × (drop 20 after.work ≡ 7 ∷ [])
-unfolding first_refusal all written collapse merge without_blanks
+unfolding first_refusal written collapse merge without_blanks
 reads form' after handed result h =
     let m = compiled_means (bytes "ab") (bytes "ab*") 5 form compiled in
     let best = outcome_same three (Accepts (view form)) (WordsOf (bytes "ab") (bytes "ab*")) (λ w. (m.words w).0) (λ w. (m.words w).1) (some (1 ∷ 1 ∷ 2 ∷ [])) accepted in
@@ -153,7 +153,7 @@ abbrev single : List ℕ
 single = 0x10020001 ∷ 0x20000301 ∷ []
 
 accepted_single : Outcome (Accepts (view single)) three (some (1 ∷ 1 ∷ 0 ∷ []))
-unfolding decided exhaustive over better preferred not_after usable collapse merge without_blanks spells any numbers follow_of ends_of valid_form ordered all
+unfolding decided exhaustive over better preferred not_after usable collapse merge without_blanks spells numbers follow_of ends_of valid_form ordered
 accepted_single =
     let d = accepts_decides (view single) 2 (view_proper single refl) in
     decided_outcome three (Accepts (view single)) (accepts (view single)) (λ w. (d w).0) (λ w. (d w).1)
@@ -162,7 +162,7 @@ accepted_single =
 compares :
     (after : List ℕ) (handed : List ℤ) (result : ℕ) → ComparesHanded form single three (replicate 21 7) after handed result
     → (result ≡ 0) × (handed ≡ negsuc 2 ∷ []) × (drop 20 after ≡ 7 ∷ [])
-unfolding first_refusal valid_form ordered all
+unfolding first_refusal valid_form ordered
 compares after handed result h =
     let a = h.compares in
     let one = outcome_unique three (Accepts (view form)) a.first (some (1 ∷ 1 ∷ 2 ∷ [])) a.first_is accepted in
@@ -174,7 +174,7 @@ compares after handed result h =
 compares_none :
     (M : Matrix) (before after : List ℕ) (handed : List ℤ) (result : ℕ) → ComparesHanded form [] M before after handed result
     → (result ≡ 11) × (handed ≡ pos 0 ∷ []) × (after ≡ before)
-unfolding first_refusal valid_form ordered all
+unfolding first_refusal valid_form ordered
 compares_none M before after handed result h =
     let told = h.compares.0 in
     (h.hands.number ∙ ap (λ (c : Comparison). c.number) told, h.hands.list ∙ ap (λ (c : Comparison). c.difference ∷ []) told, h.compares.1)

@@ -15,7 +15,6 @@ use Rattle.lists.proofs.OrderLaws.{or_either}
 
 module _ {A : Type 0} where
   pub any_among : (p : A → Bool) (xs : List A) → any p xs ≡ true → (x : A) × Among x xs × (p x ≡ true)
-  unfolding any
   any_among p [] e = let z : ◌≡◌ {A = ℕ} 0 1 = cc in absurd (omega arith)
   any_among p (x ∷ xs) e = by (or_either (p x) (any p xs) e) (any_among p xs)
     where
@@ -24,7 +23,6 @@ module _ {A : Type 0} where
       by (inr h) ih = let r : (y : A) × Among y xs × (p y ≡ true) = ih h in (r.0, inr r.1, r.2)
 
   pub among_any : (p : A → Bool) (a : A) (xs : List A) → Among a xs → p a ≡ true → any p xs ≡ true
-  unfolding any
   among_any p a [] m h = absurd m
   among_any p a (x ∷ xs) (inl e) h = ap (λ b. b || any p xs) (ap p (sym e) ∙ h)
   among_any p a (x ∷ xs) (inr m) h = ap (λ b. p x || b) (among_any p a xs m h) ∙ by (p x)
@@ -80,21 +78,18 @@ module _ {A : Type 0} where
       by false = refl
 
   pub any_append : (p : A → Bool) (xs ys : List A) → any p (xs ++ ys) ≡ (any p xs || any p ys)
-  unfolding any
   any_append p [] ys = refl
   any_append p (x ∷ xs) ys = rw (any_append p xs ys) (sym (or_assoc (p x) (any p xs) (any p ys)))
 
   -- The loop that looks for an element which passes: at index i the rest of xs decides. Past the end an element is d.
   module _ (p : A → Bool) (d : A) (xs : List A) (i : ℕ) where
     pub any_more : i < length xs → p (get_or xs i d) ≡ false → any p (drop i xs) ≡ any p xs → any p (drop (i + 1) xs) ≡ any p xs
-    unfolding any
     any_more l t e = sym (ap (any p) (drop_here d xs i l) ∙ ap (λ b. b || any p (drop (i + 1) xs)) t) ∙ e
 
     pub any_found : i < length xs → p (get_or xs i d) ≡ true → any p xs ≡ true
     any_found l t = among_any p (get_or xs i d) xs (among_at d xs i l) t
 
   pub any_end : (p : A → Bool) (xs : List A) (i : ℕ) → length xs ≤ i → any p (drop i xs) ≡ any p xs → any p xs ≡ false
-  unfolding any
   any_end p xs i l e = sym e ∙ ap (any p) (drop_all xs i l)
 
   -- tests that agree on the list keep the same elements

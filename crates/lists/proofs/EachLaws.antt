@@ -45,12 +45,10 @@ module _ {A : Type 0} where
 
   -- the test gives the fact, and the fact gives the test
   pub all_each : (p : A → Bool) (P : A → Type 0) → ((x : A) → p x ≡ true → P x) → (xs : List A) → all p xs ≡ true → Each P xs
-  unfolding all
   all_each p P f [] e = tt
   all_each p P f (x ∷ xs) e = (f x (and_left (p x) (all p xs) e), all_each p P f xs (and_right (p x) (all p xs) e))
 
   pub each_all : (p : A → Bool) (P : A → Type 0) → ((x : A) → P x → p x ≡ true) → (xs : List A) → Each P xs → all p xs ≡ true
-  unfolding all
   each_all p P f [] h = refl
   each_all p P f (x ∷ xs) h = and_both (p x) (all p xs) (f x h.0) (each_all p P f xs h.1)
 
@@ -65,13 +63,10 @@ module _ {A : Type 0} where
   module _ (p : A → Bool) (d : A) (xs : List A) where
     pub all_more :
         (i : ℕ) → i < length xs → p (get_or xs i d) ≡ true → all p (drop i xs) ≡ all p xs → all p (drop (i + 1) xs) ≡ all p xs
-    unfolding all
     all_more i l t e = sym (ap (all p) (drop_here d xs i l) ∙ ap (λ b. b && all p (drop (i + 1) xs)) t) ∙ e
 
     pub all_fails : (i : ℕ) → i < length xs → p (get_or xs i d) ≡ false → all p (drop i xs) ≡ all p xs → all p xs ≡ false
-    unfolding all
     all_fails i l t e = sym e ∙ ap (all p) (drop_here d xs i l) ∙ ap (λ b. b && all p (drop (i + 1) xs)) t
 
   pub all_end : (p : A → Bool) (xs : List A) (i : ℕ) → length xs ≤ i → all p (drop i xs) ≡ all p xs → all p xs ≡ true
-  unfolding all
   all_end p xs i l e = sym e ∙ ap (all p) (drop_all xs i l)

@@ -27,7 +27,7 @@ record Examples : Type 0 where
   not_held : provided {X = ℕ} false (just 1) ≡ none
 
 examples : Examples
-unfolding written numbers all any keep first_of provided
+unfolding written numbers keep first_of provided
 examples = record {
   memory = refl;
   from_on = refl;

@@ -1,17 +1,15 @@
 -- The words on lists and numbers that promises use.
-use Rattle.std.specs.Prelude.{Bool, true, ◌&&◌, false, ◌||◌, List, [], ◌∷◌, ◌≡◌, ◌⊎◌, ℕ, zero, suc, ◌<◌, eqb, leb, get_or}
+use Rattle.std.specs.Prelude.{Bool, true, ◌&&◌, false, List, [], ◌∷◌, ◌≡◌, ◌⊎◌, ℕ, zero, suc, ◌<◌, eqb, leb, get_or}
 use Rattle.lists.specs.Each.{Each}
+
+-- the test holds of some element: the library's word
+pub use Rattle.std.specs.List.{list_any as any}
 
 module _ {A : Type 0} where
   -- `a` is an element of the list
   abbrev pub Among : A → List A → Type 0
   Among a [] = ⊥
   Among a (x ∷ xs) = (a ≡ x) ⊎ Among a xs
-
-  -- the test holds of some element
-  unfoldable pub any : (A → Bool) → List A → Bool
-  any p [] = false
-  any p (x ∷ xs) = p x || any p xs
 
   -- x before xs, or xs alone
   abbrev pub keeping : Bool → A → List A → List A

@@ -209,5 +209,5 @@ cases =
 
 -- every case holds
 pub cases_stated : Each Stated cases
-unfolding cases holds compiled tried answered passing figures first_refusal same decided exhaustive over better preferred not_after usable collapse merge without_blanks spells follow_of ends_of compile_call if_passed unless all any keep numbers flat_map encode labels_of letter_count then first_of split enclosed provided closed reserved items members ranges_of class_ranges look_up classes known inside bracket escaped a_set labelled_set number from_on from_to comma counts sign repetition grouped step go parse whole expression_of any_of copies nested repeated opened labels numbered position_automaton
+unfolding cases holds compiled tried answered passing figures first_refusal same decided exhaustive over better preferred not_after usable collapse merge without_blanks spells follow_of ends_of compile_call if_passed unless keep numbers flat_map encode labels_of letter_count then first_of split enclosed provided closed reserved items members ranges_of class_ranges look_up classes known inside bracket escaped a_set labelled_set number from_on from_to comma counts sign repetition grouped step go parse whole expression_of any_of copies nested repeated opened labels numbered position_automaton
 cases_stated = all_each holds Stated holds_stated cases refl

@@ -1,10 +1,8 @@
 -- The numbers of the refusals, the order of checks, and what is reported, computed.
-use Rattle.std.specs.Prelude.{ℕ, ◌-◌, min, ◌≡◌, refl, true, false, List, [], ◌∷◌, ◌++◌, map, get_or}
+use Rattle.std.specs.Prelude.{ℕ, ◌-◌, min, ◌≡◌, refl, true, false, List, [], ◌∷◌, ◌++◌, map, get_or, Ok, Err}
 use Rattle.lists.specs.Lists.{numbers}
 use Rattle.refusal.specs.declared.Refusal.{Refusal}
 use Rattle.refusal.specs.declared.Refusal.TheVariants.{Alphabet, TextLength, TextByte, MisplacedSign, Depth, Count, Bracket, Foreign, Letters, FormMemory, BadForm, Matrix, Cost, OutputMemory, Work, NoReading, Label, Sheet, ClassName, WordList}
-use Rattle.refusal.specs.declared.Checked.TheVariants.{Passed, Refused as Stopped}
-use Rattle.refusal.specs.declared.Counted.TheVariants.{Filled, Refused}
 use Rattle.refusal.specs.Number.{number_of}
 use Rattle.refusal.specs.Verdict.{Verdict, passed, refused, Check, check, unless, if_passed, first_refusal}
 use Rattle.refusal.specs.Checks.{Checks}
@@ -59,14 +57,14 @@ away = refused Work
 
 record Examples : Type 0 where
   first : unless two some ≡ refused Work
-  first_alone : first_refusal two ≡ Stopped Work
+  first_alone : first_refusal two ≡ Err Work
   all_pass : unless none some ≡ passed some
-  all_pass_alone : first_refusal none ≡ Passed
+  all_pass_alone : first_refusal none ≡ Ok tt
   goes_on : if_passed (passed some) (λ s. away) ≡ away
   stays_refused : if_passed away (λ s. passed s) ≡ away
   -- number, price, length of what was filled, length of the form
-  filled : reported (Filled 2) ≡ record { number = 0; price = 0; filled = 2; form = 0 }
-  turned_away : reported (Refused Work) ≡ record { number = 15; price = 0; filled = 0; form = 0 }
+  filled : reported (Ok 2) ≡ record { number = 0; price = 0; filled = 2; form = 0 }
+  turned_away : reported (Err Work) ≡ record { number = 15; price = 0; filled = 0; form = 0 }
   verdict_filled : report (passed some) ≡ record { number = 0; price = 0; filled = 2; form = 0 }
   verdict_refused : report away ≡ record { number = 15; price = 0; filled = 0; form = 0 }
   written : filling (passed some) ≡ some
@@ -94,6 +92,6 @@ abbrev Passes : (before after : List ℕ) (answer : ℕ) → Type 0
 Passes before after answer = after ≡ some
 
 checked :
-    ((before after : List ℕ) (answer : ℕ) → Checks number_of (Stopped Work) Passes before after answer → (answer ≡ 15) × (after ≡ before))
-    × ((before after : List ℕ) (answer : ℕ) → Checks number_of Passed Passes before after answer → after ≡ some)
+    ((before after : List ℕ) (answer : ℕ) → Checks number_of (Err Work) Passes before after answer → (answer ≡ 15) × (after ≡ before))
+    × ((before after : List ℕ) (answer : ℕ) → Checks number_of (Ok tt) Passes before after answer → after ≡ some)
 checked = (λ before after answer h. h, λ before after answer h. h)

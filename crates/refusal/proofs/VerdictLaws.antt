@@ -1,12 +1,11 @@
 -- Laws of the first check that holds.
 use Rattle.std.proofs.Math.Path.{◌≡◌, refl, ap}
 use Rattle.std.proofs.Common.{subst, ◌∙◌, arith}
-use Rattle.std.specs.Prelude.{ℕ, Bool}
+use Rattle.std.specs.Prelude.{ℕ, Bool, Ok, Err}
 use Rattle.std.proofs.Math.Bool.{true, false}
 use mathlib.Core.List.{List, [], ◌∷◌}
 use Rattle.lists.specs.Each.{Each}
 use Rattle.refusal.specs.declared.Refusal.{Refusal}
-use Rattle.refusal.specs.declared.Checked.TheVariants.{Passed, Refused}
 use Rattle.refusal.specs.Verdict.{passed, refused, Check, check, unless, first_refusal}
 
 module _ {A : Type 0} (a : A) where
@@ -41,13 +40,13 @@ module _ {A : Type 0} (a b : A) where
   unless_same e = cc
 
   -- the checks alone
-  pub unless_all : (cs : List Check) → unless cs a ≡ passed b → (first_refusal cs ≡ Passed) × (a ≡ b)
+  pub unless_all : (cs : List Check) → unless cs a ≡ passed b → (first_refusal cs ≡ Ok tt) × (a ≡ b)
   unfolding unless first_refusal
   unless_all [] e = (refl, cc)
   unless_all (check true n ∷ cs) e = let z : ◌≡◌ {A = ℕ} 0 1 = cc in absurd (omega arith)
   unless_all (check false n ∷ cs) e = unless_all cs e
 
-pub first_holds : (t : Bool) (n : Refusal) (cs : List Check) → t ≡ true → first_refusal (check t n ∷ cs) ≡ Refused n
+pub first_holds : (t : Bool) (n : Refusal) (cs : List Check) → t ≡ true → first_refusal (check t n ∷ cs) ≡ Err n
 unfolding first_refusal
 first_holds t n cs e = rw e
 
@@ -68,27 +67,27 @@ first_same s false n cs ds e h = rw (e, h)
 
 -- a refusal is that of some check in the list: what holds of each of them holds of it
 pub first_of :
-    (P : Refusal → Type 0) (cs : List Check) → Each (λ c. P (refusal_of c)) cs → (n : Refusal) → first_refusal cs ≡ Refused n → P n
+    (P : Refusal → Type 0) (cs : List Check) → Each (λ c. P (refusal_of c)) cs → (n : Refusal) → first_refusal cs ≡ Err n → P n
 unfolding first_refusal
 first_of P [] h n e = let z : ◌≡◌ {A = ℕ} 0 1 = cc in absurd (omega arith)
 first_of P (check true m ∷ cs) h n e = let q : m ≡ n = cc in subst P q h.0
 first_of P (check false m ∷ cs) h n e = first_of P cs h.1 n e
 
 -- where all checks pass, each does
-pub first_passed : (t : Bool) (n : Refusal) (cs : List Check) → first_refusal (check t n ∷ cs) ≡ Passed → (t ≡ false) × (first_refusal cs ≡ Passed)
+pub first_passed : (t : Bool) (n : Refusal) (cs : List Check) → first_refusal (check t n ∷ cs) ≡ Ok tt → (t ≡ false) × (first_refusal cs ≡ Ok tt)
 unfolding first_refusal
 first_passed true n cs e = let z : ◌≡◌ {A = ℕ} 0 1 = cc in absurd (omega arith)
 first_passed false n cs e = (refl, e)
 
 -- the checks alone decide the verdict
 module _ {A : Type 0} (a : A) where
-  pub first_refused : (n : Refusal) (cs : List Check) → first_refusal cs ≡ Refused n → unless cs a ≡ refused n
+  pub first_refused : (n : Refusal) (cs : List Check) → first_refusal cs ≡ Err n → unless cs a ≡ refused n
   unfolding first_refusal unless
   first_refused n [] e = let z : ◌≡◌ {A = ℕ} 0 1 = cc in absurd (omega arith)
   first_refused n (check true m ∷ cs) e = let q : m ≡ n = cc in ap refused q
   first_refused n (check false m ∷ cs) e = first_refused n cs e
 
-  pub first_all : (cs : List Check) → first_refusal cs ≡ Passed → unless cs a ≡ passed a
+  pub first_all : (cs : List Check) → first_refusal cs ≡ Ok tt → unless cs a ≡ passed a
   unfolding first_refusal unless
   first_all [] e = refl
   first_all (check true m ∷ cs) e = let z : ◌≡◌ {A = ℕ} 0 1 = cc in absurd (omega arith)

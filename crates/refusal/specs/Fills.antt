@@ -1,8 +1,7 @@
 -- What a call that fills one list reports and promises.
-use Rattle.std.specs.Prelude.{ℕ, ◌≡◌, List, [], length}
+use Rattle.std.specs.Prelude.{ℕ, ◌≡◌, List, [], length, Result, Ok, Err}
 use Rattle.lists.specs.Memory.{written}
-use Rattle.refusal.specs.declared.Counted.{Counted}
-use Rattle.refusal.specs.declared.Counted.TheVariants.{Filled, Refused}
+use Rattle.refusal.specs.declared.Refusal.{Refusal}
 use Rattle.refusal.specs.Verdict.{Verdict, passed, refused}
 use Rattle.refusal.specs.Report.{Report, turned_away}
 
@@ -10,9 +9,9 @@ use Rattle.refusal.specs.Report.{Report, turned_away}
 abbrev pub counted : ℕ → Report
 counted n = record { number = 0; price = 0; filled = n; form = 0 }
 
-abbrev pub reported : Counted → Report
-reported (Filled n) = counted n
-reported (Refused n) = turned_away n
+abbrev pub reported : Result ℕ Refusal → Report
+reported (Ok n) = counted n
+reported (Err n) = turned_away n
 
 module _ {A : Type 0} where
   abbrev pub report : Verdict (List A) → Report

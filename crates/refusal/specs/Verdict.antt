@@ -1,9 +1,7 @@
 -- The verdict of a call on its input: the first test that holds turns it away, or it passes. The tests are in the order of the list, not
 -- in that of the refusals' numbers.
-use Rattle.std.specs.Prelude.{Bool, true, false, List, [], ◌∷◌}
+use Rattle.std.specs.Prelude.{Bool, true, false, List, [], ◌∷◌, Result, Ok, Err}
 use Rattle.refusal.specs.declared.Refusal.{Refusal}
-use Rattle.refusal.specs.declared.Checked.{Checked}
-use Rattle.refusal.specs.declared.Checked.TheVariants.{Passed, Refused}
 
 pub data Verdict (A : Type 0) : Type 0 where
   passed : A → Verdict A
@@ -25,7 +23,7 @@ if_passed (passed a) f = f a
 if_passed (refused n) f = refused n
 
 -- the checks alone: the refusal of the first that holds, if any
-unfoldable pub first_refusal : List Check → Checked
-first_refusal [] = Passed
-first_refusal (check true n ∷ cs) = Refused n
+unfoldable pub first_refusal : List Check → Result (Unit {0}) Refusal
+first_refusal [] = Ok tt
+first_refusal (check true n ∷ cs) = Err n
 first_refusal (check false n ∷ cs) = first_refusal cs

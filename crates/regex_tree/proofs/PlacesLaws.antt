@@ -32,7 +32,6 @@ end_misplaced [] e = refl
 end_misplaced (b ∷ s) e = of_one (λ c. misplaced (c ∷ s) ≡ true) (bytes "|)") b (refl, (refl, tt)) e
 
 special_misplaced : (b : ℕ) (s : List ℕ) → special b ≡ true → one_of (bytes "(.[") b ≡ false → misplaced (b ∷ s) ≡ true
-unfolding all
 special_misplaced b s e k =
     rw k at (of_one (λ c. either c ≡ true) (bytes "^.[$()|*+?{\\") b (all_each either (λ c. either c ≡ true) (λ c h. h) (bytes "^.[$()|*+?{\\") refl) e)
   where

@@ -27,14 +27,14 @@ together_among (some rs) (some ss) b e = among_append rs ss b
 
 -- they are known exactly if each item's are
 pub ranges_known : (is : List Item) → is_some (ranges_of is) ≡ all (λ i. is_some (item_ranges i)) is
-unfolding ranges_of all
+unfolding ranges_of
 ranges_known [] = refl
 ranges_known (i ∷ is) = together_known (item_ranges i) (ranges_of is) ∙ ap (λ t. is_some (item_ranges i) && t) (ranges_known is)
 
 -- and then a byte is in them exactly if it is in one item's
 pub ranges_among :
     (is : List Item) (b : ℕ) → is_some (ranges_of is) ≡ true → among (listed (ranges_of is)) b ≡ any (λ i. among (listed (item_ranges i)) b) is
-unfolding ranges_of any
+unfolding ranges_of
 ranges_among [] b e = refl
 ranges_among (i ∷ is) b e =
     together_among (item_ranges i) (ranges_of is) b e

@@ -32,7 +32,7 @@ use Rattle.sheet_answer.specs.AnswerLaws.{prints_unique}
 
 -- "Input in full" and "Output in full"
 pub document_prints : Prints (bytes "ab\naa\n5 1 9\n5 1 9\n5 1 9\n") (bytes "7\naa\n1 0 1\n")
-unfolding cases onto pieces both every closed cost_of numeral_of column_of flatten laid sheet_from sheet_of provided digits decimal following spaced flat_map collapse merge without_blanks first_refusal compile_call if_passed unless all any keep numbers encode labels_of letter_count then first_of split enclosed closes reserved items members ranges_of class_ranges look_up classes known inside bracket escaped a_set labelled_set number from_on from_to comma counts sign repetition grouped step go parse whole expression_of any_of copies nested repeated opened labels numbered position_automaton
+unfolding cases onto pieces both every closed cost_of numeral_of column_of flatten laid sheet_from sheet_of provided digits decimal following spaced flat_map collapse merge without_blanks first_refusal compile_call if_passed unless keep numbers encode labels_of letter_count then first_of split enclosed closes reserved items members ranges_of class_ranges look_up classes known inside bracket escaped a_set labelled_set number from_on from_to comma counts sign repetition grouped step go parse whole expression_of any_of copies nested repeated opened labels numbered position_automaton
 document_prints = record { outcome = some (1 ∷ 0 ∷ 1 ∷ []); is = cases_stated.1.0.0; lines = refl }
 
 -- the program's output: the first bytes of its memory
@@ -55,7 +55,7 @@ pub others_print :
     × Prints (bytes "ab\naa\n5 1 9\n- 1 9\n5 1 9\n") (bytes "refused 16\n")
     × Prints (bytes "ab\na\n- 7 0\n0 2 0\n") (bytes "7\na\n1 0\n")
     × Prints (bytes "77\n77\n0 1 5\n0 5 1\n") (bytes "2\n77\n1 2\n")
-unfolding cases onto pieces both every closed cost_of numeral_of column_of flatten laid sheet_from sheet_of provided digits decimal following spaced flat_map collapse merge without_blanks first_refusal compile_call if_passed unless all any keep numbers encode labels_of letter_count then first_of split enclosed closes reserved items members ranges_of class_ranges look_up classes known inside bracket escaped a_set labelled_set number from_on from_to comma counts sign repetition grouped step go parse whole expression_of any_of copies nested repeated opened labels numbered position_automaton
+unfolding cases onto pieces both every closed cost_of numeral_of column_of flatten laid sheet_from sheet_of provided digits decimal following spaced flat_map collapse merge without_blanks first_refusal compile_call if_passed unless keep numbers encode labels_of letter_count then first_of split enclosed closes reserved items members ranges_of class_ranges look_up classes known inside bracket escaped a_set labelled_set number from_on from_to comma counts sign repetition grouped step go parse whole expression_of any_of copies nested repeated opened labels numbered position_automaton
 others_print = (
   record { outcome = some (1 ∷ 2 ∷ []); is = cases_stated.0.0; lines = refl },
   record { outcome = some []; is = cases_stated.1.1.1.0.0; lines = refl },

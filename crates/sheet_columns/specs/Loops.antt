@@ -150,7 +150,7 @@ flatten_more c cs ds e = ap (λ x. length (flatten x)) e ∙ length-append c (fl
 
 module _ (w : ℕ) (input : List ℕ) (at m n : ℕ) (before : List ℕ) where
   pub columns_end : length input ≤ at → m ≤ 16384 → StoredColumns w input at m n before before (columns.Count n)
-  unfolding all flatten
+  unfolding flatten
   columns_end l k =
       record {
         columns = [];
@@ -174,7 +174,6 @@ module _ (w : ℕ) (input : List ℕ) (at m n : ℕ) (before : List ℕ) where
     size = h.stored.next
 
     pub columns_unequal : (f - m ≡ w → ⊥) → StoredColumns w input at m n before middle columns.Bad
-    unfolding all
     columns_unequal d = (
       (λ cs q t.
           let k = both_back h.costs (columns_in (drop e input)) cs (sym h.is ∙ q) in
@@ -188,7 +187,7 @@ module _ (w : ℕ) (input : List ℕ) (at m n : ℕ) (before : List ℕ) where
     pub columns_more :
         (after : List ℕ) (r : Columns) → f - m ≡ w → StoredColumns w input e f (n + 1) middle after r
         → StoredColumns w input at m n before after r
-    unfolding all flatten both
+    unfolding flatten both
     columns_more after (columns.Count count) d s =
         let z = size in
         let k = s.counted in

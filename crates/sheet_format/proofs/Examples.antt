@@ -18,7 +18,7 @@ document : Sheet
 document = record { alphabet = bytes "ab"; text = bytes "aa"; columns = column ∷ (column ∷ (column ∷ [])) }
 
 document_sheet : sheet_of (bytes "ab\naa\n5 1 9\n5 1 9\n5 1 9\n") ≡ some document
-unfolding document column sheet_of sheet_from laid flatten column_of cost_of numeral_of closed every both pieces onto provided all
+unfolding document column sheet_of sheet_from laid flatten column_of cost_of numeral_of closed every both pieces onto provided
 document_sheet = refl
 
 document_matrix : matrix_of document ≡ matrix (5 ∷ (1 ∷ (9 ∷ (5 ∷ (1 ∷ (9 ∷ (5 ∷ (1 ∷ (9 ∷ []))))))))) 3 3
@@ -30,7 +30,7 @@ two_columns : Sheet
 two_columns = record { alphabet = bytes "ab"; text = bytes "ab"; columns = (5 ∷ (1 ∷ (9 ∷ []))) ∷ ((5 ∷ (9 ∷ (2 ∷ []))) ∷ []) }
 
 two_columns_sheet : sheet_of (bytes "ab\nab\n5 1 9\n5 9 2\n") ≡ some two_columns
-unfolding two_columns sheet_of sheet_from laid flatten column_of cost_of numeral_of closed every both pieces onto provided all
+unfolding two_columns sheet_of sheet_from laid flatten column_of cost_of numeral_of closed every both pieces onto provided
 two_columns_sheet = refl
 
 two_columns_matrix : matrix_of two_columns ≡ matrix (5 ∷ (1 ∷ (9 ∷ (5 ∷ (9 ∷ (2 ∷ [])))))) 3 2
@@ -49,7 +49,7 @@ barred_columns =
     }
 
 barred_sheet : sheet_of (bytes "ab\na\n- 1 -\n5 - 0\n- - -\n") ≡ some barred_columns
-unfolding barred_columns sheet_of sheet_from laid flatten column_of cost_of numeral_of closed every both pieces onto provided all
+unfolding barred_columns sheet_of sheet_from laid flatten column_of cost_of numeral_of closed every both pieces onto provided
 barred_sheet = refl
 
 -- no column line: the width is K + 1; both lines may be empty
@@ -57,7 +57,7 @@ no_column : Sheet
 no_column = record { alphabet = bytes "ab"; text = bytes "aa"; columns = [] }
 
 no_column_sheet : sheet_of (bytes "ab\naa\n") ≡ some no_column
-unfolding no_column sheet_of sheet_from laid flatten column_of cost_of numeral_of closed every both pieces onto provided all
+unfolding no_column sheet_of sheet_from laid flatten column_of cost_of numeral_of closed every both pieces onto provided
 no_column_sheet = refl
 
 no_column_matrix : matrix_of no_column ≡ matrix [] 3 0
@@ -65,7 +65,7 @@ unfolding no_column flatten
 no_column_matrix = refl
 
 empty_lines : sheet_of (bytes "\n\n") ≡ some (record { alphabet = []; text = []; columns = [] })
-unfolding sheet_of sheet_from laid flatten column_of cost_of numeral_of closed every both pieces onto provided all
+unfolding sheet_of sheet_from laid flatten column_of cost_of numeral_of closed every both pieces onto provided
 empty_lines = refl
 
 -- texts that are costs
@@ -96,7 +96,7 @@ no_costs : all (λ s. is_none (cost_of (bytes s)))
     ∷ "+1"
     ∷ [])
     ≡ true
-unfolding all cost_of numeral_of provided is_none
+unfolding cost_of numeral_of provided is_none
 no_costs = refl
 
 -- of the texts of one byte the digits and `-` are costs, and no others
@@ -127,5 +127,5 @@ no_sheets : all (λ s. is_none (sheet_of (bytes s)))
     ∷ "ab\r\naa\r\n5 1 9\r\n"
     ∷ [])
     ≡ true
-unfolding is_none sheet_of sheet_from laid flatten column_of cost_of numeral_of closed every both pieces onto provided all
+unfolding is_none sheet_of sheet_from laid flatten column_of cost_of numeral_of closed every both pieces onto provided
 no_sheets = refl

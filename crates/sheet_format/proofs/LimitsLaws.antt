@@ -76,7 +76,7 @@ many_columns (suc n) =
     columns_in_line (48 ∷ []) (many n) (λ e. omega arith, tt) ∙ ap (λ c. both c (columns_in (many n))) nought ∙ ap (both (some (0 ∷ []))) (many_columns n)
 
 many_fit : (n : ℕ) → fitting (zeros n) ≡ leb n 16384
-unfolding all flatten
+unfolding flatten
 many_fit n = rw (equal n, count n)
   where
     one : (n : ℕ) → all (λ d. eqb (length d) 1) (zeros n) ≡ true

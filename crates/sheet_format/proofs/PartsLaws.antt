@@ -30,7 +30,7 @@ record Lines (input : List ℕ) (S : Sheet) : Type 0 where
 
 -- equally long columns: the number of costs is the number of columns times the width
 area : (w : ℕ) (cs : List (List ℕ)) → all (λ d. eqb (length d) w) cs ≡ true → length (flatten cs) ≡ length cs * w
-unfolding all flatten
+unfolding flatten
 area w [] e = omega arith
 area w (c ∷ cs) e =
     let l = eqb-true (length c) w (and_left (eqb (length c) w) (all (λ d. eqb (length d) w) cs) e) in
@@ -39,7 +39,7 @@ area w (c ∷ cs) e =
     omega arith
 
 equal_area : (other : ℕ) (cs : List (List ℕ)) → equal_columns cs ≡ true → length (flatten cs) ≡ length cs * width_or other cs
-unfolding flatten all
+unfolding flatten
 equal_area other [] e = omega arith
 equal_area other (c ∷ cs) e = area (length c) (c ∷ cs) (and_both (eqb (length c) (length c)) (equal_columns (c ∷ cs)) (eq-eqb (length c) (length c) refl) e)
 

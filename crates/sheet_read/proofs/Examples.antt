@@ -23,5 +23,5 @@ record Examples : Type 0 where
   every_form : leb (1 + 127 + 127 * 127) form_room ≡ true
 
 examples : Examples
-unfolding first_refusal all
+unfolding first_refusal
 examples = record { full_line = refl; below = refl; enough = refl; above = refl; too_many = refl; every_form = refl }

@@ -176,12 +176,12 @@ some_line (b ∷ s) l e = ⊎_elim ends goes_on (eq_or_ne b 10)
 -- The bytes of the lines are those of the text that are no newline.
 module _ (p : ℕ → Bool) where
   any_onto : (b : ℕ) (ps : List (List ℕ)) → any (any p) (onto b ps) ≡ (p b || any (any p) ps)
-  unfolding any onto
+  unfolding onto
   any_onto b [] = ap (λ t. t || false) (or-false (p b))
   any_onto b (q ∷ ps) = or_assoc (p b) (any p q) (any (any p) ps)
 
   any_pieces : (c : ℕ) (s : List ℕ) → any (any p) (pieces c s) ≡ any (λ b. not (eqb b c) && p b) s
-  unfolding any pieces
+  unfolding pieces
   any_pieces c [] = refl
   any_pieces c (b ∷ s) = by (eqb b c) (any_pieces c s)
     where
@@ -192,7 +192,7 @@ module _ (p : ℕ → Bool) where
       by false e = any_onto b (pieces c s) ∙ ap (λ t. p b || t) e
 
   any_closed : (ps ls : List (List ℕ)) → closed ps ≡ some ls → any (any p) ps ≡ any (any p) ls
-  unfolding closed any both
+  unfolding closed both
   any_closed [] ls e = let z : ◌≡◌ {A = ℕ} 0 1 = cc in absurd (omega arith)
   any_closed ([] ∷ []) ls e = let q : [] ≡ ls = cc in ap (any (any p)) q
   any_closed ((b ∷ r) ∷ []) ls e = let z : ◌≡◌ {A = ℕ} 0 1 = cc in absurd (omega arith)

@@ -44,7 +44,7 @@ record Examples : Type 0 where
   ends : map sevens.ends (0 ∷ 1 ∷ 2 ∷ 3 ∷ []) ≡ false ∷ true ∷ true ∷ true ∷ []
 
 examples : Examples
-unfolding shown sevens prefix_tree prefix_read_at onto pieces both closed repeated list_fault foreign any keep numbers flat_map prefixes_from once letters_in
+unfolding shown sevens prefix_tree prefix_read_at onto pieces both closed repeated list_fault foreign keep numbers flat_map prefixes_from once letters_in
 examples = record {
   lines = refl;
   unclosed = refl;

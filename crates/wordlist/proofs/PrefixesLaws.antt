@@ -97,7 +97,7 @@ occurs q ps = any (λ p. same_prefix p q) ps
 
 -- One prefix more comes last if it has not occurred, and otherwise changes nothing: they are in the order of their first places.
 pub once_more : (q : Prefix) (ps : List Prefix) → once (ps ++ (q ∷ [])) ≡ cond (occurs q ps) (once ps) (once ps ++ (q ∷ []))
-unfolding once keep any
+unfolding once keep
 once_more q [] = refl
 once_more q (p ∷ ps) = ap (λ l. p ∷ keep others l) (once_more q ps) ∙ by (occurs q ps) (same_prefix p q) refl
   where

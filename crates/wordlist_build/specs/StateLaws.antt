@@ -243,7 +243,6 @@ module _ (A : List ℕ) (ws : List (List ℕ)) (u : List ℕ) where
     later = ws ++ (u ∷ [])
 
     row_ended : (i : ℕ) → i < length all → entry (ended t marks) i ≡ row_of all later (get_or all i no_letter)
-    unfolding any
     row_ended i l =
         let z = get_or all i no_letter in
         let size = length-map all (row_of all ws) in

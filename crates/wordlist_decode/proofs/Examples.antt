@@ -34,7 +34,7 @@ abbrev form : List ℕ
 form = 0x10040005 ∷ 0x20000103 ∷ 0x20000201 ∷ 0x20000202 ∷ 0x20000104 ∷ 0x20000201 ∷ 0x30000102 ∷ 0x30000103 ∷ 0x30000405 ∷ []
 
 compiled : compile_list_call A list 9 ≡ passed form
-unfolding compile_list_call if_passed unless all any keep numbers flat_map encode onto pieces both closed repeated list_fault foreign prefixes_from once letters_in prefix_read_at prefix_tree
+unfolding compile_list_call if_passed unless keep numbers flat_map encode onto pieces both closed repeated list_fault foreign prefixes_from once letters_in prefix_read_at prefix_tree
 compiled = refl
 
 -- two columns, each with the costs of blank, 1, 2, L and C
@@ -43,7 +43,7 @@ line = matrix (9 ∷ 9 ∷ 9 ∷ 4 ∷ 1 ∷ 9 ∷ 5 ∷ 1 ∷ 9 ∷ 9 ∷ []) 5
 
 -- L2 for 5; C1 is 6, and C2 would be 2
 read : Outcome (Listed A (words list)) line (some (3 ∷ 2 ∷ []))
-unfolding decided exhaustive over better preferred not_after usable collapse merge without_blanks spells any numbers follow_of ends_of valid_form ordered all
+unfolding decided exhaustive over better preferred not_after usable collapse merge without_blanks spells numbers follow_of ends_of valid_form ordered
 read = (listed_outcome A list 9 form compiled line (some (3 ∷ 2 ∷ []))).0 accepted
   where
     accepted : Outcome (Accepts (view form)) line (some (3 ∷ 2 ∷ []))
@@ -56,7 +56,7 @@ short : Matrix
 short = matrix (0 ∷ 0 ∷ 0 ∷ 0 ∷ 0 ∷ []) 5 1
 
 nothing : Outcome (Listed A (words list)) short none
-unfolding short decided exhaustive over better preferred not_after usable collapse merge without_blanks spells any numbers follow_of ends_of valid_form ordered all
+unfolding short decided exhaustive over better preferred not_after usable collapse merge without_blanks spells numbers follow_of ends_of valid_form ordered
 nothing =
     let d = accepts_decides (view form) 4 (view_proper form refl) in
     (listed_outcome A list 9 form compiled short none).0
@@ -67,7 +67,7 @@ abbrev sevens : List ℕ
 sevens = 0x10030004 ∷ 0x20000101 ∷ 0x20000103 ∷ 0x20000201 ∷ 0x20000203 ∷ 0x30000103 ∷ 0x30000104 ∷ 0x30000203 ∷ 0x30000204 ∷ []
 
 two_sevens : compile_list_call (bytes "7a7") (bytes "77\n") 9 ≡ passed sevens
-unfolding compile_list_call if_passed unless all any keep numbers flat_map encode onto pieces both closed repeated list_fault foreign prefixes_from once letters_in prefix_read_at prefix_tree
+unfolding compile_list_call if_passed unless keep numbers flat_map encode onto pieces both closed repeated list_fault foreign prefixes_from once letters_in prefix_read_at prefix_tree
 two_sevens = refl
 
 -- two columns, each with the costs of blank, 7, a and 7
@@ -75,7 +75,7 @@ abbrev pair : Matrix
 pair = matrix (9 ∷ 0 ∷ 9 ∷ 2 ∷ 9 ∷ 0 ∷ 9 ∷ 3 ∷ []) 4 2
 
 pair_accepted : Outcome (Accepts (view sevens)) pair (some (3 ∷ 1 ∷ []))
-unfolding decided exhaustive over better preferred not_after usable collapse merge without_blanks spells any numbers follow_of ends_of valid_form ordered all
+unfolding decided exhaustive over better preferred not_after usable collapse merge without_blanks spells numbers follow_of ends_of valid_form ordered
 pair_accepted =
     let d = accepts_decides (view sevens) 3 (view_proper sevens refl) in
     decided_outcome pair (Accepts (view sevens)) (accepts (view sevens)) (λ w. (d w).0) (λ w. (d w).1)

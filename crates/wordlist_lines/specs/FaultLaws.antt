@@ -25,7 +25,7 @@ fault_is s = refl
 -- a first line, and what the others are
 module _ (l : List ℕ) (o : Option (List (List ℕ))) where
   first_empty : same_list [] l ≡ true → fault_of (both (some l) o) ≡ true
-  unfolding both any
+  unfolding both
   first_empty t = by o
     where
       by : (o : Option (List (List ℕ))) → fault_of (both (some l) o) ≡ true
@@ -34,7 +34,7 @@ module _ (l : List ℕ) (o : Option (List (List ℕ))) where
 
   module _ (r : Bool) (long : same_list [] l ≡ false) (again : (ls : List (List ℕ)) → o ≡ some ls → r ≡ any (same_list l) ls) where
     others : (ls : List (List ℕ)) → o ≡ some ls → fault_of (some (l ∷ ls)) ≡ (any (same_list []) ls || (r || repeated ls))
-    unfolding any repeated
+    unfolding repeated
     others ls e = rw (long, sym (again ls e))
 
     first_again : r ≡ true → fault_of (both (some l) o) ≡ true
@@ -84,13 +84,12 @@ module _ (s : List ℕ) (at e : ℕ) (end : LineEnd s at e) where
     fault_later t = closed l ∙ first_passes (part at e s) (lines_of (drop (e + 1) s)) r not_empty again t ∙ sym (fault_is (drop (e + 1) s))
 
 pub fault_none : (s : List ℕ) (at : ℕ) → length s ≤ at → list_fault (drop at s) ≡ false
-unfolding any repeated
+unfolding repeated
 fault_none s at l = fault_is (drop at s) ∙ ap fault_of (lines_past s at l)
 
 -- Does a line come again?
 module _ (line s : List ℕ) where
   pub again_none : (at : ℕ) → length s ≤ at → Again line (drop at s) false
-  unfolding any
   again_none at l ls q =
       let n : some [] ≡ some ls = sym (lines_past s at l) ∙ q in
       let e : [] ≡ ls = cc in
@@ -112,11 +111,9 @@ module _ (line s : List ℕ) where
         by (some ms) g k = (ms, g, cc)
 
     pub again_here : e < length s → same_list line (part at e s) ≡ true → Again line (drop at s) true
-    unfolding any
     again_here l t ls q = let m = split ls l q in sym (ap (λ b. b || any (same_list line) m.0) t) ∙ ap (any (same_list line)) m.2
 
     pub again_later : (r : Bool) → e < length s → same_list line (part at e s) ≡ false → Again line (drop (e + 1) s) r → Again line (drop at s) r
-    unfolding any
     again_later r l t later ls q =
         let m = split ls l q in
         later m.0 m.1 ∙ sym (ap (λ b. b || any (same_list line) m.0) t) ∙ ap (any (same_list line)) m.2

@@ -7,5 +7,5 @@ use Rattle.regex_classes.specs.Table.{is_row, agrees}
 use Rattle.regex_classes.proofs.look_up.Goals as goal
 
 pub search-requires : goal.search-requires
-unfolding agrees is_row classes all numbers
+unfolding agrees is_row classes numbers
 search-requires c = refl
