@@ -4,17 +4,13 @@
 ghost use Rattle.std.specs.Prelude.{◌≤◌, length};
 ghost use Rattle.positions_follow.specs.Sets.{Union, Linked};
 
-use numbers::either;
-
 // The set a becomes its union with the set b.
 pub fn unite(a: &mut [bool], b: &[bool])
     requires { length b.now ≤ length a.old }
     ensures { Union a.old b.now a.new }
 {
-    let mut i: usize = 0;
-    while i < b.len() {
-        a[i] = either(a[i], b[i]);
-        i += 1;
+    for (i, &there) in b.iter().enumerate() {
+        a[i] = a[i] || there;
     }
 }
 
@@ -23,11 +19,9 @@ pub fn link(follow: &mut [[bool; 127]], from: &[bool], to: &[bool])
     requires { (length from.now ≤ length follow.old) × (length to.now ≤ 127) }
     ensures { Linked from.now to.now follow.old follow.new }
 {
-    let mut i: usize = 0;
-    while i < from.len() {
-        if from[i] {
+    for (i, &there) in from.iter().enumerate() {
+        if there {
             unite(&mut follow[i], to);
         }
-        i += 1;
     }
 }
