@@ -143,7 +143,7 @@ module _ (text : List ℕ) (at : ℕ) where
   pub first_at : get_or (drop at text) 0 0 ≡ get_or text at 0
   first_at = get_or-drop at text 0 0 ∙ ap (λ k. get_or text k 0) (omega arith)
 
-  opens_at : opens (drop at text) ≡ class_begins (get_or text at 0) (get_or text (at + 1) 0)
+  pub opens_at : opens (drop at text) ≡ class_begins (get_or text at 0) (get_or text (at + 1) 0)
   unfolding opens
   opens_at = rw (first_at, get_or-drop at text 1 0)
 

@@ -12,20 +12,15 @@ use text::peek;
 pub fn closes(text: &[u8], first: usize, at: usize) -> bool
     ensures { result ≡ closes_of (eqb at first) (get_or text.now at 0) }
 {
-    if at == first {
-        return false;
-    }
-    peek(text, at) == b']'
+    at != first && peek(text, at) == b']'
 }
 
 // Does a class begin here, with `[:`?
+#[tactic(auto, using(crate::specs::SignsLaws::opens_at))]
 pub fn begins_class(text: &[u8], at: usize) -> bool
     ensures { result ≡ opens (drop at text.now) }
 {
-    if peek(text, at) != b'[' {
-        return false;
-    }
-    peek(text, at + 1) == b':'
+    peek(text, at) == b'[' && peek(text, at + 1) == b':'
 }
 
 // Does a class end here, with `:]`?
@@ -33,27 +28,24 @@ fn ends_class(text: &[u8], at: usize) -> bool
     requires { at < length text.now }
     ensures { result ≡ class_ends (get_or text.now at 0) (get_or text.now (at + 1) 0) }
 {
-    if text[at] != b':' {
-        return false;
-    }
-    peek(text, at + 1) == b']'
+    text[at] == b':' && peek(text, at + 1) == b']'
 }
 
 // Where the name that begins here ends: at the nearest `:]`, or past the end if there is none.
+#[tactic(auto, using(crate::specs::SignsLaws::name_here, crate::specs::SignsLaws::name_past, crate::specs::SignsLaws::name_end))]
 fn name_end(text: &[u8], from: usize) -> usize
     ensures { result ≡ from + length (name (drop from text.now)) }
 {
-    let mut i = from;
-    while i < text.len() {
+    for i in from..text.len() {
         if ends_class(text, i) {
             return i;
         }
-        i += 1;
     }
-    i
+    from.max(text.len())
 }
 
 // The name of the class that begins here: the bytes up to the nearest `:]`, or up to the text's end if there is none.
+#[tactic(auto, using(crate::specs::SignsLaws::opens_within, crate::specs::SignsLaws::name_within, crate::specs::SignsLaws::name_part))]
 pub fn class_name(text: &[u8], at: usize) -> &[u8]
     requires { opens (drop at text.now) ≡ true }
     ensures { result.now ≡ name (drop (at + 2) text.now) }
@@ -64,6 +56,7 @@ pub fn class_name(text: &[u8], at: usize) -> &[u8]
 }
 
 // Where the sign that begins here ends; past the end if it is a class without a `:]`.
+#[tactic(auto, using(crate::specs::SignsLaws::opens_within, crate::specs::SignsLaws::name_within, crate::specs::SignsLaws::sign_width_class, crate::specs::SignsLaws::sign_width_byte))]
 pub fn sign_end(text: &[u8], at: usize) -> usize
     requires { at < length text.now }
     ensures { result ≡ at + sign_width (drop at text.now) }
