@@ -11,7 +11,7 @@ ghost use Rattle.confidence_rule.specs.Cost.{cost_of};
 ghost use Rattle.confidence.specs.Cost.{costs_call};
 ghost use Rattle.confidence.specs.Table.{all_costs};
 
-use refusal::{Counted, Refusal};
+use refusal::Refusal;
 use table::COSTS;
 
 // The cost of one confidence: its entry in the table.
@@ -22,25 +22,23 @@ fn cost(table: &[u32; 256], c: u8) -> u32
     table[c as usize]
 }
 
-// Writes the cost of each confidence and returns their number. The table is lent, since a constant array is built anew at each use.
+// Writes the cost of each confidence. The table is lent, since a constant array is built anew at each use.
 fn write_costs(table: &[u32; 256], confidences: &[u8], costs: &mut [u32]) -> usize
     requires { (table.now ≡ all_costs) × (length confidences.now ≤ length costs.old) }
     ensures { Wrote (map cost_of confidences.now) costs.old costs.new result }
 {
-    let mut i: usize = 0;
-    while i < confidences.len() {
-        costs[i] = cost(table, confidences[i]);
-        i += 1;
+    for (i, &c) in confidences.iter().enumerate() {
+        costs[i] = cost(table, c);
     }
-    i
+    confidences.len()
 }
 
 // The call: one cost for each confidence.
-pub fn costs(confidences: &[u8], costs: &mut [u32]) -> Counted
+pub fn costs(confidences: &[u8], costs: &mut [u32]) -> Result<usize, Refusal>
     ensures { Fills (costs_call confidences.now (length costs.old)) (reported result) costs.old costs.new }
 {
     if costs.len() < confidences.len() {
-        return Counted::Refused(Refusal::OutputMemory);
+        return Err(Refusal::OutputMemory);
     }
-    Counted::Filled(write_costs(&COSTS, confidences, costs))
+    Ok(write_costs(&COSTS, confidences, costs))
 }
