@@ -1,11 +1,11 @@
 // The check of a form (document 01, "Opening and the compiled form"): one pass over the list.
 #![tactic(auto)]
 
-ghost use Rattle.std.specs.Prelude.{◌≡◌, ◌&&◌};
+ghost use Rattle.std.specs.Prelude.{◌≡◌, ◌&&◌, true, false, MatchOption};
 ghost use Rattle.lists.specs.Each.{all};
 ghost use Rattle.automaton.specs.Form.{is_head, is_letter, is_arc, ordered, valid_form};
 
-use form_words::letters;
+use form_words::{letters, Form};
 use numbers::in_range;
 
 fn is_head(w: u32) -> bool
@@ -92,4 +92,11 @@ pub fn valid(form: &[u32]) -> bool
         return false;
     }
     are_arcs(head % 0x100, &form[past..])
+}
+
+// The list as a form, if it is a valid one.
+pub fn checked(words: &[u32]) -> Option<Form>
+    ensures { MatchOption result (valid_form words.now ≡ false) (λ form. (valid_form words.now ≡ true) × (form.words ≡ words.entry)) }
+{
+    if valid(words) { Some(Form::new(words)) } else { None }
 }
