@@ -7,7 +7,6 @@ ghost use Rattle.automaton.specs.Valid.{Valid};
 ghost use Rattle.trellis.specs.Cells.{ending};
 
 use form_words::may_end;
-use numbers::wide_word;
 
 // The value that means 'impossible': no path of usable costs reaches this price.
 pub const TOP: u32 = 1000000000;
@@ -16,7 +15,7 @@ pub const TOP: u32 = 1000000000;
 pub fn sum(c: u32, v: u32) -> usize
     ensures { (result ≡ c + v) × (result < 8589934592) }
 {
-    wide_word(c) + wide_word(v)
+    c as usize + v as usize
 }
 
 // What there is to pay in state s where no column is left: 0 if a path may end there, else TOP.
@@ -24,8 +23,5 @@ pub fn last_cost(form: &[u32], s: usize) -> u32
     requires { Valid form.now × (s ≤ 2 * letters_of form.now) }
     ensures { result ≡ ending (ends_of form.now ((s + 1) / 2)) }
 {
-    if may_end(form, (s + 1) / 2) {
-        return 0;
-    }
-    TOP
+    if may_end(form, (s + 1) / 2) { 0 } else { TOP }
 }

@@ -23,10 +23,7 @@ pub fn fill_keys(form: &[u32], column: &[u32], work: &[u32], next: usize, keys: 
     requires { Ahead form.now column.now work.now next × (length keys.old ≡ 128) }
     ensures { KeysFilled form.now column.now work.now next keys.old keys.new }
 {
-    let l = letters(form);
-    let mut j = 0;
-    while j < l {
-        keys[j + 1] = key(form, column, work, next, j + 1);
-        j += 1;
+    for j in 1..letters(form) + 1 {
+        keys[j] = key(form, column, work, next, j);
     }
 }

@@ -1,11 +1,6 @@
 -- `trellis_keys::fill_keys` meets its contract: the keys of the letters so far are written.
-use Prim.Native.Nat.{◌+◌, ◌-◌, ◌≤◌}
-use Rattle.automaton.specs.Form.{letters_of}
 use Rattle.trellis_keys.specs.Keys.{KeysBelow}
 use Rattle.trellis_keys.proofs.fill_keys.Given as goal
 
 abbrev pub invariant-loop-j : goal.invariant-loop-j
-invariant-loop-j l = (l.j ≤ letters_of l.form) × KeysBelow l.form l.column l.work l.next l.initial.keys l.keys (l.j + 1)
-
-abbrev pub decreases-loop-j : goal.decreases-loop-j
-decreases-loop-j l = l.l - l.j
+invariant-loop-j l = KeysBelow l.form l.column l.work l.next l.initial.keys l.keys l.j
