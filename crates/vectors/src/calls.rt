@@ -1,115 +1,107 @@
 // Compile, CompileList and Judge, Collapse and Spread, the costs of confidences.
-use super::{parts, show};
-use numbers::wide_word;
+use super::line::Line;
+use super::show;
 use std::io;
 
-// Compiles a text, or a list of words.
-fn compile_kind(
-    kind: u8,
-    alphabet: &[u8],
-    text: &[u8],
-    form: &mut [u32],
-    counts: &mut [u32; 1],
-) -> u32 {
-    if kind == b'L' {
-        return kavurehy::kavurehy_compile_list(alphabet, text, form, counts);
-    }
-    kavurehy::kavurehy_compile(alphabet, text, form, counts)
-}
-
-// The same with this memory; returns the form's length.
-fn compiled(
+// Makes a call that fills `form`, prints its answer and returns the form's length.
+fn compiled<F: Fn(&mut [u32], &mut [u32; 1]) -> u32>(
     rt: &impl Print,
-    kind: u8,
-    alphabet: &[u8],
-    text: &[u8],
     form: &mut [u32],
-) -> io::Result<usize> {
-    let mut counts = [0u32; 1];
-    let refused = compile_kind(kind, alphabet, text, form, &mut counts);
-    let words = wide_word(counts[0]);
-    show::filled(rt, refused, words)?;
-    Ok(words)
+    call: &F,
+) -> io::Result<usize>
+    requires { F.IsAlwaysCallable call.now }
+{
+    let mut counts = [0; 1];
+    let refused = call(form, &mut counts);
+    show::filled(rt, refused, counts[0])?;
+    Ok(counts[0] as usize)
 }
 
 // With memory for ten words, then with all; returns the form's length.
-fn compiled_twice(
+fn compiled_twice<F: Fn(&mut [u32], &mut [u32; 1]) -> u32>(
     rt: &impl Print,
-    kind: u8,
-    alphabet: &[u8],
-    text: &[u8],
-    form: &mut [u32; 16258],
-) -> io::Result<usize> {
-    let mut small = [9u32; 10];
-    compiled(rt, kind, alphabet, text, &mut small)?;
-    show::words(rt, &small, 0, 10)?;
-    show::say(rt, show::BAR)?;
-    let words = compiled(rt, kind, alphabet, text, form)?;
-    show::say(rt, show::END)?;
+    form: &mut [u32],
+    call: &F,
+) -> io::Result<usize>
+    requires { F.IsAlwaysCallable call.now }
+{
+    let mut small = [9; 10];
+    compiled(rt, &mut small, call)?;
+    show::memory(rt, &small)?;
+    print!(rt; " |")?;
+    let words = compiled(rt, form, call)?;
+    println!(rt)?;
     Ok(words)
 }
 
-pub fn compile(rt: &impl Print, line: &[u8], form: &mut [u32; 16258]) -> io::Result<usize> {
-    let text = vectors_fields::field(line, 2);
-    show::field(rt, line, 2)?;
-    compiled_twice(rt, b'E', vectors_fields::field(line, 1), text, form)
+pub fn compile(rt: &impl Print, line: Line, form: &mut [u32]) -> io::Result<usize> {
+    let alphabet = line.field(1);
+    let text = line.field(2);
+    show::field(rt, text)?;
+    compiled_twice(
+        rt,
+        form,
+        &|form: &mut [u32], counts: &mut [u32; 1]| {
+            kavurehy::kavurehy_compile(alphabet, text, form, counts)
+        },
+    )
 }
 
-pub fn compile_list(rt: &impl Print, line: &[u8], form: &mut [u32; 16258]) -> io::Result<usize> {
-    let mut list = [0u8; 256];
-    let n = vectors_fields::labels(vectors_fields::field(line, 3), &mut list);
-    show::field(rt, line, 1)?;
-    show::say(rt, show::COLON)?;
-    compiled_twice(rt, b'L', vectors_fields::field(line, 2), &list[..n], form)
+pub fn compile_list(rt: &impl Print, line: Line, form: &mut [u32]) -> io::Result<usize> {
+    let alphabet = line.field(2);
+    let mut bytes = [0; 256];
+    let list = line.labels(3, &mut bytes);
+    show::field(rt, line.field(1))?;
+    print!(rt; ":")?;
+    compiled_twice(
+        rt,
+        form,
+        &|form: &mut [u32], counts: &mut [u32; 1]| {
+            kavurehy::kavurehy_compile_list(alphabet, list, form, counts)
+        },
+    )
 }
 
-pub fn judge(rt: &impl Print, line: &[u8], word: &[u8], form: &[u32]) -> io::Result<()> {
-    let mut accepted = [0u32; 1];
-    let refused = kavurehy::kavurehy_judge(form, word, &mut accepted);
-    show::field(rt, line, 1)?;
-    show::say(rt, show::COLON)?;
+pub fn judge(rt: &impl Print, line: Line, form: &[u32]) -> io::Result<()> {
+    let mut word = [0; 256];
+    let mut accepted = [0; 1];
+    let refused = kavurehy::kavurehy_judge(form, line.labels(2, &mut word), &mut accepted);
+    show::field(rt, line.field(1))?;
+    print!(rt; ":")?;
     show::judged(rt, refused, accepted[0])
 }
 
-// Prints a call's name and the list given.
-fn head(rt: &impl Print, name: usize, given: &[u8]) -> io::Result<()> {
-    show::say(rt, name)?;
-    show::bytes(rt, given, given.len())?;
-    show::say(rt, show::COLON)
-}
-
-// An array that is passed as an array needs no proof of its length.
-fn filled_bytes(rt: &impl Print, list: &[u8; 512], n: usize) -> io::Result<()> {
-    show::memory(rt, list, n)
-}
-
-// Collapse, or Spread.
-pub fn labels(rt: &impl Print, name: usize, line: &[u8], given: &[u8]) -> io::Result<()> {
-    let mut memory = [9u8; 512];
-    let mut counts = [0u32; 1];
-    let k = parts::size(line, 1);
-    let room = parts::room(line, 3, 512);
-    let refused = if name == show::COLLAPSE {
-        kavurehy::kavurehy_collapse(k, given, &mut memory[..room], &mut counts)
-    } else {
-        kavurehy::kavurehy_spread(k, given, &mut memory[..room], &mut counts)
-    };
-    head(rt, name, given)?;
-    show::filled(rt, refused, wide_word(counts[0]))?;
-    filled_bytes(rt, &memory, room)
-}
-
-// As `filled_bytes`.
-fn filled_words(rt: &impl Print, list: &[u32; 256], n: usize) -> io::Result<()> {
-    show::words(rt, list, 0, n)
+// Collapse or Spread, by its name.
+pub fn labels<F: Fn(usize, &[u8], &mut [u8], &mut [u32; 1]) -> u32>(
+    rt: &impl Print,
+    name: &str,
+    line: Line,
+    call: F,
+) -> io::Result<()>
+    requires { F.IsAlwaysCallable call }
+{
+    let mut given = [0; 256];
+    let given = line.labels(2, &mut given);
+    let mut memory = [9; 512];
+    let memory = &mut memory[..line.room(3, 512)];
+    let mut counts = [0; 1];
+    let refused = call(line.size(1), given, memory, &mut counts);
+    print!(rt; "{name}")?;
+    show::numbers(rt, given)?;
+    print!(rt; ":")?;
+    show::filled(rt, refused, counts[0])?;
+    show::memory(rt, memory)
 }
 
 // The costs of confidences, one for each; the call returns 0 or a refusal's number.
-pub fn costs(rt: &impl Print, line: &[u8], given: &[u8]) -> io::Result<()> {
-    let mut memory = [9u32; 256];
-    let room = parts::room(line, 2, 256);
-    let refused = kavurehy::kavurehy_costs(given, &mut memory[..room]);
-    head(rt, show::COSTS, given)?;
-    show::number(rt, wide_word(refused))?;
-    filled_words(rt, &memory, room)
+pub fn costs(rt: &impl Print, line: Line) -> io::Result<()> {
+    let mut given = [0; 256];
+    let given = line.labels(1, &mut given);
+    let mut memory = [9; 256];
+    let memory = &mut memory[..line.room(2, 256)];
+    let refused = kavurehy::kavurehy_costs(given, memory);
+    print!(rt; "costs")?;
+    show::numbers(rt, given)?;
+    print!(rt; ": {refused}")?;
+    show::memory(rt, memory)
 }

@@ -17,81 +17,62 @@
 ghost use Rattle.vectors_fields.specs.Fields.{Counts};
 
 mod calls;
+mod line;
 mod matrices;
-mod parts;
 mod show;
 
+use line::Line;
 use std::io;
 use std::io::Read;
 
-// Makes a call on the list given, as bytes or as words.
-fn call(
-    rt: &impl Print,
-    kind: u8,
-    line: &[u8],
-    given: &[u8],
-    costs: &[u32],
-    form: &[u32],
-) -> io::Result<()> {
-    match kind {
-        b'C' => calls::labels(rt, show::COLLAPSE, line, given)?,
-        b'S' => calls::labels(rt, show::SPREAD, line, given)?,
-        b'P' => calls::costs(rt, line, given)?,
-        b'J' => calls::judge(rt, line, given, form)?,
-        b'D' => matrices::decode(rt, line, costs, form)?,
-        b'R' => matrices::read(rt, line, costs)?,
-        b'X' => matrices::compare(rt, line, costs, form)?,
+// The form that the lines use: the first `length` words of the memory, or all.
+#[derive(Drop)]
+struct Form {
+    memory: [u32; 16258],
+    length: usize,
+}
+
+impl Form {
+    fn words(&self) -> &[u32] {
+        &self.memory[..self.length.min(16258)]
+    }
+}
+
+// Makes the call of a line with this form; a line of another kind calls nothing.
+fn call(rt: &impl Print, line: Line, form: &[u32]) -> io::Result<()> {
+    match line.kind() {
+        b'C' => calls::labels(rt, "collapse", line, kavurehy::kavurehy_collapse)?,
+        b'S' => calls::labels(rt, "spread", line, kavurehy::kavurehy_spread)?,
+        b'P' => calls::costs(rt, line)?,
+        b'J' => calls::judge(rt, line, form)?,
+        b'D' => matrices::decode(rt, line, form)?,
+        b'R' => matrices::read(rt, line)?,
+        b'X' => matrices::compare(rt, line, form)?,
         _ => {}
     }
-    show::say(rt, show::END)
+    println!(rt)
 }
 
-// The place of the field with the list given.
-fn place(kind: u8) -> usize {
-    match kind {
-        b'P' => 1,
-        _ => 2,
+// Does what the line says.
+fn run(rt: &impl Print, line: Line, form: &mut Form) -> io::Result<()> {
+    match line.kind() {
+        b'E' => form.length = calls::compile(rt, line, &mut form.memory)?,
+        b'L' => form.length = calls::compile_list(rt, line, &mut form.memory)?,
+        b'F' => form.length = line.words(1, &mut form.memory).len(),
+        b'N' => form.length = line.size(1),
+        _ => call(rt, line, form.words())?,
     }
+    Ok(())
 }
 
-// Makes the call of a line; the form has `words` words.
-fn run(rt: &impl Print, kind: u8, line: &[u8], form: &[u32], words: usize) -> io::Result<()> {
-    let mut given = [0u8; 256];
-    let mut costs = [0u32; 768];
-    let list = vectors_fields::field(line, place(kind));
-    let n = vectors_fields::labels(list, &mut given);
-    let m = vectors_fields::numbers(list, false, &mut costs);
-    call(
-        rt,
-        kind,
-        line,
-        &given[..n],
-        &costs[..m],
-        parts::words(form, words),
-    )
-}
-
-// Does what the line says and returns how many words the form has for the lines after it.
-fn one(rt: &impl Print, line: &[u8], form: &mut [u32; 16258], words: usize) -> io::Result<usize> {
-    match text::peek(line, 0) {
-        b'E' => calls::compile(rt, line, form),
-        b'L' => calls::compile_list(rt, line, form),
-        b'F' => Ok(vectors_fields::numbers(vectors_fields::field(line, 1), true, form)),
-        b'N' => Ok(parts::size(line, 1)),
-        kind => {
-            run(rt, kind, line, form, words)?;
-            Ok(words)
-        }
-    }
-}
-
-fn all(rt: &impl Print, input: &[u8], form: &mut [u32; 16258]) -> io::Result<()> {
-    let mut at = 0;
-    let mut words = 0;
-    while at < input.len() {
-        let end = text::find(input, at, b'\n');
-        words = one(rt, &input[at..end], form, words)?;
-        at = end + 1;
+fn run_all(rt: &impl Print, input: &[u8]) -> io::Result<()> {
+    let mut form = Form {
+        memory: [9; 16258],
+        length: 0,
+    };
+    for piece in input.split_inclusive(|b| *b == b'\n') {
+        let bytes = piece.strip_suffix(b"\n").unwrap_or(piece);
+        run(rt, Line { bytes }, &mut form)?;
     }
     Ok(())
 }
@@ -101,12 +82,8 @@ fn read_full<R: Read>(stdin: &mut R, buffer: &mut [u8]) -> usize
     ensures { Counts result buffer.new }
 {
     let mut done = 0;
-    while done < buffer.len() {
-        match stdin.read(&mut buffer[done..]) {
-            Ok(0) => return done,
-            Ok(got) => done += got,
-            Err(_) => return done,
-        }
+    while let Ok(got @ 1..) = stdin.read(&mut buffer[done..]) {
+        done += got;
     }
     done
 }
@@ -114,6 +91,5 @@ fn read_full<R: Read>(stdin: &mut R, buffer: &mut [u8]) -> usize
 fn main(rt: HostRuntime) -> io::Result<()> {
     let mut input = [0u8; 65536];
     let n = read_full(&mut rt.stdin(), &mut input);
-    let mut form = [9u32; 16258];
-    all(&rt, &input[..n], &mut form)
+    run_all(&rt, &input[..n])
 }

@@ -1,106 +1,101 @@
-// Decode, Read and Compare.
-use super::{parts, show};
+// Decode, Read and Compare, with the costs in field 2 and the sizes in fields 3 and 4.
+ghost use Rattle.std.specs.Prelude.{◌≤◌, length};
+
+use super::line::Line;
+use super::show;
 use std::io;
 
-// Prints the last words of the lent work memory: field k has its length, and field n how many are printed.
-fn last(rt: &impl Print, line: &[u8], k: usize, n: usize, work: &[u32; 65281]) -> io::Result<()> {
-    let room = parts::room(line, k, 65281);
-    show::words(rt, work, room - parts::room(line, n, room), room)
+// The last n words of work memory.
+fn last(rt: &impl Print, work: &[u32], n: usize) -> io::Result<()>
+    requires { n ≤ length work.now }
+{
+    show::memory(rt, &work[work.len() - n..])
 }
 
-// Prints the lent path, word and work memory.
-fn memory(
-    rt: &impl Print,
-    line: &[u8],
-    path: &[u8; 256],
-    word: &[u8; 256],
-    work: &[u32; 65281],
-) -> io::Result<()> {
-    show::memory(rt, path, parts::size(line, 5))?;
-    show::memory(rt, word, parts::size(line, 6))?;
-    last(rt, line, 7, 8, work)
+// The path, word and work memory that was lent.
+fn lent(rt: &impl Print, line: Line, path: &[u8], word: &[u8], work: &[u32]) -> io::Result<()> {
+    show::memory(rt, path)?;
+    show::memory(rt, word)?;
+    last(rt, work, line.room(8, work.len()))
 }
 
-pub fn decode(rt: &impl Print, line: &[u8], costs: &[u32], form: &[u32]) -> io::Result<()> {
-    let mut path = [9u8; 256];
-    let mut word = [9u8; 256];
-    let mut work = [9u32; 65281];
-    let mut counts = [0u32; 2];
-    let p = parts::room(line, 5, 256);
-    let w = parts::room(line, 6, 256);
-    let k = parts::room(line, 7, 65281);
+pub fn decode(rt: &impl Print, line: Line, form: &[u32]) -> io::Result<()> {
+    let mut costs = [0; 768];
+    let mut path = [9; 256];
+    let mut word = [9; 256];
+    let mut work = [9; 65281];
+    let path = &mut path[..line.room(5, 256)];
+    let word = &mut word[..line.room(6, 256)];
+    let work = &mut work[..line.room(7, 65281)];
+    let mut counts = [0; 2];
     let refused = kavurehy::kavurehy_decode(
         form,
-        costs,
-        parts::size(line, 3),
-        parts::size(line, 4),
-        &mut path[..p],
-        &mut word[..w],
-        &mut work[..k],
+        line.costs(2, &mut costs),
+        line.size(3),
+        line.size(4),
+        path,
+        word,
+        work,
         &mut counts,
     );
-    show::field(rt, line, 1)?;
+    show::field(rt, line.field(1))?;
     show::path(rt, refused, counts[0], counts[1])?;
-    memory(rt, line, &path, &word, &work)
+    lent(rt, line, path, word, work)
 }
 
 // With memory for a form of 300 words.
-pub fn read(rt: &impl Print, line: &[u8], costs: &[u32]) -> io::Result<()> {
-    let mut form = [9u32; 300];
-    let mut path = [9u8; 256];
-    let mut word = [9u8; 256];
-    let mut work = [9u32; 65281];
-    let mut counts = [0u32; 3];
-    let p = parts::room(line, 5, 256);
-    let w = parts::room(line, 6, 256);
-    let k = parts::room(line, 7, 65281);
+pub fn read(rt: &impl Print, line: Line) -> io::Result<()> {
+    let mut costs = [0; 768];
+    let mut form = [9; 300];
+    let mut path = [9; 256];
+    let mut word = [9; 256];
+    let mut work = [9; 65281];
+    let path = &mut path[..line.room(5, 256)];
+    let word = &mut word[..line.room(6, 256)];
+    let work = &mut work[..line.room(7, 65281)];
+    let mut counts = [0; 3];
     let refused = kavurehy::kavurehy_read(
-        vectors_fields::field(line, 9),
-        vectors_fields::field(line, 1),
-        costs,
-        parts::size(line, 3),
-        parts::size(line, 4),
+        line.field(9),
+        line.field(1),
+        line.costs(2, &mut costs),
+        line.size(3),
+        line.size(4),
         &mut form,
-        &mut path[..p],
-        &mut word[..w],
-        &mut work[..k],
+        path,
+        word,
+        work,
         &mut counts,
     );
-    show::field(rt, line, 1)?;
+    show::field(rt, line.field(1))?;
     show::path(rt, refused, counts[0], counts[1])?;
     show::form(rt, refused, counts[2])?;
-    memory(rt, line, &path, &word, &work)
+    lent(rt, line, path, word, work)
 }
 
 // Compare: the answer and the last work words.
-fn compared(
-    rt: &impl Print,
-    line: &[u8],
-    costs: &[u32],
-    first: &[u32],
-    second: &[u32],
-) -> io::Result<()> {
-    let mut work = [9u32; 65281];
-    let mut difference = [9i32; 1];
-    let k = parts::room(line, 5, 65281);
+fn compared(rt: &impl Print, line: Line, first: &[u32], second: &[u32]) -> io::Result<()> {
+    let mut costs = [0; 768];
+    let mut work = [9; 65281];
+    let work = &mut work[..line.room(5, 65281)];
+    let mut difference = [9; 1];
     let refused = kavurehy::kavurehy_compare(
         first,
         second,
-        costs,
-        parts::size(line, 3),
-        parts::size(line, 4),
-        &mut work[..k],
+        line.costs(2, &mut costs),
+        line.size(3),
+        line.size(4),
+        work,
         &mut difference,
     );
     show::difference(rt, refused, difference[0])?;
-    last(rt, line, 5, 6, &work)
+    last(rt, work, line.room(6, work.len()))
 }
 
 // The form with another, and the other way round.
-pub fn compare(rt: &impl Print, line: &[u8], costs: &[u32], form: &[u32]) -> io::Result<()> {
-    let mut other = [0u32; 300];
-    let n = vectors_fields::numbers(vectors_fields::field(line, 7), true, &mut other);
-    show::field(rt, line, 1)?;
-    compared(rt, line, costs, form, &other[..n])?;
-    compared(rt, line, costs, &other[..n], form)
+pub fn compare(rt: &impl Print, line: Line, form: &[u32]) -> io::Result<()> {
+    let mut other = [0; 300];
+    let other = line.words(7, &mut other);
+    show::field(rt, line.field(1))?;
+    compared(rt, line, form, other)?;
+    compared(rt, line, other, form)
 }

@@ -1,143 +1,65 @@
 // Prints answers and lists. What is written is compared with the stored output; no contract can speak of it.
-use numbers::{magnitude, wide_word};
+use std::fmt::Display;
 use std::io;
 use std::io::Write;
 
-// The words that are printed, by their places in `say`.
-const SPACE: usize = 0;
-
-pub const BAR: usize = 1;
-
-pub const COLON: usize = 2;
-
-pub const END: usize = 3;
-
-const REFUSED: usize = 4;
-
-const FILLED: usize = 5;
-
-const ACCEPTED: usize = 6;
-
-const REJECTED: usize = 7;
-
-const PRICE: usize = 8;
-
-const LENGTH: usize = 9;
-
-const FORM: usize = 10;
-
-pub const COLLAPSE: usize = 11;
-
-pub const SPREAD: usize = 12;
-
-pub const COSTS: usize = 13;
-
-const DIFFERENCE: usize = 14;
-
-const MINUS: usize = 15;
-
-pub fn say(rt: &impl Print, k: usize) -> io::Result<()> {
-    field(
-        rt,
-        b" \t |\t:\t\n\t refused\t filled\t accepted\t rejected\t price\t length\t form\tcollapse\tspread\tcosts\t difference\t minus",
-        k,
-    )
+// A field as it stands in the line.
+pub fn field(rt: &impl Print, field: &[u8]) -> io::Result<()> {
+    io::writer(rt).write_all(field)
 }
 
-// Field k of a line.
-pub fn field(rt: &impl Print, line: &[u8], k: usize) -> io::Result<()> {
-    io::writer(rt).write_all(vectors_fields::field(line, k))
-}
-
-// A space and a number.
-pub fn number(rt: &impl Print, n: usize) -> io::Result<()> {
-    say(rt, SPACE)?;
-    rt.print(n)
-}
-
-fn byte(rt: &impl Print, x: u8) -> io::Result<()> {
-    number(rt, x as usize)
-}
-
-// The first n bytes of a list, or all.
-pub fn bytes(rt: &impl Print, list: &[u8], n: usize) -> io::Result<()> {
-    let mut i = 0;
-    while i < n && i < list.len() {
-        byte(rt, list[i])?;
-        i += 1;
+// Numbers, each after a space.
+pub fn numbers<T: Display>(rt: &impl Print, list: &[T]) -> io::Result<()> {
+    for x in list {
+        print!(rt; " {x}")?;
     }
     Ok(())
 }
 
-// A bar and memory of n bytes.
-pub fn memory(rt: &impl Print, list: &[u8], n: usize) -> io::Result<()> {
-    say(rt, BAR)?;
-    bytes(rt, list, n)
-}
-
-// A bar and the words from one place to another, or to the end.
-pub fn words(rt: &impl Print, list: &[u32], from: usize, to: usize) -> io::Result<()> {
-    say(rt, BAR)?;
-    let mut i = from;
-    while i < to && i < list.len() {
-        number(rt, wide_word(list[i]))?;
-        i += 1;
-    }
-    Ok(())
-}
-
-fn named(rt: &impl Print, k: usize, n: u32) -> io::Result<()> {
-    say(rt, k)?;
-    number(rt, wide_word(n))
+// A bar and a part of memory.
+pub fn memory<T: Display>(rt: &impl Print, list: &[T]) -> io::Result<()> {
+    print!(rt; " |")?;
+    numbers(rt, list)
 }
 
 // The answer of a call that fills one list.
-pub fn filled(rt: &impl Print, refused: u32, n: usize) -> io::Result<()> {
-    if refused == 0 {
-        say(rt, FILLED)?;
-        number(rt, n)
-    } else {
-        named(rt, REFUSED, refused)
+pub fn filled(rt: &impl Print, refused: u32, length: u32) -> io::Result<()> {
+    match refused {
+        0 => print!(rt; " filled {length}"),
+        r => print!(rt; " refused {r}"),
     }
 }
 
 // The answer of Judge.
 pub fn judged(rt: &impl Print, refused: u32, accepted: u32) -> io::Result<()> {
-    if refused != 0 {
-        named(rt, REFUSED, refused)
-    } else if accepted == 1 {
-        say(rt, ACCEPTED)
-    } else {
-        say(rt, REJECTED)
+    match (refused, accepted) {
+        (0, 1) => print!(rt; " accepted"),
+        (0, _) => print!(rt; " rejected"),
+        (r, _) => print!(rt; " refused {r}"),
     }
 }
 
 // The answer of Decode and Read.
 pub fn path(rt: &impl Print, refused: u32, price: u32, length: u32) -> io::Result<()> {
-    if refused == 0 {
-        named(rt, PRICE, price)?;
-        named(rt, LENGTH, length)
-    } else {
-        named(rt, REFUSED, refused)
+    match refused {
+        0 => print!(rt; " price {price} length {length}"),
+        r => print!(rt; " refused {r}"),
     }
 }
 
 // What Read answers besides: the form's length.
 pub fn form(rt: &impl Print, refused: u32, length: u32) -> io::Result<()> {
-    if refused == 0 {
-        named(rt, FORM, length)?;
+    match refused {
+        0 => print!(rt; " form {length}"),
+        _ => Ok(()),
     }
-    Ok(())
 }
 
 // The answer of Compare: the difference also at a refusal.
 pub fn difference(rt: &impl Print, refused: u32, d: i32) -> io::Result<()> {
     if refused != 0 {
-        named(rt, REFUSED, refused)?;
+        print!(rt; " refused {refused}")?;
     }
-    say(rt, DIFFERENCE)?;
-    if d < 0 {
-        say(rt, MINUS)?;
-    }
-    number(rt, magnitude(d))
+    let sign = if d < 0 { " minus" } else { "" };
+    print!(rt; " difference{sign} {}", d.unsigned_abs())
 }

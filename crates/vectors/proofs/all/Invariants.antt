@@ -1,6 +1,0 @@
--- `vectors::all` stays within its list and ends.
-use Rattle.std.proofs.Common.{length, ◌-◌}
-use Rattle.vectors.proofs.all.Given as goal
-
-abbrev pub decreases-loop-at : goal.decreases-loop-at
-decreases-loop-at g l = length l.input - l.at
