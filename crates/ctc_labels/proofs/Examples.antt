@@ -1,6 +1,5 @@
 -- Refusal 17 at its limits, computed.
 use Rattle.std.specs.Prelude.{◌≡◌, refl, true, false, [], ◌∷◌, map, replicate}
-use Rattle.lists.specs.Each.{all}
 use Rattle.ctc_labels.specs.Calls.{label_fault}
 
 record Examples : Type 0 where

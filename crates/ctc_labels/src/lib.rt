@@ -6,24 +6,16 @@ ghost use Rattle.lists.specs.Lists.{in_range};
 ghost use Rattle.lists.specs.Each.{all};
 ghost use Rattle.ctc_labels.specs.Calls.{label_fault};
 
-use numbers::in_range;
-
 // Is each number of a list from `low` to `high`?
 pub fn all_in_range(low: usize, high: usize, list: &[u8]) -> bool
     ensures { result ≡ all (in_range low high) list.now }
 {
-    list.iter().all(|&x| in_range(low, high, x as usize))
+    list.iter().all(|&x| (low..=high).contains(&usize::from(x)))
 }
 
 // Is the list turned away as no list of labels of an alphabet of k characters? (Refusal 17.)
 pub fn has_fault(k: usize, low: usize, list: &[u8]) -> bool
     ensures { result ≡ label_fault k low list.now }
 {
-    if !in_range(1, 95, k) {
-        return true;
-    }
-    if 255 < list.len() {
-        return true;
-    }
-    !all_in_range(low, k, list)
+    !(1..=95).contains(&k) || list.len() > 255 || !all_in_range(low, k, list)
 }
