@@ -10,7 +10,7 @@ use Rattle.lists.specs.Each.{all, Each}
 use Rattle.lists.proofs.EachLaws.{all_each, each_all}
 use Rattle.lists.proofs.OrderLaws.{and_left, and_right, and_both, never_true, same_truth}
 use Rattle.refusal.specs.declared.Refusal.TheVariants.{Alphabet, TextLength, TextByte}
-use Rattle.refusal.specs.declared.Checked.TheVariants.{Passed, Refused}
+use Rattle.std.specs.Prelude.{Ok, Err}
 use Rattle.refusal.specs.Verdict.{Check, check, first_refusal}
 use Rattle.refusal.proofs.VerdictLaws.{first_holds, first_fails, first_passed}
 use Rattle.alphabet.specs.Alphabet.{is_alphabet, text_checks}
@@ -45,32 +45,32 @@ module _ (A s : List ℕ) where
   abbrev bytes : List Check
   bytes = check (not (all (in_range 32 126) s)) TextByte ∷ []
 
-  pub refused_alphabet : is_alphabet A ≡ false → first_refusal (text_checks A s) ≡ Refused Alphabet
+  pub refused_alphabet : is_alphabet A ≡ false → first_refusal (text_checks A s) ≡ Err Alphabet
   refused_alphabet e = first_holds (not (is_alphabet A)) Alphabet (check (not (in_range 1 255 (length s))) TextLength ∷ bytes) (ap not e)
 
   module _ (alphabet : is_alphabet A ≡ true) where
     past : first_refusal (text_checks A s) ≡ first_refusal (check (not (in_range 1 255 (length s))) TextLength ∷ bytes)
     past = first_fails (not (is_alphabet A)) Alphabet (check (not (in_range 1 255 (length s))) TextLength ∷ bytes) (ap not alphabet)
 
-    pub refused_short : length s < 1 → first_refusal (text_checks A s) ≡ Refused TextLength
+    pub refused_short : length s < 1 → first_refusal (text_checks A s) ≡ Err TextLength
     refused_short h = past ∙ first_holds (not (in_range 1 255 (length s))) TextLength bytes (ap not (range_below 1 255 (length s) h))
 
-    pub refused_long : 255 < length s → first_refusal (text_checks A s) ≡ Refused TextLength
+    pub refused_long : 255 < length s → first_refusal (text_checks A s) ≡ Err TextLength
     refused_long h = past ∙ first_holds (not (in_range 1 255 (length s))) TextLength bytes (ap not (range_above 1 255 (length s) h))
 
     module _ (low : 1 ≤ length s) (high : length s ≤ 255) where
       past_length : first_refusal (text_checks A s) ≡ first_refusal bytes
       past_length = past ∙ first_fails (not (in_range 1 255 (length s))) TextLength bytes (ap not (range_inside 1 255 (length s) low high))
 
-      pub refused_byte : all (in_range 32 126) s ≡ false → first_refusal (text_checks A s) ≡ Refused TextByte
+      pub refused_byte : all (in_range 32 126) s ≡ false → first_refusal (text_checks A s) ≡ Err TextByte
       refused_byte e = past_length ∙ first_holds (not (all (in_range 32 126) s)) TextByte [] (ap not e)
 
-      pub text_passed : all (in_range 32 126) s ≡ true → first_refusal (text_checks A s) ≡ Passed
+      pub text_passed : all (in_range 32 126) s ≡ true → first_refusal (text_checks A s) ≡ Ok tt
       unfolding first_refusal
       text_passed e = past_length ∙ first_fails (not (all (in_range 32 126) s)) TextByte [] (ap not e)
 
   -- past the checks the alphabet has at most 95 bytes
-  pub text_alphabet : Passed ≡ first_refusal (text_checks A s) → length A ≤ 95
+  pub text_alphabet : Ok tt ≡ first_refusal (text_checks A s) → length A ≤ 95
   text_alphabet e =
       let a = first_passed (not (is_alphabet A)) Alphabet (check (not (in_range 1 255 (length s))) TextLength ∷ bytes) (sym e) in
       ((alphabet_exactly A).0 (not-false (is_alphabet A) a.0)).1

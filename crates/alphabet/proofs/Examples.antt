@@ -1,10 +1,9 @@
 -- Labels and their characters; refusals 1 to 3 at their limits, and their order, computed.
 use Rattle.std.specs.Prelude.{ℕ, ◌≡◌, refl, true, false, List, [], ◌∷◌, map, replicate}
 use Rattle.lists.specs.Lists.{keep, numbers}
-use Rattle.lists.specs.Each.{all}
 use Rattle.refusal.specs.declared.Refusal.TheVariants.{Alphabet, TextLength, TextByte}
-use Rattle.refusal.specs.declared.Checked.{Checked}
-use Rattle.refusal.specs.declared.Checked.TheVariants.{Passed, Refused}
+use Rattle.refusal.specs.declared.Refusal.{Refusal}
+use Rattle.std.specs.Prelude.{Result, Ok, Err}
 use Rattle.refusal.specs.Verdict.{first_refusal}
 use Rattle.alphabet.specs.Labels.{characters, labels_of_character}
 use Rattle.alphabet.specs.Alphabet.{is_alphabet, text_checks}
@@ -14,7 +13,7 @@ abbrev ab : List ℕ
 ab = 97 ∷ 98 ∷ []
 
 -- what the checks say of an alphabet and a text
-abbrev said : List ℕ → List ℕ → Checked
+abbrev said : List ℕ → List ℕ → Result (Unit {0}) Refusal
 said A s = first_refusal (text_checks A s)
 
 record Examples : Type 0 where
@@ -31,13 +30,13 @@ record Examples : Type 0 where
       ≡ true ∷ true ∷ true ∷ true ∷ false ∷ []
   alphabet_bytes : map (λ b. is_alphabet (97 ∷ b ∷ [])) (31 ∷ 32 ∷ 126 ∷ 127 ∷ []) ≡ false ∷ true ∷ true ∷ false ∷ []
   text_sizes :
-      map (λ n. said ab (replicate n 97)) (0 ∷ 1 ∷ 255 ∷ 256 ∷ []) ≡ Refused TextLength ∷ Passed ∷ Passed ∷ Refused TextLength ∷ []
+      map (λ n. said ab (replicate n 97)) (0 ∷ 1 ∷ 255 ∷ 256 ∷ []) ≡ Err TextLength ∷ Ok tt ∷ Ok tt ∷ Err TextLength ∷ []
   text_bytes :
-      map (λ b. said ab (97 ∷ b ∷ [])) (31 ∷ 32 ∷ 126 ∷ 127 ∷ []) ≡ Refused TextByte ∷ Passed ∷ Passed ∷ Refused TextByte ∷ []
+      map (λ b. said ab (97 ∷ b ∷ [])) (31 ∷ 32 ∷ 126 ∷ 127 ∷ []) ≡ Err TextByte ∷ Ok tt ∷ Ok tt ∷ Err TextByte ∷ []
   -- two faults: refusal 1 before 2, 1 before 3, 2 before 3
-  alphabet_and_length : said [] [] ≡ Refused Alphabet
-  alphabet_and_byte : said [] (9 ∷ []) ≡ Refused Alphabet
-  length_and_byte : said ab (replicate 256 9) ≡ Refused TextLength
+  alphabet_and_length : said [] [] ≡ Err Alphabet
+  alphabet_and_byte : said [] (9 ∷ []) ≡ Err Alphabet
+  length_and_byte : said ab (replicate 256 9) ≡ Err TextLength
 
 examples : Examples
 unfolding first_refusal keep numbers

@@ -1,7 +1,9 @@
--- Laws of the labels whose characters pass a test, and of the loop that counts the labels of a character.
-use Rattle.std.specs.Prelude.{ℕ, suc, ◌+◌, ◌-◌, ◌<◌, ◌≤◌, ◌≡◌, refl, Bool, true, cond, ◌↔◌, List, [], ◌∷◌, length, get_or, eqb}
-use Rattle.std.proofs.Common.{ap, ap₂, ◌∙◌, arith, eq-eqb, eqb-true}
+-- Laws of the labels whose characters pass a test, and of how many labels a character has.
+use Rattle.std.specs.Prelude.{ℕ, zero, suc, ◌+◌, ◌-◌, ◌<◌, ◌≤◌, ◌≡◌, refl, Bool, true, cond, ◌↔◌, List, [], ◌∷◌, length, get_or, drop, count_by, eqb}
+use Rattle.std.proofs.Common.{sym, ap, ap₂, ◌∙◌, arith, eq-eqb, eqb-true}
+use Rattle.std.proofs.lemmas.List.Sums.{sum_by-cons}
 use Rattle.lists.specs.Each.{Each}
+use Rattle.lists.proofs.EachLaws.{drop_here, drop_all}
 use Rattle.lists.specs.Lists.{Among, keep, keeping, numbers, Ascending}
 use Rattle.lists.proofs.AmongLaws.{among_keep, keep_among, keep_shorter, keeping_length, among_at, among_index}
 use Rattle.lists.proofs.AscendingLaws.{among_numbers, numbers_among, length_numbers, ascending_keep, ascending_numbers}
@@ -85,12 +87,17 @@ module _ (A : List ℕ) where
     pub labels_past : (x : ℕ) → length A < x → labels_from x ≡ []
     labels_past x h = keep_past (length A) (λ y. eqb (character A y) c) x h
 
-    -- The loop of `count_labels` at x: n labels are counted, and those from x on are still to come.
-    pub counting_more :
-        (n m x r : ℕ) → x ≤ length A → n + length (labels_from x) ≡ m → r ≡ cond (eqb (character A x) c) 1 0 → n + r + length (labels_from (x + 1)) ≡ m
-    counting_more n m x r h e q =
-        let s = ap length (labels_here x h) ∙ keeping_length (eqb (character A x) c) x (labels_from (x + 1)) in
-        omega arith
+    -- the characters of the alphabet that are c, counted from index i on: each is that of the label i + 1
+    counted_from : (n i : ℕ) → i + n ≡ length A → length (labels_from (i + 1)) ≡ count_by (λ b. eqb b c) (drop i A)
+    counted_from zero i e = rw (labels_past (i + 1) (omega arith), drop_all A i (omega arith))
+    counted_from (suc n) i e =
+        let b = get_or A i 0 in
+        let k : character A (i + 1) ≡ b = ap (λ j. get_or A j 0) (omega arith) in
+        let here = ap length (labels_here (i + 1) (omega arith)) ∙ keeping_length (eqb (character A (i + 1)) c) (i + 1) (labels_from (i + 1 + 1)) in
+        let more = counted_from n (i + 1) (omega arith) in
+        let sum = ap (count_by (λ b. eqb b c)) (drop_here 0 A i (omega arith)) ∙ sum_by-cons (λ b. cond (eqb b c) 1 0) b (drop (i + 1) A) in
+        let t = ap {B = ℕ} (λ x. cond (eqb x c) 1 0) k in
+        omega (arith, here, more, sum, t)
 
-    pub counting_end : (n m x : ℕ) → length A < x → n + length (labels_from x) ≡ m → n ≡ m
-    counting_end n m x h e = let z = ap length (labels_past x h) in omega arith
+    pub labels_counted : length (labels_of_character A c) ≡ count_by (λ b. eqb b c) A
+    labels_counted = sym (ap length labels_first) ∙ counted_from (length A) 0 (omega arith)

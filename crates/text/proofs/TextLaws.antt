@@ -38,6 +38,32 @@ module _ (signs : List ℕ) (b i : ℕ) where
   pub one_end : length signs ≤ i → one_of (drop i signs) b ≡ false
   one_end l = rw (drop_all signs i l)
 
+pub until_past_end : (c : ℕ) (text : List ℕ) (i : ℕ) → length text ≤ i → until c (drop i text) ≡ 0
+unfolding until
+until_past_end c text i l = rw (drop_all text i l, until)
+
+pub until_within : (c : ℕ) (s : List ℕ) → until c s ≤ length s
+unfolding until
+until_within c [] = omega arith
+until_within c (b ∷ s) = by (eqb b c) (until_within c s)
+  where
+    by : (t : Bool) → until c s ≤ length s → cond t 0 (suc (until c s)) ≤ suc (length s)
+    by true e = omega arith
+    by false e = omega arith
+
+-- by the first byte
+pub until_nil : (c : ℕ) → until c [] ≡ 0
+unfolding until
+until_nil c = refl
+
+pub until_hit : (c b : ℕ) (s : List ℕ) → b ≡ c → until c (b ∷ s) ≡ 0
+unfolding until
+until_hit c b s e = rw (until, eq-eqb b c e)
+
+pub until_miss : (c b : ℕ) (s : List ℕ) → (b ≡ c → ⊥) → until c (b ∷ s) ≡ until c s + 1
+unfolding until
+until_miss c b s e = let h : until c (b ∷ s) ≡ suc (until c s) = rw (until, ne_eqb b c e) in omega arith
+
 -- the text before the first such sign, and after it
 split_some :
     (c : Char) (s : List ℕ) → until (code c) s < length s → split c s ≡ some (take (until (code c) s) s, drop (suc (until (code c) s)) s)

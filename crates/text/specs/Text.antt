@@ -1,12 +1,12 @@
 -- What a text, a list of bytes, begins with, and the first such sign in it.
 use Rattle.std.proofs.Math.Option.{Option, some, none}
-use Rattle.std.specs.Prelude.{List, [], ◌∷◌, Bool, true, false, ◌||◌, ℕ, eqb}
+use Rattle.std.specs.Prelude.{List, [], ◌∷◌, Bool, true, false, ℕ, eqb}
 use Prim.Native.Char.{Char, code}
+use Rattle.lists.specs.Lists.{any}
 
 -- the byte is one of these
 abbrev pub one_of : List ℕ → ℕ → Bool
-one_of [] b = false
-one_of (c ∷ cs) b = eqb b c || one_of cs b
+one_of cs b = any (eqb b) cs
 
 -- the text begins with this sign; with one of these
 abbrev pub next : Char → List ℕ → Bool

@@ -1,9 +1,7 @@
-// The bytes of a text: the byte at a place, whether a byte is one of some signs, where a sign occurs next, whether two texts are the same. A
-// text may have any bytes.
+// The bytes of a text: the byte at a place, whether a byte is one of some signs, where a sign occurs next. A text may have any bytes.
 #![tactic(auto)]
 
 ghost use Rattle.std.specs.Prelude.{◌≡◌, ◌+◌, get_or, drop};
-ghost use Rattle.lists.specs.Lists.{same_list};
 ghost use Rattle.text.specs.Text.{one_of};
 ghost use Rattle.text.specs.Places.{until};
 
@@ -11,50 +9,29 @@ ghost use Rattle.text.specs.Places.{until};
 pub fn peek(text: &[u8], at: usize) -> u8
     ensures { result ≡ get_or text.now at 0 }
 {
-    if at < text.len() { text[at] } else { 0 }
+    text.get(at).copied().unwrap_or(0)
 }
 
 // Is the byte one of these signs?
 pub fn one_of(signs: &[u8], b: u8) -> bool
     ensures { result ≡ one_of signs.now b }
 {
-    let mut i = 0;
-    while i < signs.len() {
-        if b == signs[i] {
-            return true;
-        }
-        i += 1;
-    }
-    false
+    signs.contains(&b)
+}
+
+// How many bytes are before the first such sign.
+fn before(text: &[u8], sign: u8) -> usize
+    ensures { result ≡ until sign text.now }
+{
+    text.iter().position(|&b| b == sign).unwrap_or(text.len())
 }
 
 // Where the first such sign is, from a place on; past the end if there is none.
 pub fn find(text: &[u8], from: usize, sign: u8) -> usize
     ensures { result ≡ from + until sign (drop from text.now) }
 {
-    let mut i = from;
-    while i < text.len() {
-        if text[i] == sign {
-            return i;
-        }
-        i += 1;
+    match text.get(from..) {
+        Some(rest) => from + before(rest, sign),
+        None => from,
     }
-    i
-}
-
-// Are the two texts the same?
-pub fn same(a: &[u8], b: &[u8]) -> bool
-    ensures { result ≡ same_list a.now b.now }
-{
-    if a.len() != b.len() {
-        return false;
-    }
-    let mut i = 0;
-    while i < a.len() {
-        if a[i] != b[i] {
-            return false;
-        }
-        i += 1;
-    }
-    true
 }

@@ -1,25 +1,17 @@
--- `text::find` meets its contract: the first such sign from i on is the first one from the start on.
-use mathlib.Core.Path.{refl, sym, ◌∙◌}
-use Rattle.text.proofs.TextLaws.{until_here, until_past, until_end}
+-- `text::find` meets its contract: no more bytes are before the sign than the text has from there on.
+use Rattle.std.proofs.Common.{arith, length-drop}
+use Rattle.text.proofs.TextLaws.{until_within, until_past_end}
 use Rattle.text.proofs.find.Goals as goal
 
-pub loop-i-init : goal.loop-i-init
-loop-i-init c = refl
+pub overflow_add-result : goal.overflow_add-result
+overflow_add-result c =
+    let w = until_within c.args.sign c.in-Some.rest.now in
+    let e = c.before-in-Some.ensures in
+    let n = length-drop c.args.from c.args.text.now in
+    let l = c.in-Some.ensures.lookup in
+    omega (arith, w, e, n, l)
 
-pub returns-then-text-i : goal.returns-then-text-i
-returns-then-text-i c =
-    let a = c.args in
-    let l = c.loop-i in
-    sym (until_here a.sign a.text.now l.i c.loop-i-test.true c.if-text-i.true) ∙ l.invariant
-
-pub loop-i-preserved : goal.loop-i-preserved
-loop-i-preserved c =
-    let a = c.args in
-    let l = c.loop-i in
-    sym (until_past a.sign a.text.now l.i c.loop-i-test.true c.if-text-i.false) ∙ l.invariant
-
-pub returns : goal.returns
-returns c =
-    let a = c.args in
-    let l = c.loop-i in
-    sym (until_end a.sign a.text.now l.i c.loop-i-test.false) ∙ l.invariant
+pub returns-in-None : goal.returns-in-None
+returns-in-None c =
+    let p = until_past_end c.args.sign c.args.text.now c.args.from in
+    grind (arith, c.in-None.ensures.lookup, p)
