@@ -1,5 +1,5 @@
 -- Laws of the checks: which refusal each of them gives, and that an input passes them all exactly if it fits.
-use Rattle.std.specs.Prelude.{ℕ, ◌+◌, ◌*◌, ◌<◌, ◌≤◌, ◌≡◌, true, false, not, ◌||◌, ◌↔◌, length, eqb}
+use Rattle.std.specs.Prelude.{ℕ, ◌+◌, ◌*◌, ◌<◌, ◌≤◌, ◌≡◌, true, false, not, ◌||◌, ◌↔◌, length, eqb, Ok, Err}
 use Rattle.std.proofs.Common.{ap, ◌∙◌, mul-le-mul, arith}
 use mathlib.Core.List.{List, [], ◌∷◌}
 use Rattle.std.proofs.Math.Dec.{ltb}
@@ -8,7 +8,6 @@ use Rattle.lists.proofs.OrderLaws.{or_neither}
 use Rattle.lists.proofs.EachLaws.{all_each, each_all}
 use Rattle.lists.specs.Each.{all}
 use Rattle.refusal.specs.declared.Refusal.TheVariants.{Matrix as MatrixRefusal, Cost, OutputMemory, Work}
-use Rattle.refusal.specs.declared.Checked.TheVariants.{Passed, Refused}
 use Rattle.refusal.specs.Verdict.{Check, check, first_refusal}
 use Rattle.refusal.proofs.VerdictLaws.{first_holds, first_fails, first_passed}
 use Rattle.matrix.specs.Matrix.{Matrix}
@@ -49,7 +48,7 @@ module _ (k l : ℕ) (M : Matrix) (rooms : Rooms) where
   memory : List Check
   memory = check (ltb rooms.path M.count || ltb rooms.word M.count) OutputMemory ∷ (check (ltb rooms.work (needed M.count l)) Work ∷ [])
 
-  pub refused_matrix : matrix_fault k M ≡ true → first_refusal (matrix_checks k l M rooms) ≡ Refused MatrixRefusal
+  pub refused_matrix : matrix_fault k M ≡ true → first_refusal (matrix_checks k l M rooms) ≡ Err MatrixRefusal
   unfolding memory
   refused_matrix e = first_holds (matrix_fault k M) MatrixRefusal (check (not (all passes M.costs)) Cost ∷ memory) e
 
@@ -58,18 +57,18 @@ module _ (k l : ℕ) (M : Matrix) (rooms : Rooms) where
     unfolding memory
     past_matrix = first_fails (matrix_fault k M) MatrixRefusal (check (not (all passes M.costs)) Cost ∷ memory) sized
 
-    pub refused_cost : all passes M.costs ≡ false → first_refusal (matrix_checks k l M rooms) ≡ Refused Cost
+    pub refused_cost : all passes M.costs ≡ false → first_refusal (matrix_checks k l M rooms) ≡ Err Cost
     refused_cost e = past_matrix ∙ first_holds (not (all passes M.costs)) Cost memory (ap not e)
 
     module _ (pass : all passes M.costs ≡ true) where
       past_costs : first_refusal (matrix_checks k l M rooms) ≡ first_refusal memory
       past_costs = past_matrix ∙ first_fails (not (all passes M.costs)) Cost memory (ap not pass)
 
-      pub refused_path : rooms.path < M.count → first_refusal (matrix_checks k l M rooms) ≡ Refused OutputMemory
+      pub refused_path : rooms.path < M.count → first_refusal (matrix_checks k l M rooms) ≡ Err OutputMemory
       unfolding memory
       refused_path h = past_costs ∙ first_holds (ltb rooms.path M.count || ltb rooms.word M.count) OutputMemory (check (ltb rooms.work (needed M.count l)) Work ∷ []) (rw (lt-ltb rooms.path M.count h))
 
-      pub refused_word : M.count ≤ rooms.path → rooms.word < M.count → first_refusal (matrix_checks k l M rooms) ≡ Refused OutputMemory
+      pub refused_word : M.count ≤ rooms.path → rooms.word < M.count → first_refusal (matrix_checks k l M rooms) ≡ Err OutputMemory
       unfolding memory
       refused_word g h =
           past_costs
@@ -84,15 +83,15 @@ module _ (k l : ℕ) (M : Matrix) (rooms : Rooms) where
             ∙ first_fails (ltb rooms.path M.count || ltb rooms.word M.count) OutputMemory (check (ltb rooms.work (needed M.count l)) Work ∷ [])
             (rw (le-ltb rooms.path M.count path, le-ltb rooms.word M.count word))
 
-        pub refused_work : rooms.work < needed M.count l → first_refusal (matrix_checks k l M rooms) ≡ Refused Work
+        pub refused_work : rooms.work < needed M.count l → first_refusal (matrix_checks k l M rooms) ≡ Err Work
         refused_work h = past_memory ∙ first_holds (ltb rooms.work (needed M.count l)) Work [] (lt-ltb rooms.work (needed M.count l) h)
 
-        pub all_passed : needed M.count l ≤ rooms.work → first_refusal (matrix_checks k l M rooms) ≡ Passed
+        pub all_passed : needed M.count l ≤ rooms.work → first_refusal (matrix_checks k l M rooms) ≡ Ok tt
         unfolding first_refusal
         all_passed h = past_memory ∙ first_fails (ltb rooms.work (needed M.count l)) Work [] (le-ltb rooms.work (needed M.count l) h)
 
   -- what passes the checks fits
-  pub fits : first_refusal (matrix_checks k l M rooms) ≡ Passed → Fits k l M rooms
+  pub fits : first_refusal (matrix_checks k l M rooms) ≡ Ok tt → Fits k l M rooms
   unfolding memory
   fits e =
       let a = first_passed (matrix_fault k M) MatrixRefusal (check (not (all passes M.costs)) Cost ∷ memory) e in
@@ -112,7 +111,7 @@ module _ (k l : ℕ) (M : Matrix) (rooms : Rooms) where
       }
 
   -- what fits passes them: refusals 12 to 15 turn nothing else away
-  pub fits_exactly : (first_refusal (matrix_checks k l M rooms) ≡ Passed) ↔ Fits k l M rooms
+  pub fits_exactly : (first_refusal (matrix_checks k l M rooms) ≡ Ok tt) ↔ Fits k l M rooms
   fits_exactly = (
     fits,
     λ f.
