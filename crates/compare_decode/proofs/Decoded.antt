@@ -1,14 +1,12 @@
 -- "Two forms over one matrix are decoded, and the answer is the first price less the second" (document 02, T-04): what Compare has to do
 -- with two calls of Decode, as a theorem on what they promise.
 -- For the reader: nothing uses it.
-use Rattle.std.specs.Prelude.{ℕ, ◌<◌, ◌≤◌, max, ◌≡◌, refl, false, not, ◌⊎◌, List, length}
+use Rattle.std.specs.Prelude.{ℕ, ◌<◌, ◌≤◌, max, ◌≡◌, refl, false, not, ◌⊎◌, List, length, Result, Ok, Err}
 use Rattle.std.proofs.Common.{sym, ap, ap₂, ◌∙◌, inl, inr, ⊎_elim, arith}
 use Rattle.std.proofs.lemmas.Bool.{not-false}
 use Rattle.lists.proofs.OrderLaws.{lt_or_le}
 use Rattle.refusal.specs.declared.Refusal.{Refusal}
 use Rattle.refusal.specs.declared.Refusal.TheVariants.{BadForm}
-use Rattle.refusal.specs.declared.Checked.{Checked}
-use Rattle.refusal.specs.declared.Checked.TheVariants.{Passed, Refused}
 use Rattle.refusal.specs.Number.{number_of}
 use Rattle.refusal.specs.Verdict.{first_refusal}
 use Rattle.refusal.proofs.VerdictLaws.{first_of, first_passed}
@@ -39,14 +37,14 @@ module _ (f : List ℕ) (M : Matrix) (before after : Lent) (answer : Report) (de
   abbrev Between : Refusal → Type 0
   Between n = (0 < number_of n) × (number_of n < 16)
 
-  passes : first_refusal (decode_checks f M (rooms before)) ≡ Passed
+  passes : first_refusal (decode_checks f M (rooms before)) ≡ Ok tt
   passes = by (first_refusal (decode_checks f M (rooms before))) refl decodes
     where
       by :
-          (c : Checked) → first_refusal (decode_checks f M (rooms before)) ≡ c → Checks away c (DecodeAnswers f M) before after answer
-          → first_refusal (decode_checks f M (rooms before)) ≡ Passed
-      by Passed e h = e
-      by (Refused n) e h =
+          (c : Result (Unit {0}) Refusal) → first_refusal (decode_checks f M (rooms before)) ≡ c → Checks away c (DecodeAnswers f M) before after answer
+          → first_refusal (decode_checks f M (rooms before)) ≡ Ok tt
+      by (Ok _) e h = e
+      by (Err n) e h =
           let between : Between n =
           first_of Between (decode_checks f M (rooms before))
           ((omega arith, omega arith), ((omega arith, omega arith), ((omega arith, omega arith), ((omega arith, omega arith), ((omega arith, omega arith), tt))))) n e in
@@ -58,7 +56,7 @@ module _ (f : List ℕ) (M : Matrix) (before after : Lent) (answer : Report) (de
   answers : DecodeAnswers f M before after answer
   answers = rw passes at decodes
 
-  checks : (not (valid_form f) ≡ false) × (first_refusal (matrix_checks (alphabet_of f) (letters_of f) M (rooms before)) ≡ Passed)
+  checks : (not (valid_form f) ≡ false) × (first_refusal (matrix_checks (alphabet_of f) (letters_of f) M (rooms before)) ≡ Ok tt)
   checks = first_passed (not (valid_form f)) BadForm (matrix_checks (alphabet_of f) (letters_of f) M (rooms before)) passes
 
   fit : Fits (alphabet_of f) (letters_of f) M (rooms before)
@@ -84,7 +82,7 @@ module _ (f g : List ℕ) (M : Matrix) (lent₁ lent₁' lent₂ lent₂' : Lent
       let fit₂ = fit g M lent₂ lent₂' two decodes₂ looked₂ in
       let need₁ = fit₁.work in
       let need₂ = fit₂.work in
-      let passes : first_refusal (compare_checks f g M (length before)) ≡ Passed =
+      let passes : first_refusal (compare_checks f g M (length before)) ≡ Ok tt =
       (fits_both_exactly f g M (length before)).1
       (record {
         first = not-false (valid_form f) (checks f M lent₁ lent₁' one decodes₁ looked₁).0;

@@ -1,10 +1,9 @@
 -- Law: the difference is from -255,000,000 to 255,000,000, since each price is that of at most 255 costs of at most 1,000,000.
-use Rattle.std.specs.Prelude.{ℕ, ◌≤◌, ◌≡◌, refl, List, length, nat_abs}
+use Rattle.std.specs.Prelude.{ℕ, ◌≤◌, ◌≡◌, refl, List, length, nat_abs, Result, Ok, Err}
 use Rattle.std.proofs.Math.Option.{Option, some, none}
 use Rattle.std.proofs.Common.{arith}
-use Rattle.numbers.specs.SignedLaws.{difference_bound}
-use Rattle.refusal.specs.declared.Checked.{Checked}
-use Rattle.refusal.specs.declared.Checked.TheVariants.{Passed, Refused}
+use Rattle.comparison.proofs.SignedLaws.{difference_bound}
+use Rattle.refusal.specs.declared.Refusal.{Refusal}
 use Rattle.refusal.specs.Verdict.{first_refusal}
 use Rattle.refusal.specs.Checks.{Checks}
 use Rattle.automaton.specs.Automaton.{Accepts}
@@ -33,9 +32,9 @@ module _ (f g : List ℕ) (M : Matrix) (before after : List ℕ) (answer : Compa
   comparison_bound h = by (first_refusal (compare_checks f g M (length before))) refl h
     where
       by :
-          (c : Checked) → first_refusal (compare_checks f g M (length before)) ≡ c → Checks turned_away c (CompareAnswers f g M) before after answer
+          (c : Result (Unit {0}) Refusal) → first_refusal (compare_checks f g M (length before)) ≡ c → Checks turned_away c (CompareAnswers f g M) before after answer
           → nat_abs answer.difference ≤ 255000000
-      by (Refused n) e k = rw k.0 (omega arith)
-      by Passed e k =
+      by (Err n) e k = rw k.0 (omega arith)
+      by (Ok _) e k =
           let few = ((fits_both_exactly f g M (length before)).0 e).few in
           rw k.answered (report_bound M few (Accepts (view f)) (Accepts (view g)) k.first k.second k.first_is k.second_is)

@@ -1,11 +1,10 @@
 -- Demands 1 and 3 for Compare, as theorems on what it promises; past the checks it promises what they ask and nothing else.
 -- For the reader: nothing uses it.
-use Rattle.std.specs.Prelude.{ℕ, ◌+◌, ◌≡◌, ◌↔◌, List, length, pos, ◌-ℤ◌}
+use Rattle.std.specs.Prelude.{ℕ, ◌+◌, ◌≡◌, ◌↔◌, List, length, pos, ◌-ℤ◌, Ok, Err}
 use Rattle.std.proofs.Common.{ap, ap₂, ◌∙◌, inl, inr, ⊎_elim, arith}
 use Rattle.std.proofs.Math.Option.{Option, some, none}
 use Rattle.lists.specs.Stored.{Outside}
 use Rattle.refusal.specs.declared.Refusal.{Refusal}
-use Rattle.refusal.specs.declared.Checked.TheVariants.{Passed, Refused}
 use Rattle.refusal.specs.Verdict.{first_refusal}
 use Rattle.automaton.specs.Automaton.{Accepts}
 use Rattle.automaton.specs.Form.{view, alphabet_of}
@@ -100,10 +99,10 @@ reads_both (inr n) h = absurd (h n.0)
 module _ (f g : List ℕ) (M : Matrix) (before after : List ℕ) (answer : Comparison) (compares : Compares f g M before after answer) where
   -- Demand 1: what is turned away gets its refusal's number and a difference of 0, and the work memory is as it was.
   pub demand_1_refusal :
-      (n : Refusal) → first_refusal (compare_checks f g M (length before)) ≡ Refused n → (answer ≡ turned_away n) × (after ≡ before)
+      (n : Refusal) → first_refusal (compare_checks f g M (length before)) ≡ Err n → (answer ≡ turned_away n) × (after ≡ before)
   demand_1_refusal n e = rw e at compares
 
-  module _ (passes : first_refusal (compare_checks f g M (length before)) ≡ Passed) where
+  module _ (passes : first_refusal (compare_checks f g M (length before)) ≡ Ok tt) where
     answers : CompareAnswers f g M before after answer
     answers = rw passes at compares
 

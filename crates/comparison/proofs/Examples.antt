@@ -1,12 +1,10 @@
 -- `FL` and `FR` over the alphabet `FLR` on a line of two columns, computed: the difference both ways; the checks and their order.
-use Rattle.std.specs.Prelude.{ℕ, ◌*◌, ◌≡◌, refl, List, [], ◌∷◌, map, length, drop, replicate, pos, negsuc}
+use Rattle.std.specs.Prelude.{ℕ, ◌*◌, ◌≡◌, refl, List, [], ◌∷◌, map, length, drop, replicate, pos, negsuc, Result, Ok, Err}
 use Rattle.std.proofs.Common.{ap, ap₂, ◌∙◌}
 use Rattle.std.proofs.Math.Option.{Option, some, none}
-use Rattle.lists.specs.Lists.{any, numbers}
-use Rattle.lists.specs.Each.{all}
+use Rattle.lists.specs.Lists.{numbers}
 use Rattle.refusal.specs.declared.Refusal.TheVariants.{BadForm, Matrix as MatrixRefusal, Cost, Work, NoReading}
-use Rattle.refusal.specs.declared.Checked.{Checked}
-use Rattle.refusal.specs.declared.Checked.TheVariants.{Passed, Refused}
+use Rattle.refusal.specs.declared.Refusal.{Refusal}
 use Rattle.refusal.specs.Verdict.{first_refusal}
 use Rattle.ctc.specs.Collapse.{merge, without_blanks, collapse}
 use Rattle.automaton.specs.Automaton.{Accepts}
@@ -20,7 +18,6 @@ use Rattle.outcome.proofs.OutcomeLaws.{outcome_unique}
 use Rattle.outcome.proofs.ChoiceLaws.{not_after, preferred, better}
 use Rattle.outcome.proofs.Exhaustive.{over, exhaustive, usable, decided, decided_outcome}
 use Rattle.comparison.specs.Comparison.{Comparison, compared, turned_away, reported}
-use Rattle.comparison.specs.declared.Compared.TheVariants as answer
 use Rattle.comparison.specs.Checks.{larger_need, compare_checks}
 use Rattle.comparison.specs.Promise.{difference_report, Compares}
 
@@ -45,7 +42,7 @@ abbrev line : Matrix
 line = matrix costs 4 2
 
 -- what the checks say of two forms and a matrix, with `room` work words
-abbrev said : (f g : List ℕ) (costs : List ℕ) (width count room : ℕ) → Checked
+abbrev said : (f g : List ℕ) (costs : List ℕ) (width count room : ℕ) → Result (Unit {0}) Refusal
 said f g costs width count room = first_refusal (compare_checks f g (matrix costs width count) room)
 
 record Examples : Type 0 where
@@ -53,24 +50,24 @@ record Examples : Type 0 where
   need : larger_need f₃ fl line ≡ 15
   need_exchanged : larger_need fl f₃ line ≡ 15
   -- work memory just long enough, one word less, and enough for the smaller form only
-  rooms : map (said f₃ fl costs 4 2) (15 ∷ 14 ∷ 9 ∷ []) ≡ Passed ∷ Refused Work ∷ Refused Work ∷ []
-  rooms_exchanged : map (said fl f₃ costs 4 2) (15 ∷ 14 ∷ 9 ∷ []) ≡ Passed ∷ Refused Work ∷ Refused Work ∷ []
+  rooms : map (said f₃ fl costs 4 2) (15 ∷ 14 ∷ 9 ∷ []) ≡ Ok tt ∷ Err Work ∷ Err Work ∷ []
+  rooms_exchanged : map (said fl f₃ costs 4 2) (15 ∷ 14 ∷ 9 ∷ []) ≡ Ok tt ∷ Err Work ∷ Err Work ∷ []
   -- a list that is no form, in either place
-  bad_first : said [] fl costs 4 2 15 ≡ Refused BadForm
-  bad_second : said fl [] costs 4 2 15 ≡ Refused BadForm
+  bad_first : said [] fl costs 4 2 15 ≡ Err BadForm
+  bad_second : said fl [] costs 4 2 15 ≡ Err BadForm
   -- alphabets of 3 and 2 characters, also without a column and at either width
-  unequal : map (λ w. said fl f₂ [] w 0 15) (3 ∷ 4 ∷ []) ≡ Refused MatrixRefusal ∷ Refused MatrixRefusal ∷ []
-  unequal_exchanged : map (λ w. said f₂ fl [] w 0 15) (3 ∷ 4 ∷ []) ≡ Refused MatrixRefusal ∷ Refused MatrixRefusal ∷ []
+  unequal : map (λ w. said fl f₂ [] w 0 15) (3 ∷ 4 ∷ []) ≡ Err MatrixRefusal ∷ Err MatrixRefusal ∷ []
+  unequal_exchanged : map (λ w. said f₂ fl [] w 0 15) (3 ∷ 4 ∷ []) ≡ Err MatrixRefusal ∷ Err MatrixRefusal ∷ []
   -- 255 columns, and one more; a cost of 1,000,001
-  columns : map (λ t. said f₂ f₂ (replicate (t * 3) 1) 3 t 2000) (255 ∷ 256 ∷ []) ≡ Passed ∷ Refused MatrixRefusal ∷ []
-  dear : said f₂ f₂ (1 ∷ 1000001 ∷ 1 ∷ []) 3 1 6 ≡ Refused Cost
+  columns : map (λ t. said f₂ f₂ (replicate (t * 3) 1) 3 t 2000) (255 ∷ 256 ∷ []) ≡ Ok tt ∷ Err MatrixRefusal ∷ []
+  dear : said f₂ f₂ (1 ∷ 1000001 ∷ 1 ∷ []) 3 1 6 ≡ Err Cost
   -- two faults: 11 before 12, 12 before 13, 13 before 15
-  form_and_matrix : said fl [] costs 5 2 15 ≡ Refused BadForm
-  matrix_and_cost : said fl f₂ (1 ∷ 1000001 ∷ 1 ∷ 1 ∷ []) 4 1 15 ≡ Refused MatrixRefusal
-  cost_and_work : said f₂ f₂ (1 ∷ 1000001 ∷ 1 ∷ []) 3 1 5 ≡ Refused Cost
+  form_and_matrix : said fl [] costs 5 2 15 ≡ Err BadForm
+  matrix_and_cost : said fl f₂ (1 ∷ 1000001 ∷ 1 ∷ 1 ∷ []) 4 1 15 ≡ Err MatrixRefusal
+  cost_and_work : said f₂ f₂ (1 ∷ 1000001 ∷ 1 ∷ []) 3 1 5 ≡ Err Cost
   -- what is reported of an answer
-  difference : reported (answer.Difference (negsuc 2)) ≡ record { number = 0; difference = negsuc 2 }
-  refused : map (λ n. reported (answer.Refused n)) (BadForm ∷ NoReading ∷ []) ≡ record { number = 11; difference = pos 0 } ∷ record { number = 16; difference = pos 0 } ∷ []
+  difference : reported (Ok (negsuc 2)) ≡ record { number = 0; difference = negsuc 2 }
+  refused : map (λ n. reported (Err n)) (BadForm ∷ NoReading ∷ []) ≡ record { number = 11; difference = pos 0 } ∷ record { number = 16; difference = pos 0 } ∷ []
   -- one form without a reading, or both
   none_first : (M : Matrix) (p : List ℕ) → difference_report M none (some p) ≡ turned_away NoReading
   none_second : (M : Matrix) (p : List ℕ) → difference_report M (some p) none ≡ turned_away NoReading

@@ -1,12 +1,11 @@
 -- Laws: exchanging the forms changes the answer's sign and no refusal (document 02, T-04), whatever the two answers are that meet the
 -- promise; a form compared with itself differs by 0.
-use Rattle.std.specs.Prelude.{ℕ, zero, suc, max, ◌≡◌, refl, not, List, length, ℤ, pos, negsuc, neg_ℤ, ◌+ℤ◌, ◌-ℤ◌}
+use Rattle.std.specs.Prelude.{ℕ, zero, suc, max, ◌≡◌, refl, not, List, length, ℤ, pos, negsuc, neg_ℤ, ◌+ℤ◌, ◌-ℤ◌, Result, Ok, Err}
 use Rattle.std.proofs.Common.{sym, ap, ap₂, subst, ◌∙◌, arith}
 use Rattle.std.proofs.Math.Bool.{or_comm}
 use Rattle.std.proofs.Math.Option.{Option, some, none}
 use Rattle.std.proofs.Math.IntN.{neg_ℤ-neg_ℤ, neg_ℤ-+ℤ, +ℤ_comm, pos-ne-negsuc}
-use Rattle.refusal.specs.declared.Checked.{Checked}
-use Rattle.refusal.specs.declared.Checked.TheVariants.{Passed, Refused}
+use Rattle.refusal.specs.declared.Refusal.{Refusal}
 use Rattle.refusal.specs.Verdict.{first_refusal}
 use Rattle.refusal.specs.Checks.{Checks}
 use Rattle.automaton.specs.Automaton.{Accepts}
@@ -40,10 +39,10 @@ module _ (f g : List ℕ) (M : Matrix) where
       rw (or_comm (not (valid_form f)) (not (valid_form g)), or_comm (matrix_fault (alphabet_of f) M) (matrix_fault (alphabet_of g) M), need_exchanged)
 
   by_checks :
-      (c : Checked) (before after before' after' : List ℕ) (one two : Comparison) → Checks turned_away c (CompareAnswers f g M) before after one
+      (c : Result (Unit {0}) Refusal) (before after before' after' : List ℕ) (one two : Comparison) → Checks turned_away c (CompareAnswers f g M) before after one
       → Checks turned_away c (CompareAnswers g f M) before' after' two → two ≡ exchanged one
-  by_checks (Refused n) before after before' after' one two h k = k.0 ∙ sym (ap exchanged h.0)
-  by_checks Passed before after before' after' one two h k =
+  by_checks (Err n) before after before' after' one two h k = k.0 ∙ sym (ap exchanged h.0)
+  by_checks (Ok _) before after before' after' one two h k =
       let a = outcome_unique M (Accepts (view f)) k.second h.first k.second_is h.first_is in
       let b = outcome_unique M (Accepts (view g)) k.first h.second k.first_is h.second_is in
       k.answered ∙ ap₂ (difference_report M) b a ∙ report_exchanged M h.first h.second ∙ sym (ap exchanged h.answered)

@@ -1,3 +1,4 @@
+pub mod SignedLaws
 pub mod PassingLaws
 pub mod ExchangeLaws
 pub mod BoundsLaws

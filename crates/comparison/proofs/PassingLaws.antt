@@ -1,6 +1,6 @@
 -- Laws of the checks of Compare: an input passes them all exactly if it fits both forms; where K is the same, they are those of one form
 -- with the greater number of letters.
-use Rattle.std.specs.Prelude.{ℕ, ◌+◌, ◌*◌, ◌<◌, ◌≤◌, max, ◌≡◌, refl, Bool, true, ◌⊎◌, ◌↔◌, length, ltb}
+use Rattle.std.specs.Prelude.{ℕ, ◌+◌, ◌*◌, ◌<◌, ◌≤◌, max, ◌≡◌, refl, Bool, true, ◌⊎◌, ◌↔◌, length, ltb, Ok, Err}
 use Rattle.std.proofs.Common.{sym, ap₂, ◌∙◌, inl, inr, arith, le-ltb, ltb-false, eq-eqb}
 use Rattle.std.proofs.Math.Path.{ap}
 use Rattle.std.proofs.Math.Bool.{false, not, ◌||◌, or_self}
@@ -10,7 +10,6 @@ use Rattle.lists.proofs.OrderLaws.{lt_or_le, eq_or_ne, or_left, or_right, or_nei
 use Rattle.lists.proofs.EachLaws.{all_each, each_all}
 use Rattle.lists.specs.Each.{all}
 use Rattle.refusal.specs.declared.Refusal.TheVariants.{BadForm, Matrix as MatrixRefusal, Cost, OutputMemory, Work}
-use Rattle.refusal.specs.declared.Checked.TheVariants.{Passed, Refused}
 use Rattle.refusal.specs.Verdict.{Check, check, first_refusal}
 use Rattle.refusal.proofs.VerdictLaws.{first_holds, first_fails, first_passed, first_same}
 use Rattle.automaton.specs.Form.{valid_form, letters_of, alphabet_of}
@@ -50,7 +49,7 @@ module _ (f g : List ℕ) (M : Matrix) (room : ℕ) where
   abbrev past_forms : List Check
   past_forms = check fault MatrixRefusal ∷ past_matrix
 
-  fits_both : first_refusal (compare_checks f g M room) ≡ Passed → FitsBoth f g M room
+  fits_both : first_refusal (compare_checks f g M room) ≡ Ok tt → FitsBoth f g M room
   fits_both e =
       let a = first_passed bad BadForm past_forms e in
       let b = first_passed fault MatrixRefusal past_matrix a.1 in
@@ -70,7 +69,7 @@ module _ (f g : List ℕ) (M : Matrix) (room : ℕ) where
         work = ltb-false room (larger_need f g M) d.0;
       }
 
-  both_pass : FitsBoth f g M room → first_refusal (compare_checks f g M room) ≡ Passed
+  both_pass : FitsBoth f g M room → first_refusal (compare_checks f g M room) ≡ Ok tt
   unfolding first_refusal
   both_pass h =
       let none : (k : ℕ) → M.width ≡ k + 1 → matrix_fault k M ≡ false =
@@ -81,13 +80,13 @@ module _ (f g : List ℕ) (M : Matrix) (room : ℕ) where
       ∙ first_fails short Work [] (le-ltb room (larger_need f g M) h.work)
 
   -- refusals 11, 12, 13 and 15 turn away exactly what does not fit both forms
-  pub fits_both_exactly : (first_refusal (compare_checks f g M room) ≡ Passed) ↔ FitsBoth f g M room
+  pub fits_both_exactly : (first_refusal (compare_checks f g M room) ≡ Ok tt) ↔ FitsBoth f g M room
   fits_both_exactly = (fits_both, both_pass)
 
-  pub bad_first : valid_form f ≡ false → first_refusal (compare_checks f g M room) ≡ Refused BadForm
+  pub bad_first : valid_form f ≡ false → first_refusal (compare_checks f g M room) ≡ Err BadForm
   bad_first e = first_holds bad BadForm past_forms (or_left (not (valid_form f)) (not (valid_form g)) (ap not e))
 
-  pub bad_second : valid_form g ≡ false → first_refusal (compare_checks f g M room) ≡ Refused BadForm
+  pub bad_second : valid_form g ≡ false → first_refusal (compare_checks f g M room) ≡ Err BadForm
   bad_second e = first_holds bad BadForm past_forms (or_right (not (valid_form f)) (not (valid_form g)) (ap not e))
 
   module _ (one : valid_form f ≡ true) (two : valid_form g ≡ true) where
@@ -95,7 +94,7 @@ module _ (f g : List ℕ) (M : Matrix) (room : ℕ) where
     valid_both = first_fails bad BadForm past_forms (ap₂ (λ a b. not a || not b) one two)
 
     -- forms of unequal K: 12, whatever the matrix is
-    pub unequal_alphabets : (alphabet_of g ≡ alphabet_of f → ⊥) → first_refusal (compare_checks f g M room) ≡ Refused MatrixRefusal
+    pub unequal_alphabets : (alphabet_of g ≡ alphabet_of f → ⊥) → first_refusal (compare_checks f g M room) ≡ Err MatrixRefusal
     unequal_alphabets d = valid_both ∙ first_holds fault MatrixRefusal past_matrix (by (lt_or_le 255 M.count) (eq_or_ne M.width (alphabet_of f + 1)))
       where
         first_too : matrix_fault (alphabet_of f) M ≡ true → fault ≡ true

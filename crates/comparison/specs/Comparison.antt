@@ -1,9 +1,7 @@
 -- What Compare reports.
-use Rattle.std.specs.Prelude.{ℕ, ℤ, pos}
+use Rattle.std.specs.Prelude.{ℕ, ℤ, pos, Result, Ok, Err}
 use Rattle.refusal.specs.declared.Refusal.{Refusal}
 use Rattle.refusal.specs.Number.{number_of}
-use Rattle.comparison.specs.declared.Compared.{Compared}
-use Rattle.comparison.specs.declared.Compared.TheVariants as answer
 
 -- 0 or the refusal's number, and the difference, a signed number that is 0 at a refusal
 pub record Comparison : Type 0 where
@@ -17,6 +15,6 @@ abbrev pub turned_away : Refusal → Comparison
 turned_away n = record { number = number_of n; difference = pos 0 }
 
 -- what Compare's answer reports
-abbrev pub reported : Compared → Comparison
-reported (answer.Difference d) = compared d
-reported (answer.Refused n) = turned_away n
+abbrev pub reported : Result ℤ Refusal → Comparison
+reported (Ok d) = compared d
+reported (Err n) = turned_away n

@@ -1,11 +1,3 @@
-// What Compare answers (document 02, T-04).
+// What Compare reports and promises (document 02, T-04), as definitions and laws, without code. Its answer is the price of the first form's
+// reading less that of the second's, or why the input was turned away: `Result<i32, Refusal>`.
 #![tactic(auto)]
-
-use refusal::Refusal;
-
-// The price of the first form's reading less that of the second's, or why the input was turned away.
-#[derive(Drop)]
-pub enum Compared {
-    Difference(i32),
-    Refused(Refusal),
-}

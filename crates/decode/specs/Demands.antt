@@ -2,10 +2,9 @@
 -- Past the checks with memory enough means: no refusal except 16 applies, so the form is valid and the checks of the matrix and the
 -- memory pass.
 -- For the reader: nothing uses it.
-use Rattle.std.specs.Prelude.{ℕ, ◌≡◌, refl, not, ◌↔◌, List}
+use Rattle.std.specs.Prelude.{ℕ, ◌≡◌, refl, not, ◌↔◌, List, Ok, Err}
 use Rattle.refusal.specs.declared.Refusal.{Refusal}
 use Rattle.refusal.specs.declared.Refusal.TheVariants.{BadForm}
-use Rattle.refusal.specs.declared.Checked.TheVariants.{Passed, Refused}
 use Rattle.refusal.specs.Verdict.{first_refusal}
 use Rattle.refusal.proofs.VerdictLaws.{first_passed}
 use Rattle.refusal.specs.Report.{Report, turned_away}
@@ -23,10 +22,10 @@ use Rattle.decode.specs.Promise.{Decodes}
 
 module _ (f : List ℕ) (M : Matrix) (before after : Lent) (answer : Report) (decodes : Decodes f M before after answer) where
   -- Demand 1: what is turned away gets its refusal's number and zeros, and all memory is as it was.
-  pub demand_1_refusal : (n : Refusal) → first_refusal (decode_checks f M (rooms before)) ≡ Refused n → (answer ≡ turned_away n) × (after ≡ before)
+  pub demand_1_refusal : (n : Refusal) → first_refusal (decode_checks f M (rooms before)) ≡ Err n → (answer ≡ turned_away n) × (after ≡ before)
   demand_1_refusal n e = rw e at decodes
 
-  module _ (passes : first_refusal (decode_checks f M (rooms before)) ≡ Passed) where
+  module _ (passes : first_refusal (decode_checks f M (rooms before)) ≡ Ok tt) where
     demanded :
         BestOrNone (Accepts (view f)) labels (alphabet_of f) 0 M before after answer × Kept (needed M.count (letters_of f)) M before after answer
     demanded =

@@ -1,11 +1,9 @@
 -- A call of Decode that read the line, or said that there is no reading: its checks passed.
-use Rattle.std.specs.Prelude.{ℕ, ◌<◌, ◌≡◌, refl, true, false, not, ◌⊎◌, List}
+use Rattle.std.specs.Prelude.{ℕ, ◌<◌, ◌≡◌, refl, true, false, not, ◌⊎◌, List, Result, Ok, Err}
 use Rattle.std.proofs.Common.{ap, ⊎_elim, arith}
 use Rattle.std.proofs.lemmas.Bool.{not-false}
 use Rattle.refusal.specs.declared.Refusal.{Refusal}
 use Rattle.refusal.specs.declared.Refusal.TheVariants.{BadForm}
-use Rattle.refusal.specs.declared.Checked.{Checked}
-use Rattle.refusal.specs.declared.Checked.TheVariants.{Passed, Refused}
 use Rattle.refusal.specs.Number.{number_of}
 use Rattle.refusal.specs.Verdict.{first_refusal}
 use Rattle.refusal.proofs.VerdictLaws.{first_of, first_passed}
@@ -28,14 +26,14 @@ module _ (f : List ℕ) (M : Matrix) (before after : Lent) (answer : Report) (de
   abbrev Between : Refusal → Type 0
   Between n = (0 < number_of n) × (number_of n < 16)
 
-  pub looked_passes : first_refusal (decode_checks f M (rooms before)) ≡ Passed
+  pub looked_passes : first_refusal (decode_checks f M (rooms before)) ≡ Ok tt
   looked_passes = by (first_refusal (decode_checks f M (rooms before))) refl decodes
     where
       by :
-          (c : Checked) → first_refusal (decode_checks f M (rooms before)) ≡ c → Checks turned_away c (DecodeAnswers f M) before after answer
-          → first_refusal (decode_checks f M (rooms before)) ≡ Passed
-      by Passed e h = e
-      by (Refused n) e h =
+          (c : Result (Unit {0}) Refusal) → first_refusal (decode_checks f M (rooms before)) ≡ c → Checks turned_away c (DecodeAnswers f M) before after answer
+          → first_refusal (decode_checks f M (rooms before)) ≡ Ok tt
+      by (Ok _) e h = e
+      by (Err n) e h =
           let between : Between n =
           first_of Between (decode_checks f M (rooms before))
           ((omega arith, omega arith), ((omega arith, omega arith), ((omega arith, omega arith), ((omega arith, omega arith), ((omega arith, omega arith), tt))))) n e in
@@ -47,7 +45,7 @@ module _ (f : List ℕ) (M : Matrix) (before after : Lent) (answer : Report) (de
   pub looked_answers : DecodeAnswers f M before after answer
   looked_answers = rw looked_passes at decodes
 
-  parts : (not (valid_form f) ≡ false) × (first_refusal (matrix_checks (alphabet_of f) (letters_of f) M (rooms before)) ≡ Passed)
+  parts : (not (valid_form f) ≡ false) × (first_refusal (matrix_checks (alphabet_of f) (letters_of f) M (rooms before)) ≡ Ok tt)
   parts = first_passed (not (valid_form f)) BadForm (matrix_checks (alphabet_of f) (letters_of f) M (rooms before)) looked_passes
 
   pub looked_valid : valid_form f ≡ true

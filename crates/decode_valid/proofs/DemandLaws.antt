@@ -1,11 +1,10 @@
 -- Laws: past the checks, `Answers` says what demands 1 and 3 ask, and nothing else. Past the checks with memory enough means that none of
 -- refusals 12 to 15 applies.
-use Rattle.std.specs.Prelude.{ℕ, ◌≤◌, ◌≡◌, ◌↔◌, List, length, drop}
+use Rattle.std.specs.Prelude.{ℕ, ◌≤◌, ◌≡◌, ◌↔◌, List, length, drop, Ok}
 use Rattle.std.proofs.Common.{sym, ap, ◌∙◌, inl, inr, arith, drop_at}
 use Rattle.std.proofs.Math.Option.{Option, some, none}
 use Rattle.lists.proofs.WrittenLaws.{written_none, length_written}
 use Rattle.lists.specs.Memory.{written}
-use Rattle.refusal.specs.declared.Checked.TheVariants.{Passed}
 use Rattle.refusal.specs.Verdict.{first_refusal}
 use Rattle.refusal.specs.Report.{Report}
 use Rattle.answers.specs.Decoded.{read}
@@ -25,7 +24,7 @@ use Rattle.decode_valid.specs.Kept.{KeptFrom, Kept}
 -- Past the checks every cost is usable or that of a barred label, and a column has one for each label 0 to k. So a list is what demand 3
 -- calls a rival exactly if it is a `Rival`.
 pub plain_is_rival :
-    (k l : ℕ) (M : Matrix) (room : Rooms) → first_refusal (matrix_checks k l M room) ≡ Passed
+    (k l : ℕ) (M : Matrix) (room : Rooms) → first_refusal (matrix_checks k l M room) ≡ Ok tt
     → (Word : List ℕ → Type 0) (p : List ℕ) → PlainRival Word k M p ↔ Rival Word M p
 plain_is_rival k l M room passes Word p = let fit = fits k l M room passes in plain_exactly Word k M fit.wide p fit.pass
 
@@ -41,7 +40,7 @@ kept_written {n} w {before} {after} e h room =
     }
 
 module _ {Word : List ℕ → Type 0} {spelt : List ℕ → List ℕ} {form : ℕ} {M : Matrix} {need : ℕ} {before after : Lent} {answer : Report} where
-  module _ (k l : ℕ) (passes : first_refusal (matrix_checks k l M (rooms before)) ≡ Passed) (as_long : (w : List ℕ) → length (spelt w) ≡ length w) where
+  module _ (k l : ℕ) (passes : first_refusal (matrix_checks k l M (rooms before)) ≡ Ok tt) (as_long : (w : List ℕ) → length (spelt w) ≡ length w) where
     demanded : Answers Word spelt form M need before after answer → BestOrNone Word spelt k form M before after answer × Kept need M before after answer
     demanded h =
         by h.outcome (outcome_of_same (price M) (λ p. (plain p).1) (λ p. (plain p).0) h.outcome h.is) h.answered h.path h.word

@@ -1,6 +1,6 @@
 -- Document 01's lines to try that are marked P, and lines with barred labels (document 02, T-06) and with two shapes of seven (T-07), as one
 -- checked list: each case is data, one test is computed over all of them from the definitions, and one law turns the test into the statement.
-use Rattle.std.specs.Prelude.{ℕ, ◌+◌, refl, Bool, true, false, ◌&&◌, length, get_or, eqb}
+use Rattle.std.specs.Prelude.{ℕ, ◌+◌, refl, Bool, true, false, ◌&&◌, length, get_or, eqb, Result, Ok, Err}
 use Prim.Native.String.{String}
 use Rattle.std.proofs.Math.Path.{◌≡◌, subst}
 use Rattle.std.proofs.Common.{ap, arith}
@@ -12,8 +12,7 @@ use Rattle.lists.proofs.EachLaws.{all_each}
 use Rattle.lists.specs.Lists.{any, keep, same_list, numbers}
 use Rattle.lists.proofs.SameLaws.{same_list_true}
 use Rattle.lists.specs.Each.{all, Each}
-use Rattle.refusal.specs.declared.Checked.{Checked}
-use Rattle.refusal.specs.declared.Checked.TheVariants.{Passed, Refused}
+use Rattle.refusal.specs.declared.Refusal.{Refusal}
 use Rattle.refusal.specs.Verdict.{Verdict, passed, refused, unless, if_passed, first_refusal}
 use Rattle.refusal.specs.Report.{Report}
 use Rattle.answers.specs.Decoded.{read as answer}
@@ -62,7 +61,7 @@ pub record Answered (A s : List ℕ) (M : Matrix) (room : ℕ) (o : Option (List
   pub form : List ℕ
   pub compiles : compile_call A s room ≡ passed form
   pub size : length form ≡ room
-  pub checks : first_refusal (matrix_checks (length A) (letters_of form) M (exact M.count (letters_of form))) ≡ Passed
+  pub checks : first_refusal (matrix_checks (length A) (letters_of form) M (exact M.count (letters_of form))) ≡ Ok tt
   pub word : word_of (characters A) o ≡ w
   pub report : outcome_report (length form) M o ≡ r
 
@@ -89,9 +88,9 @@ figures r = r.number ∷ (r.price ∷ (r.filled ∷ (r.form ∷ [])))
 from_figures : List ℕ → Report
 from_figures l = record { number = get_or l 0 0; price = get_or l 1 0; filled = get_or l 2 0; form = get_or l 3 0 }
 
-passing : Checked → Bool
-passing Passed = true
-passing (Refused n) = false
+passing : Result (Unit {0}) Refusal → Bool
+passing (Ok _) = true
+passing (Err n) = false
 
 -- what is answered with the form f, as a test
 answered : (A f : List ℕ) → Matrix → ℕ → Option (List ℕ) → List ℕ → Report → Bool
@@ -127,10 +126,10 @@ figures_true : (a b : Report) → same_list (figures a) (figures b) ≡ true →
 unfolding figures from_figures
 figures_true a b e = ap from_figures (same_list_true (figures a) (figures b) e)
 
-passing_true : (c : Checked) → passing c ≡ true → c ≡ Passed
+passing_true : (c : Result (Unit {0}) Refusal) → passing c ≡ true → c ≡ Ok tt
 unfolding passing
-passing_true Passed e = refl
-passing_true (Refused n) e = let z : ◌≡◌ {A = ℕ} 0 1 = cc in absurd (omega arith)
+passing_true (Ok _) e = refl
+passing_true (Err n) e = let z : ◌≡◌ {A = ℕ} 0 1 = cc in absurd (omega arith)
 
 module _ (A s : List ℕ) (M : Matrix) (k : ℕ) (o : Option (List ℕ)) (w : List ℕ) (r : Report) where
   answered_true : (f : List ℕ) → compile_call A s k ≡ passed f → answered A f M k o w r ≡ true → Answered A s M k o w r

@@ -3,14 +3,13 @@
 -- The set of words is over characters, rivals are lists of labels (document 02, T-07): a list of labels counts as a word if its characters
 -- spell one (`SpellsWord`, regex/Characters).
 -- For the reader: nothing uses it.
-use Rattle.std.specs.Prelude.{ℕ, ◌<◌, ◌≡◌, ◌↔◌, List, length}
+use Rattle.std.specs.Prelude.{ℕ, ◌<◌, ◌≡◌, ◌↔◌, List, length, Ok, Err}
 use Rattle.std.proofs.Common.{ap, ◌∙◌}
 use Rattle.std.proofs.lemmas.List.{length-map}
 use Rattle.lists.specs.Each.{Each}
 use Rattle.lists.proofs.WrittenLaws.{written_none}
 use Rattle.lists.specs.Memory.{written}
 use Rattle.refusal.specs.declared.Refusal.{Refusal}
-use Rattle.refusal.specs.declared.Checked.TheVariants.{Passed, Refused}
 use Rattle.refusal.specs.Verdict.{passed, refused, first_refusal}
 use Rattle.refusal.specs.Report.{Report, turned_away}
 use Rattle.refusal.specs.Fills.{filling}
@@ -49,7 +48,7 @@ module _ (A s : List ℕ) (M : Matrix) (form form' : List ℕ) (before after : L
     compiled = reads.memory ∙ ap (λ v. written (filling v) form) compiles
 
     pub demand_1_matrix :
-        (n : Refusal) → first_refusal (matrix_checks (length A) (letters_of f) M (rooms before)) ≡ Refused n
+        (n : Refusal) → first_refusal (matrix_checks (length A) (letters_of f) M (rooms before)) ≡ Err n
         → (answer ≡ turned_away n) × (after ≡ before) × (form' ≡ written f form)
     demand_1_matrix n e =
         let h = rw e at (rw compiles at reads.reads) in
@@ -66,7 +65,7 @@ module _ (A s : List ℕ) (M : Matrix) (form form' : List ℕ) (before after : L
     pub demand_2_words : (v : List ℕ) → CharacterWordsOf A s v ↔ ((w : List ℕ) × Accepts (view f) w × (characters A w ≡ v))
     demand_2_words = compiled_spelt A s (length form) f compiles
 
-    module _ (passes : first_refusal (matrix_checks (length A) (letters_of f) M (rooms before)) ≡ Passed) where
+    module _ (passes : first_refusal (matrix_checks (length A) (letters_of f) M (rooms before)) ≡ Ok tt) where
       -- Past the checks Read promises what demands 1 and 3 ask, and nothing else.
       pub demanded_exactly :
           Answers (WordsOf A s) (characters A) (length f) M (needed M.count (letters_of f)) before after answer

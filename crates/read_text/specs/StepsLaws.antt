@@ -1,11 +1,9 @@
 -- Laws: from the answer by the words of a compiled form to what Read promises by the words of the text.
-use Rattle.std.specs.Prelude.{ℕ, ◌≤◌, ◌≡◌, refl, List, length, take}
+use Rattle.std.specs.Prelude.{ℕ, ◌≤◌, ◌≡◌, refl, List, length, take, Result, Ok, Err}
 use Rattle.std.proofs.Common.{sym, ap, ◌∙◌, arith}
 use Rattle.lists.proofs.WrittenLaws.{take_written, written_fits}
 use Rattle.lists.specs.Memory.{written}
 use Rattle.refusal.specs.declared.Refusal.{Refusal}
-use Rattle.refusal.specs.declared.Checked.{Checked}
-use Rattle.refusal.specs.declared.Checked.TheVariants.{Passed, Refused}
 use Rattle.refusal.proofs.NumberLaws.{number_between}
 use Rattle.refusal.specs.Verdict.{Verdict, passed, refused, first_refusal}
 use Rattle.refusal.specs.Checks.{Checks}
@@ -37,10 +35,10 @@ read_words A s f M before after answer m =
 
 -- the same, where the checks may refuse
 checked_words :
-    (A s f : List ℕ) (M : Matrix) (c : Checked) (before after : Lent) (answer : Report) → Means A s f → Checks turned_away c (ReadsAccepted A f M) before after answer
+    (A s f : List ℕ) (M : Matrix) (c : Result (Unit {0}) Refusal) (before after : Lent) (answer : Report) → Means A s f → Checks turned_away c (ReadsAccepted A f M) before after answer
     → Checks turned_away c (Answers (WordsOf A s) (characters A) (length f) M (needed M.count (letters_of f))) before after answer
-checked_words A s f M (Refused n) before after answer m h = h
-checked_words A s f M Passed before after answer m h = read_words A s f M before after answer m h
+checked_words A s f M (Err n) before after answer m h = h
+checked_words A s f M Ok tt before after answer m h = read_words A s f M before after answer m h
 
 -- the form that Compile wrote, from what it reports
 pub record Compiled (A s form after : List ℕ) (n : ℕ) : Type 0 where

@@ -1,11 +1,10 @@
 -- "Decode reads with it under the same rivals' comparison" (document 02, T-05): demands 1 to 3 as theorems on what Decode promises for a form
 -- that CompileList wrote, with the listed words in the place of an expression's.
 -- For the reader: nothing uses it, except the example.
-use Rattle.std.specs.Prelude.{ℕ, ◌≡◌, refl, not, ◌↔◌, List, length}
+use Rattle.std.specs.Prelude.{ℕ, ◌≡◌, refl, not, ◌↔◌, List, length, Ok}
 use Rattle.std.proofs.Common.{ap, ap₂, subst, ◌∙◌}
 use Rattle.std.proofs.Math.Option.{Option}
 use Rattle.refusal.specs.declared.Refusal.TheVariants.{BadForm}
-use Rattle.refusal.specs.declared.Checked.TheVariants.{Passed}
 use Rattle.refusal.specs.Verdict.{passed, first_refusal}
 use Rattle.refusal.proofs.VerdictLaws.{first_fails}
 use Rattle.refusal.specs.Report.{Report}
@@ -52,7 +51,7 @@ module _ (A s : List ℕ) (room : ℕ) (f : List ℕ) (compiles : compile_list_c
     abbrev letters : ℕ
     letters = length (letters_in A (words s))
 
-    module _ (passes : first_refusal (matrix_checks (length A) letters M (rooms before)) ≡ Passed) where
+    module _ (passes : first_refusal (matrix_checks (length A) letters M (rooms before)) ≡ Ok tt) where
       -- past the checks Decode answers by the listed words
       demanded : BestOrNone (Listed A (words s)) labels (length A) 0 M before after answer × Kept (needed M.count letters) M before after answer
       demanded =

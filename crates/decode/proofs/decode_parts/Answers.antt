@@ -3,7 +3,7 @@ use mathlib.Core.Path.{◌≡◌, sym, ap, ap₂, ◌∙◌}
 use mathlib.Core.Bool.{true, not}
 use native.Mathlib.Omega.{arith}
 use Rattle.std.proofs.Common.{ℕ, List}
-use Rattle.refusal.specs.declared.Checked.{Checked}
+use Rattle.refusal.specs.declared.Refusal.{Refusal}
 use Rattle.refusal.specs.declared.Refusal.TheVariants.{BadForm}
 use Rattle.refusal.specs.Verdict.{first_refusal}
 use Rattle.refusal.proofs.VerdictLaws.{first_holds, first_fails}
@@ -19,7 +19,7 @@ use Rattle.decode_valid.specs.Lent.{Lent, lent, rooms}
 use Rattle.decode.proofs.decode_parts.Goals as goal
 
 -- what the checks of the matrix show, where the form is valid
-module _ (f : List ℕ) (M : Matrix) (m : Lent) {k l : ℕ} {r : Checked} (e : r ≡ first_refusal (matrix_checks k l M (rooms m))) (ke : k ≡ alphabet_of f) (le : l ≡ letters_of f) where
+module _ (f : List ℕ) (M : Matrix) (m : Lent) {k l : ℕ} {r : Result (Unit {0}) Refusal} (e : r ≡ first_refusal (matrix_checks k l M (rooms m))) (ke : k ≡ alphabet_of f) (le : l ≡ letters_of f) where
   told : r ≡ first_refusal (matrix_checks (alphabet_of f) (letters_of f) M (rooms m))
   told = e ∙ ap₂ (λ k l. first_refusal (matrix_checks k l M (rooms m))) ke le
 
@@ -55,20 +55,20 @@ decode_valid-requires c =
     let f = c.args.form.now in
     let M = matrix c.args.costs.now c.args.width c.args.count in
     let m = lent c.args.path.now c.args.word.now c.args.work.now in
-    (valid_at f (sym c.valid.ensures ∙ c.if-not-valid.false), fits (alphabet_of f) (letters_of f) M (rooms m) (sym (told f M m c.check_matrix.ensures c.alphabet-k.ensures c.letters-l.ensures) ∙ c.in-Passed.is))
+    (valid_at f (sym c.valid.ensures ∙ c.if-not-valid.false), fits (alphabet_of f) (letters_of f) M (rooms m) (sym (told f M m c.check_matrix.ensures c.alphabet-k.ensures c.letters-l.ensures) ∙ c.in-Ok tt.is))
 
-pub returns-in-Refused : goal.returns-in-Refused
-returns-in-Refused c =
+pub returns-in-Err : goal.returns-in-Err
+returns-in-Err c =
     let f = c.args.form.now in
     let M = matrix c.args.costs.now c.args.width c.args.count in
     let m = lent c.args.path.now c.args.word.now c.args.work.now in
-    checks_refused turned_away (first_refusal (decode_checks f M (rooms m))) (DecodeAnswers f M) c.in-Refused.r m
-    (whole f M m c.check_matrix.ensures c.alphabet-k.ensures c.letters-l.ensures (sym c.valid.ensures ∙ c.if-not-valid.false) ∙ c.in-Refused.is)
+    checks_refused turned_away (first_refusal (decode_checks f M (rooms m))) (DecodeAnswers f M) c.in-Err.r m
+    (whole f M m c.check_matrix.ensures c.alphabet-k.ensures c.letters-l.ensures (sym c.valid.ensures ∙ c.if-not-valid.false) ∙ c.in-Err.is)
 
-pub returns-in-Passed : goal.returns-in-Passed
-returns-in-Passed c =
+pub returns-in-Ok tt : goal.returns-in-Ok tt
+returns-in-Ok tt c =
     let f = c.args.form.now in
     let M = matrix c.args.costs.now c.args.width c.args.count in
     let m = lent c.args.path.now c.args.word.now c.args.work.now in
     checks_passed turned_away (first_refusal (decode_checks f M (rooms m))) (DecodeAnswers f M) m _ _
-    (whole f M m c.check_matrix.ensures c.alphabet-k.ensures c.letters-l.ensures (sym c.valid.ensures ∙ c.if-not-valid.false) ∙ c.in-Passed.is) c.decode_valid.ensures
+    (whole f M m c.check_matrix.ensures c.alphabet-k.ensures c.letters-l.ensures (sym c.valid.ensures ∙ c.if-not-valid.false) ∙ c.in-Ok tt.is) c.decode_valid.ensures
