@@ -1,7 +1,7 @@
 -- Laws of the cost at a place: a lone `-`, or a number.
-use Rattle.std.specs.Prelude.{◌≡◌, List, [], ◌∷◌, ◌++◌, true, false, ◌⊎◌, ℕ, ◌+◌, ◌-◌, ◌<◌, length, get_or, eqb}
+use Rattle.std.specs.Prelude.{◌≡◌, List, [], ◌∷◌, ◌++◌, true, false, ◌⊎◌, ℕ, ◌+◌, ◌-◌, ◌<◌, length, get_or, eqb, Option as Answer, Some, None}
 use Rattle.std.proofs.Math.Path.{refl}
-use Rattle.std.proofs.Common.{sym, ap, ◌∙◌, inl, inr, ⊎_elim, arith, eqb-true, eq-eqb, ne_eqb}
+use Rattle.std.proofs.Common.{sym, ap, ◌∙◌, inl, inr, ⊎_elim, arith, eqb-true, eq-eqb}
 use Rattle.lists.specs.Cases.{provided}
 use Rattle.lists.proofs.OrderLaws.{and_left, and_right, and_both, not_both}
 use Rattle.matrix.specs.Matrix.{BARRED}
@@ -11,19 +11,11 @@ use Rattle.text_lines.specs.Places.{part}
 use Rattle.text_lines.proofs.PlacesLaws.{part_none, part_more, part_at, part_length}
 use Rattle.sheet_number.specs.Items.{separator, NumberAt, ReadNumber, CostAt, ReadCost, bar_at}
 use Rattle.sheet_number.specs.ItemsLaws.{item_begins, separator_within}
-use Rattle.sheet_number.specs.declared.Cost.{Cost}
-use Rattle.sheet_number.specs.declared.Cost.TheVariants.{Is, Not}
+use Rattle.sheet_number.specs.declared.Item.{Item}
 
 module _ (input : List ℕ) (at : ℕ) where
-  -- the two tests of `is_bar`
-  pub no_bar : (get_or input at 0 ≡ 45 → ⊥) → false ≡ bar_at input at
-  no_bar n = rw (ne_eqb (get_or input at 0) 45 n)
-
-  pub bar_if_ended : get_or input at 0 ≡ 45 → separator (get_or input (at + 1) 0) ≡ bar_at input at
-  bar_if_ended e = rw (eq-eqb (get_or input at 0) 45 e)
-
   -- a lone `-` is the cost of a barred label
-  pub bar_as_cost : bar_at input at ≡ true → ReadCost input at (Is BARRED (at + 1))
+  pub bar_as_cost : bar_at input at ≡ true → ReadCost input at (Some (record { value = BARRED; end = at + 1 }))
   bar_as_cost h =
       let sign = eqb-true (get_or input at 0) 45 (and_left (eqb (get_or input at 0) 45) (separator (get_or input (at + 1) 0)) h) in
       let ends = and_right (eqb (get_or input at 0) 45) (separator (get_or input (at + 1) 0)) h in
@@ -59,6 +51,6 @@ module _ (input : List ℕ) (at : ℕ) where
         ((cost_exactly (part at e input) v).0 c.is)
 
   -- where there is no lone `-`, the cost is the number
-  pub number_as_cost : bar_at input at ≡ false → (r : Cost) → ReadNumber input at r → ReadCost input at r
-  number_as_cost n (Is v e) h = record { is = (cost_exactly (part at e input) v).1 (inr h.is); within = h.within; ends = h.ends }
-  number_as_cost n Not h = λ e v c. ⊎_elim (λ b. not_both (bar_at input at) b n) (h e v) (cost_kind e v c)
+  pub number_as_cost : bar_at input at ≡ false → (r : Answer Item) → ReadNumber input at r → ReadCost input at r
+  number_as_cost n (Some i) h = record { is = (cost_exactly (part at i.end input) i.value).1 (inr h.is); within = h.within; ends = h.ends }
+  number_as_cost n None h = λ e v c. ⊎_elim (λ b. not_both (bar_at input at) b n) (h e v) (cost_kind e v c)

@@ -1,20 +1,20 @@
 -- Laws of the digits at a place, and of the number that they give.
-use Rattle.std.specs.Prelude.{◌≡◌, refl, List, [], ◌∷◌, true, false, not, ◌&&◌, ℕ, zero, suc, ◌+◌, ◌*◌, ◌-◌, ◌^◌, ◌<◌, ◌≤◌, length, get_or, eqb, leb}
+use Rattle.std.specs.Prelude.{◌≡◌, refl, Bool, List, [], ◌∷◌, true, false, not, ◌&&◌, ℕ, zero, suc, ◌+◌, ◌*◌, ◌-◌, ◌^◌, ◌<◌, ◌≤◌, length, get_or, eqb, leb, ltb, Some, None}
 use Rattle.std.proofs.Common.{sym, ap, ap₂, ◌∙◌, subst, ⊎_elim, arith, pow-suc, lit<, leb-true, le-leb, eqb-true}
 use Rattle.std.proofs.Math.Option.{some}
 use Rattle.std.proofs.Math.Nat.{pow-le-pow_right}
-use Rattle.std.proofs.lemmas.Bool.{not-true}
-use Rattle.lists.proofs.OrderLaws.{and_left, and_right, and_three, or_either, not_both, lt_or_le}
+use Rattle.std.specs.Bool.{then_some}
+use Rattle.std.proofs.lemmas.Bool.{not-true, lt-ltb, ltb-true}
+use Rattle.lists.proofs.OrderLaws.{and_left, and_right, and_three, or_either, not_both, lt_or_le, true_or_false}
 use Rattle.lists.specs.Cases.{provided}
 use Rattle.text.specs.Digits.{digits, value, digit}
 use Rattle.sheet_format.specs.Sheet.{extra_zero, numeral_of}
 use Rattle.sheet_format.proofs.PartsLaws.{provided_back}
 use Rattle.text_lines.specs.Places.{part}
 use Rattle.text_lines.proofs.PlacesLaws.{part_none, part_more, part_at, part_length}
-use Rattle.sheet_number.specs.declared.Cost.TheVariants.{Is, Not}
 use Rattle.sheet_number.specs.Digits.{padded, Begun, Digits}
 use Rattle.sheet_number.specs.Items.{separator, NumberAt, ReadNumber}
-use Rattle.sheet_number.specs.ItemsLaws.{item_begins}
+use Rattle.sheet_number.specs.ItemsLaws.{item_begins, separator_within}
 use Rattle.text.proofs.DigitsLaws.{digits_append, value_append}
 
 pub digit_range : (b : ℕ) → digit b ≡ true → (48 ≤ b) × (b ≤ 57)
@@ -59,7 +59,17 @@ numeral_back p v e =
       unpadded = not-true (extra_zero p) (and_right (d && l && h) z q);
     }
 
+-- the digits from `at` up to e are a number
+abbrev pub number_passes : List ℕ → ℕ → ℕ → Bool
+number_passes input at e = ltb at e && not (padded (e - at) (get_or input at 0)) && separator (get_or input e 0)
+
 module _ (input : List ℕ) (at : ℕ) where
+  -- the byte at an index of the rest of the input
+  pub rest_at : (n : ℕ) → at + n < length input → get_or (part at (length input) input) n 0 ≡ get_or input (at + n) 0
+  rest_at n l =
+      let k : at + n - at ≡ n = omega arith in
+      ap (λ j. get_or (part at (length input) input) j 0) (sym k) ∙ part_at input at (length input) (at + n) (omega arith) l
+
   pub begun_none : at ≤ length input → Begun input at at 0
   begun_none l =
       let z : at - at ≡ 0 = omega arith in
@@ -107,6 +117,16 @@ module _ (input : List ℕ) (at : ℕ) where
     pub digits_end : length input ≤ i → Digits input at i v
     digits_end e = record { begun = h; stops = λ l k. absurd (omega arith) }
 
+  -- one more of the rest of the input
+  pub begun_next :
+      (n v b : ℕ) → Begun input at (at + n) v → at + n < length input → at + n < at + 7 → get_or (part at (length input) input) n 0 ≡ b → digit b ≡ true
+      → Begun input at (at + (n + 1)) (10 * v + (b - 48))
+  begun_next n v b h l k e d =
+      let same : get_or input (at + n) 0 ≡ b = sym (rest_at n l) ∙ e in
+      let i : at + n + 1 ≡ at + (n + 1) = omega arith in
+      subst (λ j. Begun input at j (10 * v + (b - 48))) i
+      (subst (λ c. Begun input at (at + n + 1) (10 * v + (c - 48))) same (begun_more (at + n) v h l k (ap digit same ∙ d)))
+
 separator_ends : (b : ℕ) → separator b ≡ true → digit b ≡ true → ⊥
 separator_ends b s d =
     let r = digit_range b d in
@@ -152,16 +172,12 @@ module _ (input : List ℕ) (at e v : ℕ) (h : Digits input at e v) where
   same_number : (f w : ℕ) → NumberAt input at f w → NumberAt input at e w
   same_number f w c = subst (λ i. NumberAt input at i w) (same_end f w c) c
 
-  -- the input ends after the digits
-  pub number_open : e ≡ length input → ReadNumber input at Not
-  number_open l f w c = let k = (same_number f w c).within in omega arith
-
   -- no separator follows the digits
-  pub number_unread : separator (get_or input e 0) ≡ false → ReadNumber input at Not
+  pub number_unread : separator (get_or input e 0) ≡ false → ReadNumber input at None
   number_unread q f w c = not_both (separator (get_or input e 0)) (same_number f w c).ends q
 
   -- there is no digit
-  pub number_missing : e ≡ at → ReadNumber input at Not
+  pub number_missing : e ≡ at → ReadNumber input at None
   number_missing q f w c = let k = number_begins input at e w (same_number f w c) in omega arith
 
   module _ (s : e ≡ at → ⊥) where
@@ -171,17 +187,26 @@ module _ (input : List ℕ) (at e v : ℕ) (h : Digits input at e v) where
         let k : at - at ≡ 0 = omega arith in
         padded_zero p ∙ ap₂ padded size (ap (λ j. get_or p j 0) (sym k) ∙ part_at input at e at (omega arith) (omega arith))
 
-    pub number_padded : padded (e - at) (get_or input at 0) ≡ true → ReadNumber input at Not
+    pub number_padded : padded (e - at) (get_or input at 0) ≡ true → ReadNumber input at None
     number_padded q f w c = not_both (extra_zero p) (zero_is ∙ q) (numeral_back p w (same_number f w c).is).unpadded
 
-    pub number_read :
-        e < length input → separator (get_or input e 0) ≡ true → padded (e - at) (get_or input at 0) ≡ false → ReadNumber input at (Is v e)
-    number_read l t q =
+    pub number_read : separator (get_or input e 0) ≡ true → padded (e - at) (get_or input at 0) ≡ false → ReadNumber input at (Some (record { value = v; end = e }))
+    number_read t q =
         let f = h.begun.from in
         let w = h.begun.few in
         let n = size in
         record {
           is = numeral_is p h.begun.are (omega arith) (omega arith) (zero_is ∙ q) ∙ ap some h.begun.makes;
-          within = l;
+          within = separator_within input e t;
           ends = t;
         }
+
+  -- the tests of `read_number`: a digit, no extra zero, a separator
+  pub number_by_tests : (t : Bool) → number_passes input at e ≡ t → ReadNumber input at (then_some t (record { value = v; end = e }))
+  number_by_tests true q =
+      let n = and_three (ltb at e) (not (padded (e - at) (get_or input at 0))) (separator (get_or input e 0)) q in
+      number_read (λ z. let k = ltb-true at e n.0 in omega arith) n.2 (not-true (padded (e - at) (get_or input at 0)) n.1)
+  number_by_tests false q =
+      ⊎_elim (λ k. ⊎_elim (λ z. number_padded (omega arith) z) (λ z. number_unread (sym (ap₂ (λ b c. b && not c && separator (get_or input e 0)) (lt-ltb at e k) z) ∙ q)) (true_or_false (padded (e - at) (get_or input at 0))))
+      (λ k. number_missing (omega arith))
+      (lt_or_le at e)

@@ -1,5 +1,5 @@
 -- `sheet_number::read_cost` meets its contract: a lone `-`, or a number.
-use mathlib.Core.Path.{sym, ◌∙◌}
+use Rattle.std.proofs.Common.{sym, ◌∙◌}
 use Rattle.sheet_number.specs.CostsLaws.{bar_as_cost, number_as_cost}
 use Rattle.sheet_number.proofs.read_cost.Goals as goal
 
