@@ -1,5 +1,5 @@
 -- From what `scan` promises for an input to what is printed for it.
-use Rattle.std.specs.Prelude.{ℕ, ◌+◌, ◌-◌, ◌*◌, ◌≤◌, ◌≡◌, refl, List, length, take, drop}
+use Rattle.std.specs.Prelude.{ℕ, ◌+◌, ◌-◌, ◌*◌, ◌≤◌, ◌≡◌, refl, List, length, take, drop, Some, None}
 use Rattle.std.proofs.Common.{sym, ap, ap₂, ◌∙◌, arith}
 use Rattle.std.proofs.Math.Option.{Option, some, none}
 use Rattle.lists.proofs.WrittenLaws.{take_written, written_fits}
@@ -10,7 +10,7 @@ use Rattle.sheet_format.specs.Sheet.{Sheet, sheet_of, matrix_of}
 use Rattle.sheet_format.proofs.PartsLaws.{sheet_within, sheet_alphabet, sheet_text, sheet_costs, sheet_area}
 use Rattle.sheet_scan.specs.Answers.{answer_of, Scans}
 use Rattle.sheet_scan.specs.AnswersLaws.{answered}
-use Rattle.sheet_scan.specs.declared.Scanned.TheVariants as scanned
+use Rattle.sheet_scan.specs.declared.Sheet.{Sheet as Sizes}
 use Rattle.sheet_lines.specs.Lines.{refusal_line}
 use Rattle.sheet_read.specs.Answer.{PrintsReading}
 use Rattle.sheet_answer.specs.Answer.{PrintsSheet, Prints}
@@ -26,9 +26,13 @@ pub record Laid (input costs : List ℕ) (a t w n : ℕ) : Type 0 where
       → Prints input output
 
 module _ (input before costs : List ℕ) where
-  pub laid_out : (a t w n : ℕ) → Scans input before costs (scanned.Sheet a t w n) → Laid input costs a t w n
-  laid_out a t w n h =
-      let s = answered (sheet_of input) a t w n h.answer in
+  pub laid_out : (r : Sizes) → Scans input before costs (Some r) → Laid input costs r.alphabet r.text r.width r.count
+  laid_out r h =
+      let a = r.alphabet in
+      let t = r.text in
+      let w = r.width in
+      let n = r.count in
+      let s = answered (sheet_of input) r h.answer in
       let S = s.sheet in
       let M = matrix_of S in
       let within = sheet_within input S s.is in
@@ -48,9 +52,9 @@ module _ (input before costs : List ℕ) where
         prints = λ output p. rw s.is (rw (alphabet, text, same) at p);
       }
 
-  pub no_sheet : Scans input before costs scanned.Bad → Prints input (refusal_line (number_of refusal.Sheet))
+  pub no_sheet : Scans input before costs None → Prints input (refusal_line (number_of refusal.Sheet))
   no_sheet h = by (sheet_of input) h.answer
     where
-      by : (o : Option Sheet) → scanned.Bad ≡ answer_of o → PrintsSheet o (refusal_line (number_of refusal.Sheet))
+      by : (o : Option Sheet) → None ≡ answer_of o → PrintsSheet o (refusal_line (number_of refusal.Sheet))
       by none e = refl
       by (some S) e = let z : ◌≡◌ {A = ℕ} 0 1 = cc in absurd (omega arith)

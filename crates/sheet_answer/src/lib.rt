@@ -8,7 +8,7 @@ ghost use Rattle.sheet_answer.specs.Answer.{Prints};
 
 use refusal::Refusal;
 use sheet_read::answer_reading;
-use sheet_scan::Scanned;
+use sheet_scan::scan;
 
 // Parses a sheet, prints its reading or refusal and returns the number of bytes. The memory for its costs is local.
 pub fn answer(input: &[u8], out: &mut [u8]) -> usize
@@ -16,24 +16,18 @@ pub fn answer(input: &[u8], out: &mut [u8]) -> usize
     ensures { Answers (Prints input.now) out.old out.new result }
 {
     let mut costs = [0u32; 16384];
-    let Scanned::Sheet {
-        alphabet,
-        text,
-        width,
-        count,
-    } = sheet_scan::scan(input, &mut costs)
-    else {
+    let Some(sheet) = scan(input, &mut costs) else {
         return sheet_lines::print_refusal(Refusal::Sheet, out);
     };
-    let begin = alphabet + 1;
-    let end = begin + text;
-    let size = count * width;
+    let begin = sheet.alphabet + 1;
+    let end = begin + sheet.text;
+    let size = sheet.count * sheet.width;
     answer_reading(
-        &input[..alphabet],
+        &input[..sheet.alphabet],
         &input[begin..end],
         &costs[..size],
-        width,
-        count,
+        sheet.width,
+        sheet.count,
         out,
     )
 }

@@ -1,5 +1,5 @@
 -- The steps of the loops that store columns: one cost more, and one column more.
-use Rattle.std.specs.Prelude.{◌≡◌, Bool, false, cond, ℕ, suc, ◌+◌, ◌-◌, ◌<◌, ◌≤◌, length, get_or, drop, set, eqb}
+use Rattle.std.specs.Prelude.{◌≡◌, Bool, false, cond, ℕ, suc, ◌+◌, ◌-◌, ◌<◌, ◌≤◌, length, get_or, drop, set, eqb, Option as Answer, Some, None}
 use Rattle.std.proofs.Math.Path.{refl, ap}
 use Rattle.std.proofs.Common.{sym, ◌∙◌, arith, add-one, length-drop, drop-set-lt}
 use Rattle.std.proofs.Math.Option.{Option, some, none}
@@ -9,7 +9,6 @@ use Rattle.std.proofs.Math.ListN.{length-append}
 use Rattle.std.proofs.lemmas.List.Edits.{sets}
 use borrow.Author.Tests.{eq-eqb, ne_eqb, eqb-true}
 use Rattle.lists.proofs.EachLaws.{drop_all}
-use Rattle.lists.specs.Each.{all}
 use Rattle.lists.proofs.OrderLaws.{and_left, and_right, and_both}
 use Rattle.lists.proofs.WrittenLaws.{stored_size, stored_then}
 use Rattle.lists.specs.Stored.{Stored}
@@ -18,12 +17,8 @@ use Rattle.sheet_format.proofs.ColumnLinesLaws.{columns_in_end, columns_in_some,
 use Rattle.sheet_format.specs.ColumnLines.{columns_in}
 use Rattle.sheet_number.specs.Items.{ReadCost}
 use Rattle.sheet_number.specs.CostsLaws.{cost_begins}
-use Rattle.sheet_number.specs.declared.Cost.TheVariants as cost
-use Rattle.sheet_columns.specs.RestsLaws.{cost_columns, no_column}
 use Rattle.sheet_columns.specs.declared.Column.{Column}
-use Rattle.sheet_columns.specs.declared.Column.TheVariants as column
-use Rattle.sheet_columns.specs.declared.Columns.{Columns}
-use Rattle.sheet_columns.specs.declared.Columns.TheVariants as columns
+use Rattle.sheet_columns.specs.RestsLaws.{cost_columns, no_column}
 use Rattle.sheet_columns.specs.Storing.{Spoilt, StoredColumn, wide, StoredColumns}
 
 drop_sets : (n : ℕ) (c m : List ℕ) (i : ℕ) → i + length c ≤ n → drop n (sets m i c) ≡ drop n m
@@ -78,20 +73,20 @@ put_some v b o c cs = by (eqb b 10) o
     by false (some (d ∷ ds)) e = let q : c ≡ v ∷ d = cc in let l = ap length q in omega arith
 
 module _ (input : List ℕ) (at m : ℕ) (before : List ℕ) where
-  pub column_bad : ReadCost input at cost.Not → StoredColumn input at m before before column.Bad
+  pub column_bad : ReadCost input at None → StoredColumn input at m before before None
   column_bad n = (λ c cs e. absurd (no_column input at n c cs e), spoilt_none before)
 
-  module _ (v e : ℕ) (h : ReadCost input at (cost.Is v e)) where
+  module _ (v e : ℕ) (h : ReadCost input at (Some (record { value = v; end = e }))) where
     begins : columns_in (drop at input) ≡ put (some v) (get_or input e 0) (columns_in (drop (e + 1) input))
     begins = cost_columns input at v e h
 
-    pub column_full : m ≡ 16384 → StoredColumn input at m before before column.Bad
+    pub column_full : m ≡ 16384 → StoredColumn input at m before before None
     column_full l = (
       (λ c cs q. let n = put_some v (get_or input e 0) (columns_in (drop (e + 1) input)) c cs (sym begins ∙ q) in omega arith),
       spoilt_none before,
     )
 
-    pub column_last : m < 16384 → get_or input e 0 ≡ 10 → StoredColumn input at m before (set before m v) (column.Ends (e + 1) (m + 1))
+    pub column_last : m < 16384 → get_or input e 0 ≡ 10 → StoredColumn input at m before (set before m v) (Some (record { end = e + 1; filled = m + 1 }))
     column_last l b =
         let s = cost_begins input at e v h in
         let k = h.within in
@@ -106,9 +101,9 @@ module _ (input : List ℕ) (at m : ℕ) (before : List ℕ) where
         }
 
     pub column_more :
-        (after : List ℕ) (r : Column) → m < 16384 → (get_or input e 0 ≡ 10 → ⊥) → StoredColumn input (e + 1) (m + 1) (set before m v) after r
+        (after : List ℕ) (r : Answer Column) → m < 16384 → (get_or input e 0 ≡ 10 → ⊥) → StoredColumn input (e + 1) (m + 1) (set before m v) after r
         → StoredColumn input at m before after r
-    column_more after (column.Ends f g) room b s =
+    column_more after (Some r) room b s =
         let l = cost_begins input at e v h in
         let k = s.from in
         let o = s.some_cost in
@@ -119,14 +114,14 @@ module _ (input : List ℕ) (at m : ℕ) (before : List ℕ) where
               begins
               ∙ put_space (some v) (get_or input e 0) (columns_in (drop (e + 1) input)) b
               ∙ ap (beside (some v)) s.is
-              ∙ beside_some v s.costs (columns_in (drop f input));
+              ∙ beside_some v s.costs (columns_in (drop r.end input));
           stored = record { next = omega arith; memory = s.stored.memory ∙ ap (λ k. sets (set before m v) k s.costs) (add-one m) };
           from = omega arith;
           within = s.within;
           some_cost = omega arith;
           room = s.room;
         }
-    column_more after column.Bad room b s = (
+    column_more after None room b s = (
       (λ c cs q.
           let o = columns_in (drop (e + 1) input) in
           let k = beside_back v o c cs (sym (put_space (some v) (get_or input e 0) o b) ∙ sym begins ∙ q) in
@@ -149,7 +144,7 @@ unfolding flatten
 flatten_more c cs ds e = ap (λ x. length (flatten x)) e ∙ length-append c (flatten ds)
 
 module _ (w : ℕ) (input : List ℕ) (at m n : ℕ) (before : List ℕ) where
-  pub columns_end : length input ≤ at → m ≤ 16384 → StoredColumns w input at m n before before (columns.Count n)
+  pub columns_end : length input ≤ at → m ≤ 16384 → StoredColumns w input at m n before before (Some n)
   unfolding flatten
   columns_end l k =
       record {
@@ -162,18 +157,18 @@ module _ (w : ℕ) (input : List ℕ) (at m n : ℕ) (before : List ℕ) where
       }
 
   pub columns_bad :
-      (after : List ℕ) → at < length input → StoredColumn input at m before after column.Bad → StoredColumns w input at m n before after columns.Bad
+      (after : List ℕ) → at < length input → StoredColumn input at m before after None → StoredColumns w input at m n before after None
   columns_bad after l h = (λ cs e q. by cs e, h.1)
     where
       by : (cs : List (List ℕ)) → columns_in (drop at input) ≡ some cs → 16384 < m + length (flatten cs)
       by [] e = absurd (columns_in_some (drop at input) (let k = length-drop at input in omega arith) e)
       by (c ∷ cs) e = let k = h.0 c cs e in let s = flatten_more c (c ∷ cs) cs refl in omega arith
 
-  module _ (middle : List ℕ) (e f : ℕ) (h : StoredColumn input at m before middle (column.Ends e f)) where
+  module _ (middle : List ℕ) (e f : ℕ) (h : StoredColumn input at m before middle (Some (record { end = e; filled = f }))) where
     size : f ≡ m + length h.costs
     size = h.stored.next
 
-    pub columns_unequal : (f - m ≡ w → ⊥) → StoredColumns w input at m n before middle columns.Bad
+    pub columns_unequal : (f - m ≡ w → ⊥) → StoredColumns w input at m n before middle None
     columns_unequal d = (
       (λ cs q t.
           let k = both_back h.costs (columns_in (drop e input)) cs (sym h.is ∙ q) in
@@ -185,10 +180,10 @@ module _ (w : ℕ) (input : List ℕ) (at m n : ℕ) (before : List ℕ) where
     )
 
     pub columns_more :
-        (after : List ℕ) (r : Columns) → f - m ≡ w → StoredColumns w input e f (n + 1) middle after r
+        (after : List ℕ) (r : Answer ℕ) → f - m ≡ w → StoredColumns w input e f (n + 1) middle after r
         → StoredColumns w input at m n before after r
     unfolding flatten both
-    columns_more after (columns.Count count) d s =
+    columns_more after (Some count) d s =
         let z = size in
         let k = s.counted in
         let r = s.room in
@@ -202,7 +197,7 @@ module _ (w : ℕ) (input : List ℕ) (at m n : ℕ) (before : List ℕ) where
           stored = record { next = refl; memory = t.memory };
           room = omega arith;
         }
-    columns_more after columns.Bad d s = (
+    columns_more after None d s = (
       (λ cs q t.
           let k = both_back h.costs (columns_in (drop e input)) cs (sym h.is ∙ q) in
           let u : wide w (h.costs ∷ k.0) ≡ true = rw k.2 at t in

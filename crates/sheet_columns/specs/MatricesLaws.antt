@@ -1,5 +1,5 @@
 -- What storing the whole matrix answers, a lemma for each return of `store_matrix`.
-use Rattle.std.specs.Prelude.{◌≡◌, refl, ℕ, ◌+◌, ◌<◌, ◌≤◌, length, drop, leb}
+use Rattle.std.specs.Prelude.{◌≡◌, refl, ℕ, ◌+◌, ◌<◌, ◌≤◌, length, drop, leb, Some, None}
 use Rattle.std.proofs.Math.Path.{sym, ap}
 use Rattle.std.proofs.Common.{◌∙◌, arith, length-drop, leb-true, le-leb}
 use Rattle.std.proofs.Math.Option.{some}
@@ -17,9 +17,6 @@ use Rattle.sheet_format.proofs.ColumnLinesLaws.{columns_in_end, columns_in_some}
 use Rattle.sheet_format.specs.ColumnLines.{columns_in}
 use Rattle.sheet_columns.specs.Storing.{StoredColumn, StoredColumns, wide}
 use Rattle.sheet_columns.specs.Loops.{spoilt_stored, both_back, flatten_more}
-use Rattle.sheet_columns.specs.declared.Column.TheVariants as column
-use Rattle.sheet_columns.specs.declared.Columns.TheVariants as columns
-use Rattle.sheet_columns.specs.declared.Body.TheVariants as body
 use Rattle.sheet_columns.specs.Matrices.{StoredMatrix}
 
 sets_written : (c m : List ℕ) → length c ≤ length m → sets m 0 c ≡ written c m
@@ -27,7 +24,7 @@ unfolding written
 sets_written c m l = let z : 0 + length c ≡ length c = omega arith in sets-eq c m 0 (omega arith) ∙ ap (λ k. c ++ drop k m) z
 
 module _ (if_none : ℕ) (input : List ℕ) (at : ℕ) (before : List ℕ) where
-  pub matrix_none : at ≡ length input → StoredMatrix if_none input at before before (body.Matrix if_none 0)
+  pub matrix_none : at ≡ length input → StoredMatrix if_none input at before before (Some (record { width = if_none; count = 0 }))
   unfolding flatten
   matrix_none l =
       record {
@@ -40,7 +37,7 @@ module _ (if_none : ℕ) (input : List ℕ) (at : ℕ) (before : List ℕ) where
       }
 
   pub matrix_bad :
-      (after : List ℕ) → at < length input → StoredColumn input at 0 before after column.Bad → StoredMatrix if_none input at before after body.Bad
+      (after : List ℕ) → at < length input → StoredColumn input at 0 before after None → StoredMatrix if_none input at before after None
   matrix_bad after l h = (by, h.1)
     where
       by : (cs : List (List ℕ)) → columns_in (drop at input) ≡ some cs → fitting cs ≡ true → ⊥
@@ -51,12 +48,12 @@ module _ (if_none : ℕ) (input : List ℕ) (at : ℕ) (before : List ℕ) where
           let r = leb-true (length (flatten (c ∷ cs))) 16384 (and_right (equal_columns (c ∷ cs)) (leb (length (flatten (c ∷ cs))) 16384) q) in
           omega arith
 
-  module _ (middle : List ℕ) (e w : ℕ) (h : StoredColumn input at 0 before middle (column.Ends e w)) where
+  module _ (middle : List ℕ) (e w : ℕ) (h : StoredColumn input at 0 before middle (Some (record { end = e; filled = w }))) where
     first : w ≡ length h.costs
     first = h.stored.next ∙ omega arith
 
     pub matrix_unequal :
-        (after : List ℕ) → StoredColumns w input e w 1 middle after columns.Bad → StoredMatrix if_none input at before after body.Bad
+        (after : List ℕ) → StoredColumns w input e w 1 middle after None → StoredMatrix if_none input at before after None
     matrix_unequal after s = (
       (λ cs q t.
           let k = both_back h.costs (columns_in (drop e input)) cs (sym h.is ∙ q) in
@@ -72,8 +69,8 @@ module _ (if_none : ℕ) (input : List ℕ) (at : ℕ) (before : List ℕ) where
     )
 
     pub matrix_is :
-        (after : List ℕ) (count : ℕ) → 16384 ≤ length before → StoredColumns w input e w 1 middle after (columns.Count count)
-        → StoredMatrix if_none input at before after (body.Matrix w count)
+        (after : List ℕ) (count : ℕ) → 16384 ≤ length before → StoredColumns w input e w 1 middle after (Some count)
+        → StoredMatrix if_none input at before after (Some (record { width = w; count = count }))
     unfolding flatten both
     matrix_is after count l s =
         let z = first in

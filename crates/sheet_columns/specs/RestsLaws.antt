@@ -1,6 +1,6 @@
 -- The columns from a place of the input on, by the cost at the place and the columns after its separator. Without a cost no column begins
 -- there.
-use Rattle.std.specs.Prelude.{◌≡◌, List, [], ◌∷◌, ◌++◌, true, ◌⊎◌, ℕ, ◌+◌, ◌-◌, ◌<◌, length, get_or, take, drop, eqb}
+use Rattle.std.specs.Prelude.{◌≡◌, List, [], ◌∷◌, ◌++◌, true, ◌⊎◌, ℕ, ◌+◌, ◌-◌, ◌<◌, length, get_or, take, drop, eqb, Some, None}
 use Rattle.std.proofs.Common.{sym, ap, ◌∙◌, inl, inr, ⊎_elim, arith, length-append, length-drop, get_or-drop, eqb-true, eq-eqb}
 use Rattle.std.proofs.Math.Option.{some}
 use Rattle.std.proofs.Math.Seq.{take-append_seam, get_or-append_seam}
@@ -17,7 +17,6 @@ use Rattle.text_lines.proofs.PlacesLaws.{part_rest}
 use Rattle.sheet_number.specs.Items.{separator, CostAt, ReadCost}
 use Rattle.sheet_number.specs.DigitsLaws.{digit_range, numeral_back}
 use Rattle.sheet_number.specs.CostsLaws.{cost_begins}
-use Rattle.sheet_number.specs.declared.Cost.TheVariants as cost
 
 digits_free : (c : ℕ) (p : List ℕ) → c < 48 → digits p ≡ true → Free c p
 digits_free c [] l h = tt
@@ -38,7 +37,7 @@ is_separator b (inl e) = or_left (eqb b 32) (eqb b 10) (eq-eqb b 32 e)
 is_separator b (inr e) = or_right (eqb b 32) (eqb b 10) (eq-eqb b 10 e)
 
 pub cost_columns :
-    (input : List ℕ) (at v e : ℕ) → ReadCost input at (cost.Is v e)
+    (input : List ℕ) (at v e : ℕ) → ReadCost input at (Some (record { value = v; end = e }))
     → columns_in (drop at input) ≡ put (some v) (get_or input e 0) (columns_in (drop (e + 1) input))
 cost_columns input at v e h =
     let f = cost_begins input at e v h in
@@ -69,5 +68,5 @@ first_cost input at f =
     }
 
 pub no_column :
-    (input : List ℕ) (at : ℕ) → ReadCost input at cost.Not → (c : List ℕ) (cs : List (List ℕ)) → columns_in (drop at input) ≡ some (c ∷ cs) → ⊥
+    (input : List ℕ) (at : ℕ) → ReadCost input at None → (c : List ℕ) (cs : List (List ℕ)) → columns_in (drop at input) ≡ some (c ∷ cs) → ⊥
 no_column input at n c cs e = let f = columns_in_back (drop at input) c cs e in n (at + length f.text) f.cost (first_cost input at f)

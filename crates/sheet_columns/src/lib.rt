@@ -5,88 +5,82 @@ ghost use Rattle.std.specs.Prelude.{◌≤◌, length};
 ghost use Rattle.sheet_columns.specs.Storing.{StoredColumn, StoredColumns};
 ghost use Rattle.sheet_columns.specs.Matrices.{StoredMatrix};
 
-use sheet_number::{Cost, read_cost};
+use sheet_number::read_cost;
 
 // The place after a column line, and how many costs are stored, its own included.
-#[derive(Drop)]
-enum Column {
-    Ends(usize, usize),
-    Bad,
-}
-
-// How many columns there are.
-#[derive(Drop)]
-enum Columns {
-    Count(usize),
-    Bad,
+#[derive(Clone, Copy)]
+struct Column {
+    end: usize,
+    filled: usize,
 }
 
 // Width and count of the matrix.
-#[derive(Drop)]
-pub enum Body {
-    Matrix(usize, usize),
-    Bad,
+#[derive(Clone, Copy)]
+pub struct Body {
+    pub width: usize,
+    pub count: usize,
 }
 
 // Stores the costs of the column line that begins at `at`, from place m of the memory on.
-fn store_column(input: &[u8], at: usize, costs: &mut [u32], m: usize) -> Column
+fn store_column(input: &[u8], at: usize, costs: &mut [u32], m: usize) -> Option<Column>
     requires { (at ≤ length input.now) × (m ≤ 16384) × (16384 ≤ length costs.old) }
     ensures { StoredColumn input.now at m costs.old costs.new result }
 {
-    let mut i = at;
-    let mut n = m;
+    let mut end = at;
+    let mut filled = m;
     loop {
-        let Cost::Is(v, end) = read_cost(input, i) else {
-            return Column::Bad;
-        };
-        if n == 16384 {
-            return Column::Bad;
+        let cost = read_cost(input, end)?;
+        if filled == 16384 {
+            return None;
         }
-        costs[n] = v;
-        n += 1;
-        i = end + 1;
-        if input[end] == b'\n' {
-            return Column::Ends(i, n);
+        costs[filled] = cost.value;
+        filled += 1;
+        end = cost.end + 1;
+        if input[cost.end] == b'\n' {
+            return Some(Column { end, filled });
         }
     }
 }
 
-// Stores the column lines after the first, which is stored already; each must have `width` costs too.
-fn store_columns(input: &[u8], at: usize, costs: &mut [u32], width: usize) -> Columns
+// Stores the column lines after the first, which is stored already; each must have `width` costs too. Answers how many columns there are.
+fn store_columns(input: &[u8], at: usize, costs: &mut [u32], width: usize) -> Option<usize>
     requires { (at ≤ length input.now) × (width ≤ 16384) × (16384 ≤ length costs.old) }
     ensures { StoredColumns width input.now at width 1 costs.old costs.new result }
 {
-    let mut i = at;
-    let mut m = width;
-    let mut n = 1;
-    while i < input.len() {
-        let Column::Ends(end, filled) = store_column(input, i, costs, m) else {
-            return Columns::Bad;
-        };
-        if filled - m != width {
-            return Columns::Bad;
+    let mut end = at;
+    let mut filled = width;
+    let mut count = 1;
+    while end < input.len() {
+        let column = store_column(input, end, costs, filled)?;
+        if column.filled - filled != width {
+            return None;
         }
-        i = end;
-        m = filled;
-        n += 1;
+        end = column.end;
+        filled = column.filled;
+        count += 1;
     }
-    Columns::Count(n)
+    Some(count)
 }
 
 // Stores all column lines; if there is none, the width is `width_if_none`. If they do not fit, the first 16,384 places of the memory may
 // hold anything.
-pub fn store_matrix(input: &[u8], at: usize, costs: &mut [u32], width_if_none: usize) -> Body
+pub fn store_matrix(
+    input: &[u8],
+    at: usize,
+    costs: &mut [u32],
+    width_if_none: usize,
+) -> Option<Body>
     requires { (at ≤ length input.now) × (16384 ≤ length costs.old) }
     ensures { StoredMatrix width_if_none input.now at costs.old costs.new result }
 {
     if at == input.len() {
-        return Body::Matrix(width_if_none, 0);
+        return Some(Body {
+            width: width_if_none,
+            count: 0,
+        });
     }
-    let Column::Ends(end, width) = store_column(input, at, costs, 0) else {
-        return Body::Bad;
-    };
-    let Columns::Count(n) = store_columns(input, end, costs, width) else {
-        return Body::Bad;
-    };
-    Body::Matrix(width, n)
+    let first = store_column(input, at, costs, 0)?;
+    let width = first.filled;
+    let count = store_columns(input, first.end, costs, width)?;
+    Some(Body { width, count })
 }

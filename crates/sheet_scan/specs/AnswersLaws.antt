@@ -1,9 +1,9 @@
 -- From the answer of `scan` to the sheet that the input is.
-use Rattle.std.specs.Prelude.{◌≡◌, refl, ℕ, length}
+use Rattle.std.specs.Prelude.{◌≡◌, refl, ℕ, length, Some}
 use Rattle.std.proofs.Math.Option.{Option, some, none}
 use Rattle.std.proofs.Common.{arith}
 use Rattle.sheet_format.specs.Sheet.{Sheet, matrix_of}
-use Rattle.sheet_scan.specs.declared.Scanned.TheVariants as scanned
+use Rattle.sheet_scan.specs.declared.Sheet.{Sheet as Sizes}
 use Rattle.sheet_scan.specs.Answers.{answer_of}
 
 -- an answer with numbers shows that there is a sheet, and that the numbers are those of its parts
@@ -15,6 +15,6 @@ pub record Answered (o : Option Sheet) (alphabet text width count : ℕ) : Type 
   pub is_width : width ≡ (matrix_of sheet).width
   pub is_count : count ≡ (matrix_of sheet).count
 
-pub answered : (o : Option Sheet) (a t w n : ℕ) → scanned.Sheet a t w n ≡ answer_of o → Answered o a t w n
-answered none a t w n e = let z : ◌≡◌ {A = ℕ} 0 1 = cc in absurd (omega arith)
-answered (some S) a t w n e = record { sheet = S; is = refl; is_alphabet = cc; is_text = cc; is_width = cc; is_count = cc }
+pub answered : (o : Option Sheet) (r : Sizes) → Some r ≡ answer_of o → Answered o r.alphabet r.text r.width r.count
+answered none r e = let z : ◌≡◌ {A = ℕ} 0 1 = cc in absurd (omega arith)
+answered (some S) r e = record { sheet = S; is = refl; is_alphabet = cc; is_text = cc; is_width = cc; is_count = cc }

@@ -1,5 +1,5 @@
 -- The sheet that an input is, by the ends of its first two lines and the columns after them: a lemma for each return of `scan`.
-use Rattle.std.specs.Prelude.{◌≡◌, ◌⊎◌, ℕ, ◌+◌, ◌-◌, ◌<◌, ◌≤◌, length, drop}
+use Rattle.std.specs.Prelude.{◌≡◌, ◌⊎◌, ℕ, ◌+◌, ◌-◌, ◌<◌, ◌≤◌, length, drop, Some, None}
 use Rattle.std.proofs.Math.Path.{refl, ap}
 use Rattle.std.proofs.Common.{sym, ◌∙◌, inl, inr, arith, le-leb}
 use Rattle.std.proofs.Math.Option.{Option, some, none}
@@ -16,9 +16,7 @@ use Rattle.sheet_format.specs.ColumnLines.{columns_of, columns_in}
 use Rattle.text_lines.specs.Places.{part, LineEnd}
 use Rattle.text_lines.proofs.PlacesLaws.{part_length, lines_at, line_unclosed, lines_past}
 use Rattle.sheet_columns.specs.Matrices.{StoredMatrix}
-use Rattle.sheet_columns.specs.declared.Body.TheVariants as body
 use Rattle.sheet_scan.specs.Answers.{answer_of, Scans}
-use Rattle.sheet_scan.specs.declared.Scanned.TheVariants as scanned
 
 -- the input ends, and no line is left
 lines_short :
@@ -30,7 +28,7 @@ lines_short input at e h l =
 
 -- No sheet.
 
-pub scans_bad : (input before after : List ℕ) → sheet_of input ≡ none → length after ≡ length before → Scans input before after scanned.Bad
+pub scans_bad : (input before after : List ℕ) → sheet_of input ≡ none → length after ≡ length before → Scans input before after None
 scans_bad input before after e n =
     record {
       answer = sym (ap answer_of e);
@@ -76,7 +74,7 @@ module _ (input : List ℕ) (l : length input ≤ most_bytes) where
           by (some ls) = refl
 
       module _ (before after : List ℕ) where
-        pub sheet_unfit : StoredMatrix (a + 1) input (e + 1) before after body.Bad → sheet_of input ≡ none
+        pub sheet_unfit : StoredMatrix (a + 1) input (e + 1) before after None → sheet_of input ≡ none
         unfolding laid provided
         sheet_unfit s = both_lines ∙ by (columns_in (drop (e + 1) input)) s.0
           where
@@ -86,7 +84,7 @@ module _ (input : List ℕ) (l : length input ≤ most_bytes) where
             by none s = refl
             by (some cs) s = ⊎_elim (λ t. absurd (s cs refl t)) (λ t. rw t) (true_or_false (fitting cs))
 
-        module _ (w n : ℕ) (s : StoredMatrix (a + 1) input (e + 1) before after (body.Matrix w n)) where
+        module _ (w n : ℕ) (s : StoredMatrix (a + 1) input (e + 1) before after (Some (record { width = w; count = n }))) where
           abbrev whole : Sheet
           whole = record { alphabet = part 0 a input; text = part (a + 1) e input; columns = s.columns }
 
@@ -94,7 +92,7 @@ module _ (input : List ℕ) (l : length input ≤ most_bytes) where
           unfolding laid provided
           is_sheet = both_lines ∙ ap (laid (part 0 a input) (part (a + 1) e input)) s.are ∙ rw s.fits
 
-          pub scans_sheet : length after ≡ length before → Scans input before after (scanned.Sheet a (e - (a + 1)) w n)
+          pub scans_sheet : length after ≡ length before → Scans input before after (Some (record { alphabet = a; text = e - (a + 1); width = w; count = n }))
           scans_sheet size =
               let i : sheet_of input ≡ some whole = is_sheet in
               let p : length (part 0 a input) ≡ a = part_length input 0 a h.from h.within ∙ omega arith in

@@ -4,45 +4,40 @@
 ghost use Rattle.std.specs.Prelude.{◌≡◌, length};
 ghost use Rattle.sheet_scan.specs.Answers.{Scans};
 
-use sheet_columns::{Body, store_matrix};
+use sheet_columns::store_matrix;
 use text_lines::line_end;
 
 // The lengths of a sheet's first two lines, and its matrix's width and count.
-#[derive(Drop)]
-pub enum Scanned {
-    Sheet {
-        alphabet: usize,
-        text: usize,
-        width: usize,
-        count: usize,
-    },
-    Bad,
+#[derive(Clone, Copy)]
+pub struct Sheet {
+    pub alphabet: usize,
+    pub text: usize,
+    pub width: usize,
+    pub count: usize,
 }
 
 // Parses a sheet and stores its costs in the lent memory. For what is no sheet (refusal 18) that memory may hold anything afterwards.
-pub fn scan(input: &[u8], costs: &mut [u32]) -> Scanned
+pub fn scan(input: &[u8], costs: &mut [u32]) -> Option<Sheet>
     requires { length costs.old ≡ 16384 }
     ensures { Scans input.now costs.old costs.new result }
 {
     if 65535 < input.len() {
-        return Scanned::Bad;
+        return None;
     }
-    let a = line_end(input, 0);
-    if a == input.len() {
-        return Scanned::Bad;
+    let first = line_end(input, 0);
+    if first == input.len() {
+        return None;
     }
-    let second = a + 1;
-    let e = line_end(input, second);
-    if e == input.len() {
-        return Scanned::Bad;
+    let begin = first + 1;
+    let second = line_end(input, begin);
+    if second == input.len() {
+        return None;
     }
-    let Body::Matrix(width, count) = store_matrix(input, e + 1, costs, a + 1) else {
-        return Scanned::Bad;
-    };
-    Scanned::Sheet {
-        alphabet: a,
-        text: e - second,
-        width: width,
-        count: count,
-    }
+    let matrix = store_matrix(input, second + 1, costs, first + 1)?;
+    Some(Sheet {
+        alphabet: first,
+        text: second - begin,
+        width: matrix.width,
+        count: matrix.count,
+    })
 }

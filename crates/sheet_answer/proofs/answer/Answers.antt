@@ -32,64 +32,64 @@ pub overflow_add-begin : goal.overflow_add-begin
 overflow_add-begin c =
     let i = c.args.input.now in
     let left = c.scan.new.costs in
-    let s = c.in-Sheet in
-    let p = laid_out i lent left s.alphabet s.text s.width s.count (subst (Scans i lent left) s.is c.scan.ensures) in
+    let s = c.in-Some in
+    let p = laid_out i lent left s.sheet (subst (Scans i lent left) s.is c.scan.ensures) in
     omega arith
 
 pub overflow_add-end : goal.overflow_add-end
 overflow_add-end c =
     let i = c.args.input.now in
     let left = c.scan.new.costs in
-    let s = c.in-Sheet in
-    let p = laid_out i lent left s.alphabet s.text s.width s.count (subst (Scans i lent left) s.is c.scan.ensures) in
+    let s = c.in-Some in
+    let p = laid_out i lent left s.sheet (subst (Scans i lent left) s.is c.scan.ensures) in
     omega arith
 
 pub overflow_mul-size : goal.overflow_mul-size
 overflow_mul-size c =
     let i = c.args.input.now in
     let left = c.scan.new.costs in
-    let s = c.in-Sheet in
-    let p = laid_out i lent left s.alphabet s.text s.width s.count (subst (Scans i lent left) s.is c.scan.ensures) in
+    let s = c.in-Some in
+    let p = laid_out i lent left s.sheet (subst (Scans i lent left) s.is c.scan.ensures) in
     omega arith
 
 pub slice_bounds-answer_reading-end : goal.slice_bounds-answer_reading-end
 slice_bounds-answer_reading-end c =
     let i = c.args.input.now in
     let left = c.scan.new.costs in
-    let s = c.in-Sheet in
-    let p = laid_out i lent left s.alphabet s.text s.width s.count (subst (Scans i lent left) s.is c.scan.ensures) in
-    sym (length-take-le s.alphabet i (omega arith))
+    let s = c.in-Some in
+    let p = laid_out i lent left s.sheet (subst (Scans i lent left) s.is c.scan.ensures) in
+    sym (length-take-le s.sheet.alphabet i (omega arith))
 
 pub slice_bounds-answer_reading-end-2 : goal.slice_bounds-answer_reading-end-2
 slice_bounds-answer_reading-end-2 c =
     let i = c.args.input.now in
     let left = c.scan.new.costs in
-    let s = c.in-Sheet in
-    let p = laid_out i lent left s.alphabet s.text s.width s.count (subst (Scans i lent left) s.is c.scan.ensures) in
+    let s = c.in-Some in
+    let p = laid_out i lent left s.sheet (subst (Scans i lent left) s.is c.scan.ensures) in
     omega arith
 
 pub slice_bounds-costs-end : goal.slice_bounds-costs-end
 slice_bounds-costs-end c =
     let i = c.args.input.now in
     let left = c.scan.new.costs in
-    let s = c.in-Sheet in
-    (laid_out i lent left s.alphabet s.text s.width s.count (subst (Scans i lent left) s.is c.scan.ensures)).room
+    let s = c.in-Some in
+    (laid_out i lent left s.sheet (subst (Scans i lent left) s.is c.scan.ensures)).room
 
 pub slice_bounds-answer_reading-end-3 : goal.slice_bounds-answer_reading-end-3
 slice_bounds-answer_reading-end-3 c =
     let i = c.args.input.now in
     let left = c.scan.new.costs in
-    let s = c.in-Sheet in
-    let p = laid_out i lent left s.alphabet s.text s.width s.count (subst (Scans i lent left) s.is c.scan.ensures) in
-    sym (length-take-le (s.count * s.width) left p.room)
+    let s = c.in-Some in
+    let p = laid_out i lent left s.sheet (subst (Scans i lent left) s.is c.scan.ensures) in
+    sym (length-take-le (s.sheet.count * s.sheet.width) left p.room)
 
 pub returns : goal.returns
 returns c =
     let i = c.args.input.now in
     let left = c.scan.new.costs in
-    let s = c.in-Sheet in
-    let p = laid_out i lent left s.alphabet s.text s.width s.count (subst (Scans i lent left) s.is c.scan.ensures) in
+    let s = c.in-Some in
+    let p = laid_out i lent left s.sheet (subst (Scans i lent left) s.is c.scan.ensures) in
     answers_as
-    (PrintsReading (take s.alphabet i) (take (s.alphabet + 1 + s.text - (s.alphabet + 1)) (drop (s.alphabet + 1) i))
-    (matrix (take (s.count * s.width) left) s.width s.count)) (Prints i) c.args.out.now c.answer_reading.new.out c.answer_reading.result p.prints
+    (PrintsReading (take s.sheet.alphabet i) (take (s.sheet.alphabet + 1 + s.sheet.text - (s.sheet.alphabet + 1)) (drop (s.sheet.alphabet + 1) i))
+    (matrix (take (s.sheet.count * s.sheet.width) left) s.sheet.width s.sheet.count)) (Prints i) c.args.out.now c.answer_reading.new.out c.answer_reading.result p.prints
     c.answer_reading.ensures

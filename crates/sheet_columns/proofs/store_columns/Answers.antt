@@ -1,29 +1,30 @@
--- `sheet_columns::store_columns` meets its contract: its answer from place i on, with the columns so far, is its answer from the start.
-use Rattle.std.proofs.Common.{◌∙◌, arith}
-use Rattle.sheet_columns.specs.declared.Columns.TheVariants.{Count, Bad}
+-- `sheet_columns::store_columns` meets its contract: its answer from the place `end` on, with the columns so far, is its answer from the start.
+use Rattle.std.proofs.Common.{◌∙◌, None, Some, arith}
 use Rattle.sheet_columns.specs.Loops.{columns_end, columns_bad, columns_unequal, columns_more}
 use Rattle.sheet_columns.proofs.store_columns.Goals as goal
 
-pub returns-in_default : goal.returns-in_default
-returns-in_default c =
-    let l = c.loop-i in
+pub returns-in_err-column : goal.returns-in_err-column
+returns-in_err-column c =
+    let l = c.loop-end in
     let after = c.store_column.new.costs in
-    l.invariant.4 after Bad
-    (columns_bad c.args.width c.args.input.now l.i l.m l.n l.costs after c.loop-i-test.true c.in_default.ensures)
+    rw c.from_residual.ensures
+    (l.invariant.4 after None
+    (columns_bad c.args.width c.args.input.now l.end l.filled l.count l.costs after c.loop-end-test.true c.in_err-column.ensures))
 
-pub returns-then-filled-m : goal.returns-then-filled-m
-returns-then-filled-m c =
-    let l = c.loop-i in
+pub returns-then-column-filled : goal.returns-then-column-filled
+returns-then-column-filled c =
+    let l = c.loop-end in
     let after = c.store_column.new.costs in
-    let g = c.in-Ends in
-    l.invariant.4 after Bad
-    (columns_unequal c.args.width c.args.input.now l.i l.m l.n l.costs after g.end g.filled g.ensures c.if-filled-m.true)
+    let g = c.in_ok-column in
+    l.invariant.4 after None
+    (columns_unequal c.args.width c.args.input.now l.end l.filled l.count l.costs after g.column.end g.column.filled g.ensures
+    (λ q. omega arith))
 
-pub loop-i-preserved : goal.loop-i-preserved
-loop-i-preserved c =
-    let l = c.loop-i in
+pub loop-end-preserved : goal.loop-end-preserved
+loop-end-preserved c =
+    let l = c.loop-end in
     let s = c.store_column in
-    let g = c.in-Ends in
+    let g = c.in_ok-column in
     let h = g.ensures in
     let few = l.invariant.2 in
     let one = h.some_cost in (
@@ -33,11 +34,12 @@ loop-i-preserved c =
       s.auto.costs ∙ l.invariant.3,
       λ after r k.
           l.invariant.4 after r
-          (columns_more c.args.width c.args.input.now l.i l.m l.n l.costs s.new.costs g.end g.filled h after r c.if-filled-m.false k),
+          (columns_more c.args.width c.args.input.now l.end l.filled l.count l.costs s.new.costs g.column.end g.column.filled h after r
+          (omega arith) k),
     )
 
 pub returns : goal.returns
 returns c =
-    let l = c.loop-i in
-    l.invariant.4 l.costs (Count l.n)
-    (columns_end c.args.width c.args.input.now l.i l.m l.n l.costs c.loop-i-test.false l.invariant.1)
+    let l = c.loop-end in
+    l.invariant.4 l.costs (Some l.count)
+    (columns_end c.args.width c.args.input.now l.end l.filled l.count l.costs c.loop-end-test.false l.invariant.1)
