@@ -1,18 +1,17 @@
 -- What the functions that find a set answer, by the definitions of `regex`.
 use Rattle.std.proofs.Math.Option.{Option, some, none}
-use Rattle.std.specs.Prelude.{List, [], Bool, true, false, cond, ℕ, ◌+◌, length, get_or, drop, eqb, ltb}
+use Rattle.std.specs.Prelude.{List, [], Bool, true, false, cond, ℕ, ◌+◌, length, get_or, drop, eqb, ltb, Result, Ok, Err}
 use Prim.Native.Char.{code}
 use Rattle.text.specs.Places.{place}
 use Rattle.regex_tree.specs.Tree.{Set, only}
 use Rattle.regex_tree.specs.Parsing.{Parsing, found, fault}
 use Rattle.regex_tree.specs.Sets.{Sign, Item, members, bracket}
-use Rattle.regex_bracket.specs.declared.End.{End}
-use Rattle.regex_bracket.specs.declared.End.TheVariants as end
+use Rattle.refusal.specs.declared.Refusal.{Refusal}
 
 -- where what was found in the text ends, or the refusal
-abbrev pub end_of : {X : Type 0} → List ℕ → Parsing X → End
-end_of text (found a r) = end.At (place text r)
-end_of text (fault n r) = end.Refused n
+abbrev pub end_of : {X : Type 0} → List ℕ → Parsing X → Result ℕ Refusal
+end_of text (found a r) = Ok (place text r)
+end_of text (fault n r) = Err n
 
 -- whether something was found, and the set that was
 abbrev pub is_found : {X : Type 0} → Parsing X → Bool

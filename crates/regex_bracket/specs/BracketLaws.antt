@@ -21,7 +21,7 @@ use Rattle.regex_tree.specs.Sets.{Sign, closed, sign_bytes, reserved, Item, item
 use Rattle.regex_signs.specs.Signs.{signs}
 use Rattle.regex_items.specs.Items.{Closing, left, resolved}
 use Rattle.regex_items.specs.LeftLoops.{left_first, closing_first}
-use Rattle.regex_bracket.specs.declared.End.TheVariants as end
+use Rattle.std.specs.Prelude.{Ok, Err}
 use Rattle.regex_bracket.specs.Answers.{end_of, set_of, is_found, opened, after, beyond, formed, bracket_at}
 
 pub opened_except : (text : List ℕ) (at : ℕ) → get_or text (at + 1) 0 ≡ code "^" → at + 2 ≡ opened text at
@@ -110,7 +110,7 @@ module _ (text : List ℕ) (at first : ℕ) (opens : first ≡ opened text at) w
       by none e = result_open which start
       by (some x) e = result_spoilt which start x.0 x.1 e
 
-  pub bracket_spoilt : is_some (formed its_closed) ≡ false → end.Refused refusal.Bracket ≡ end_of text (bracket_at text at)
+  pub bracket_spoilt : is_some (formed its_closed) ≡ false → Err refusal.Bracket ≡ end_of text (bracket_at text at)
   bracket_spoilt h = sym (ap (end_of text) (spoilt_fault h))
 
   -- The bracket is closed, and its items are well formed.
@@ -182,11 +182,11 @@ module _ (text : List ℕ) (at first : ℕ) (opens : first ≡ opened text at) w
       unfolding beyond
       after_is = let l = bracket_end in sym is ∙ rw (lt-ltb e (length text) (omega arith))
 
-      pub bracket_unknown : is_some (resolved (left text first first)) ≡ false → end.Refused refusal.ClassName ≡ end_of text (bracket_at text at)
+      pub bracket_unknown : is_some (resolved (left text first first)) ≡ false → Err refusal.ClassName ≡ end_of text (bracket_at text at)
       bracket_unknown h = sym (ap (end_of text) (unknown_fault (drop (e + 1) text) after_is h))
 
-      pub bracket_ends : is_some (resolved (left text first first)) ≡ true → end.At (e + 1) ≡ end_of text (bracket_at text at)
-      bracket_ends h = ap end.At (sym (place_drop text (e + 1) bracket_end)) ∙ sym (ap (end_of text) (known_set (drop (e + 1) text) after_is h))
+      pub bracket_ends : is_some (resolved (left text first first)) ≡ true → Ok (e + 1) ≡ end_of text (bracket_at text at)
+      bracket_ends h = ap Ok (sym (place_drop text (e + 1) bracket_end)) ∙ sym (ap (end_of text) (known_set (drop (e + 1) text) after_is h))
 
   -- A set was found: the bracket is well formed, each class is known, and the members are those of its items.
   module _ (good : is_found (bracket_at text at) ≡ true) where

@@ -12,13 +12,6 @@ use regex_items::{are_items, are_known, has, is_reserved};
 use regex_signs::{closes, sign_end};
 use text::peek;
 
-// Where a set ends, or why it is turned away.
-#[derive(Drop)]
-pub enum End {
-    At(usize),
-    Refused(Refusal),
-}
-
 // Where the first sign inside a bracket is: after `[` or `[^`.
 fn opening(text: &[u8], at: usize) -> usize
     requires { at < length text.now }
@@ -58,20 +51,20 @@ fn is_well_formed(text: &[u8], first: usize, e: usize) -> bool
     are_items(text, first)
 }
 
-// Where the bracket that begins here ends.
-pub fn bracket_end(text: &[u8], at: usize) -> End
+// Where the bracket that begins here ends, or why it is turned away.
+pub fn bracket_end(text: &[u8], at: usize) -> Result<usize, Refusal>
     requires { at < length text.now }
     ensures { result ≡ end_of text.now (bracket_at text.now at) }
 {
     let first = opening(text, at);
     let e = closing(text, first);
     if !is_well_formed(text, first, e) {
-        return End::Refused(Refusal::Bracket);
+        return Err(Refusal::Bracket);
     }
     if are_known(text, first) {
-        return End::At(e + 1);
+        return Ok(e + 1);
     }
-    End::Refused(Refusal::ClassName)
+    Err(Refusal::ClassName)
 }
 
 // Is the byte a member of the bracket that begins here?

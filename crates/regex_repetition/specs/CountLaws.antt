@@ -10,31 +10,32 @@ use Rattle.std.proofs.Math.ListN.{drop}
 use borrow.Author.Tests.{le-leb, lt-leb, leb-true}
 use Rattle.lists.proofs.EachLaws.{drop_here, drop_all}
 use Rattle.lists.proofs.OrderLaws.{and_right, and_both}
+use Rattle.refusal.specs.declared.Refusal.{Refusal}
 use Rattle.refusal.specs.declared.Refusal.TheVariants as refusal
-use Rattle.regex_tree.specs.Tree.{between}
+use Rattle.regex_tree.specs.Tree.{between, onward}
 use Rattle.text.specs.Text.{split}
 use Rattle.text.specs.Places.{until}
 use Rattle.lists.specs.Cases.{provided}
 use Rattle.regex_tree.specs.Repetition.{number, from_on, from_to, comma, counts}
 use Rattle.text.specs.Digits.{digits, value}
 use Rattle.text.proofs.TextLaws.{split_found, split_missing}
-use Rattle.regex_repetition.specs.declared.Repeats.TheVariants as repeats
-use Rattle.regex_repetition.specs.Answers.{number_or, ranged, counted}
+use Rattle.std.specs.Prelude.{Some, None, Ok, Err}
+use Rattle.regex_repetition.specs.Answers.{several, number_found, ranged, counted}
 
 module _ (n m e : ℕ) where
-  pub ranged_order : m < n → repeats.Refused refusal.Count ≡ ranged n m e
+  pub ranged_order : m < n → Err refusal.Count ≡ ranged n m e
   unfolding ranged
   ranged_order l = rw (lt-leb n m l)
 
-  pub ranged_none : m < 1 → repeats.Refused refusal.Count ≡ ranged n m e
+  pub ranged_none : m < 1 → Err refusal.Count ≡ ranged n m e
   unfolding ranged
   ranged_none l = rw (lt-leb 1 m l, and-false)
 
-  pub ranged_much : 255 < m → repeats.Refused refusal.Count ≡ ranged n m e
+  pub ranged_much : 255 < m → Err refusal.Count ≡ ranged n m e
   unfolding ranged
   ranged_much l = rw (lt-leb m 255 l, and-false)
 
-  pub ranged_is : n ≤ m → 1 ≤ m → m ≤ 255 → repeats.Between n m e ≡ ranged n m e
+  pub ranged_is : n ≤ m → 1 ≤ m → m ≤ 255 → Ok (several n (Some m) e) ≡ ranged n m e
   unfolding ranged
   ranged_is a b c = rw (le-leb n m a, le-leb 1 m b, le-leb m 255 c)
 
@@ -46,9 +47,9 @@ value_most n (b ∷ s) = let h = value_most (10 * n + (b - code "0")) s in omega
 abbrev in_range : List ℕ → Bool
 in_range s = digits s && leb 1 (length s) && leb (length s) 3 && leb (value 0 s) 255
 
-not_in_range : (s : List ℕ) → in_range s ≡ false → 256 ≡ number_or (number s)
+not_in_range : (s : List ℕ) → in_range s ≡ false → Err refusal.Count ≡ number_found (number s)
 unfolding number provided
-not_in_range s e = sym (ap (λ t. number_or (provided t (some (value 0 s)))) e)
+not_in_range s e = sym (ap (λ t. number_found (provided t (some (value 0 s)))) e)
 
 -- what is left of the digits at index i, after those that make n
 pub record Digits (s : List ℕ) (i n : ℕ) : Type 0 where
@@ -58,10 +59,10 @@ pub record Digits (s : List ℕ) (i n : ℕ) : Type 0 where
   pub goes_on : value n (drop i s) ≡ value 0 s
 
 module _ (s : List ℕ) where
-  pub number_empty : length s < 1 → 256 ≡ number_or (number s)
+  pub number_empty : length s < 1 → Err refusal.Count ≡ number_found (number s)
   number_empty l = not_in_range s (rw (lt-leb 1 (length s) l, and-false))
 
-  pub number_long : 3 < length s → 256 ≡ number_or (number s)
+  pub number_long : 3 < length s → Err refusal.Count ≡ number_found (number s)
   number_long l = not_in_range s (rw (lt-leb (length s) 3 l, and-false))
 
   pub digits_none : Digits s 0 0
@@ -74,16 +75,16 @@ module _ (s : List ℕ) where
     digit_decides : digits s ≡ (digit && digits (drop (i + 1) s))
     digit_decides = sym h.decides ∙ ap digits (drop_here 0 s i l)
 
-    no_digit : digit ≡ false → 256 ≡ number_or (number s)
+    no_digit : digit ≡ false → Err refusal.Count ≡ number_found (number s)
     no_digit e = let q : digits s ≡ false = digit_decides ∙ ap (λ t. t && digits (drop (i + 1) s)) e in not_in_range s (rw q)
 
-    pub number_low : get_or s i 0 < 48 → 256 ≡ number_or (number s)
+    pub number_low : get_or s i 0 < 48 → Err refusal.Count ≡ number_found (number s)
     number_low k = no_digit (rw (lt-leb 48 (get_or s i 0) k))
 
-    pub number_high : 57 < get_or s i 0 → 256 ≡ number_or (number s)
+    pub number_high : 57 < get_or s i 0 → Err refusal.Count ≡ number_found (number s)
     number_high k = no_digit (rw (lt-leb (get_or s i 0) 57 k, and-false))
 
-    pub number_much : 255 < 10 * n + (get_or s i 0 - 48) → 256 ≡ number_or (number s)
+    pub number_much : 255 < 10 * n + (get_or s i 0 - 48) → Err refusal.Count ≡ number_found (number s)
     number_much k =
         let q : value 0 s ≡ value (10 * n + (get_or s i 0 - 48)) (drop (i + 1) s) = sym h.goes_on ∙ ap (value n) (drop_here 0 s i l) in
         let m = value_most (10 * n + (get_or s i 0 - 48)) (drop (i + 1) s) in
@@ -100,14 +101,14 @@ module _ (s : List ℕ) where
         }
 
   pub number_is :
-      (i n : ℕ) → Digits s i n → length s ≤ i → 1 ≤ length s → length s ≤ 3 → n ≡ number_or (number s)
+      (i n : ℕ) → Digits s i n → length s ≤ i → 1 ≤ length s → length s ≤ 3 → Ok n ≡ number_found (number s)
   unfolding number provided
   number_is i n h l a b =
       let d : digits s ≡ true = sym h.decides ∙ ap digits (drop_all s i l) in
       let v : n ≡ value 0 s = sym (ap (value n) (drop_all s i l)) ∙ h.goes_on in
       let k = h.small in
       let e : in_range s ≡ true = rw (d, le-leb 1 (length s) a, le-leb (length s) 3 b, le-leb (value 0 s) 255 (omega arith)) in
-      v ∙ sym (ap (λ t. number_or (provided t (some (value 0 s)))) e)
+      ap Ok v ∙ sym (ap (λ t. number_found (provided t (some (value 0 s)))) e)
 
 -- at most 255
 abbrev Small : Option ℕ → Type 0
@@ -122,14 +123,26 @@ number_small s = by (in_range s) refl
     by true e = leb-true (value 0 s) 255 (and_right (digits s && leb 1 (length s) && leb (length s) 3) (leb (value 0 s) 255) e)
     by false e = tt
 
-ranged_counted : (x y : Option ℕ) (e : ℕ) → Small x → Small y → ranged (number_or x) (number_or y) e ≡ counted (from_to x y) e
-unfolding ranged from_to provided
-ranged_counted none none e a b = refl
-ranged_counted none (some m) e a b = rw (lt-leb 256 m (omega arith))
-ranged_counted (some n) none e a b = rw and-false
-ranged_counted (some n) (some m) e a b = rw (le-leb m 255 b, and-true) (by (leb n m && leb 1 m))
+pub number_most : (s : List ℕ) (n : ℕ) → Ok n ≡ number_found (number s) → n ≤ 255
+number_most s n h = by (number s) (number_small s) h
   where
-    by : (t : Bool) → cond t (repeats.Between n m e) (repeats.Refused refusal.Count) ≡ counted (provided t (some (between n m))) e
+    by : (x : Option ℕ) → Small x → Ok n ≡ number_found x → n ≤ 255
+    by none l q = absurd (cc)
+    by (some m) l q = let e : n ≡ m = cc in omega arith
+
+number_is_some : (x : Option ℕ) (n : ℕ) → Ok n ≡ number_found x → x ≡ some n
+number_is_some none n q = cc
+number_is_some (some m) n q = let e : n ≡ m = cc in ap some (sym e)
+
+number_is_none : (x : Option ℕ) (r : Refusal) → Err r ≡ number_found x → (x ≡ none) × (r ≡ refusal.Count)
+number_is_none none r q = (refl, cc)
+number_is_none (some m) r q = absurd (cc)
+
+ranged_counted : (n m e : ℕ) → m ≤ 255 → ranged n m e ≡ counted (from_to (some n) (some m)) e
+unfolding ranged from_to provided
+ranged_counted n m e b = rw (le-leb m 255 b, and-true) (by (leb n m && leb 1 m))
+  where
+    by : (t : Bool) → cond t (Ok (several n (Some m) e)) (Err refusal.Count) ≡ counted (provided t (some (between n m))) e
     by true = refl
     by false = refl
 
@@ -145,13 +158,21 @@ comma_last n [] h = refl
 comma_last n (b ∷ m) h = absurd (omega arith)
 
 module _ (inside : List ℕ) (e k : ℕ) (is : k ≡ 0 + until (code ",") inside) where
-  pub counts_one : (n : ℕ) → length inside ≤ k → n ≡ number_or (number inside) → ranged n n e ≡ counted (counts inside) e
-  unfolding counts
-  counts_one n l q =
-      let s : split "," inside ≡ none = split_missing "," inside 0 k is (omega arith) l in
-      let c : counts inside ≡ from_to (number inside) (number inside) = rw (s, counts) in
-      ap (λ i. ranged i i e) q ∙ ranged_counted (number inside) (number inside) e (number_small inside) (number_small inside)
-      ∙ sym (ap (λ x. counted x e) c)
+  module _ (l : length inside ≤ k) where
+    counts_alone : counts inside ≡ from_to (number inside) (number inside)
+    unfolding counts
+    counts_alone = let s : split "," inside ≡ none = split_missing "," inside 0 k is (omega arith) l in rw (s, counts)
+
+    pub counts_one : (n : ℕ) → Ok n ≡ number_found (number inside) → ranged n n e ≡ counted (counts inside) e
+    counts_one n q =
+        ranged_counted n n e (number_most inside n q) ∙ ap (λ x. counted x e) (sym (counts_alone ∙ rw (number_is_some (number inside) n q)))
+
+    pub counts_no_number : (r : Refusal) → Err r ≡ number_found (number inside) → Err r ≡ counted (counts inside) e
+    unfolding from_to
+    counts_no_number r q =
+        let z = number_is_none (number inside) r q in
+        let k : from_to (number inside) (number inside) ≡ none = rw z.0 in
+        ap Err z.1 ∙ ap (λ x. counted x e) (sym (counts_alone ∙ k))
 
   module _ (l : k < length inside) where
     counts_comma : counts inside ≡ comma (take k inside) (drop (k + 1) inside)
@@ -161,30 +182,37 @@ module _ (inside : List ℕ) (e k : ℕ) (is : k ≡ 0 + until (code ",") inside
         let z : k - 0 ≡ k = omega arith in
         rw (s, counts) (rw z)
 
-    pub counts_two :
-        (n m : ℕ) → n ≡ number_or (number (take k inside)) → m ≡ number_or (number (drop (k + 1) inside)) → (length (drop (k + 1) inside) ≡ 0 → ⊥) →
-        ranged n m e ≡ counted (counts inside) e
-    counts_two n m p q h =
-        ap₂ (λ i j. ranged i j e) p q
-        ∙ ranged_counted (number (take k inside)) (number (drop (k + 1) inside)) e (number_small (take k inside)) (number_small (drop (k + 1) inside))
-        ∙ ap (λ x. counted x e) (sym (counts_comma ∙ comma_more (take k inside) (drop (k + 1) inside) h))
+    -- no number before the comma
+    pub counts_bad : (r : Refusal) → Err r ≡ number_found (number (take k inside)) → Err r ≡ counted (counts inside) e
+    unfolding from_on from_to comma
+    counts_bad r q = ap Err z.1 ∙ ap (λ x. counted x e) (sym (counts_comma ∙ by (drop (k + 1) inside)))
+      where
+        z : (number (take k inside) ≡ none) × (r ≡ refusal.Count)
+        z = number_is_none (number (take k inside)) r q
 
-    module _ (n : ℕ) (p : n ≡ number_or (number (take k inside))) (h : length (drop (k + 1) inside) ≡ 0) where
-      from : counts inside ≡ from_on (number (take k inside))
-      from = counts_comma ∙ comma_last (take k inside) (drop (k + 1) inside) h
+        by : (m : List ℕ) → comma (take k inside) m ≡ none
+        by [] = rw z.0
+        by (b ∷ m) = rw z.0
 
-      pub counts_onward : n ≤ 255 → repeats.Onward n e ≡ counted (counts inside) e
+    module _ (n : ℕ) (p : Ok n ≡ number_found (number (take k inside))) where
+      module _ (h : length (drop (k + 1) inside) ≡ 0 → ⊥) where
+        two : counts inside ≡ from_to (some n) (number (drop (k + 1) inside))
+        two = counts_comma ∙ comma_more (take k inside) (drop (k + 1) inside) h ∙ rw (number_is_some (number (take k inside)) n p)
+
+        pub counts_two : (m : ℕ) → Ok m ≡ number_found (number (drop (k + 1) inside)) → ranged n m e ≡ counted (counts inside) e
+        counts_two m q =
+            ranged_counted n m e (number_most (drop (k + 1) inside) m q)
+            ∙ ap (λ x. counted x e) (sym (two ∙ rw (number_is_some (number (drop (k + 1) inside)) m q)))
+
+        pub counts_no_most : (r : Refusal) → Err r ≡ number_found (number (drop (k + 1) inside)) → Err r ≡ counted (counts inside) e
+        unfolding from_to
+        counts_no_most r q =
+            let z = number_is_none (number (drop (k + 1) inside)) r q in
+            let f : from_to (some n) (number (drop (k + 1) inside)) ≡ none = rw z.0 in
+            ap Err z.1 ∙ ap (λ x. counted x e) (sym (two ∙ f))
+
+      pub counts_onward : length (drop (k + 1) inside) ≡ 0 → Ok (several n None e) ≡ counted (counts inside) e
       unfolding from_on
-      counts_onward l = by (number (take k inside)) p ∙ ap (λ x. counted x e) (sym from)
-        where
-          by : (x : Option ℕ) → n ≡ number_or x → repeats.Onward n e ≡ counted (from_on x) e
-          by none q = absurd (omega arith)
-          by (some i) q = ap (λ i. repeats.Onward i e) q
-
-      pub counts_bad : 255 < n → repeats.Refused refusal.Count ≡ counted (counts inside) e
-      unfolding from_on
-      counts_bad l = by (number (take k inside)) p (number_small (take k inside)) ∙ ap (λ x. counted x e) (sym from)
-        where
-          by : (x : Option ℕ) → n ≡ number_or x → Small x → repeats.Refused refusal.Count ≡ counted (from_on x) e
-          by none q s = refl
-          by (some i) q s = absurd (omega arith)
+      counts_onward h =
+          let f : from_on (number (take k inside)) ≡ some (onward n) = rw (number_is_some (number (take k inside)) n p) in
+          ap (λ x. counted x e) (sym (counts_comma ∙ comma_last (take k inside) (drop (k + 1) inside) h ∙ f))

@@ -20,12 +20,13 @@ use Rattle.lists.specs.Cases.{first_of}
 use Rattle.regex_tree.specs.Repetition.{counts, sign, repetition}
 use Rattle.regex_tree.proofs.SaysLaws.{Says, first_says, enclosed_says}
 use Rattle.text.proofs.TextLaws.{split_found, split_missing, byte_within, next_at, rest_at, place_drop}
-use Rattle.regex_repetition.specs.declared.Repeats.TheVariants as repeats
-use Rattle.regex_repetition.specs.Answers.{times, repeats_of, counted, braced, modified}
+use Rattle.std.specs.Prelude.{Some, None, Result, Ok, Err}
+use Rattle.regex_repetition.specs.declared.Repeats.{Repeats}
+use Rattle.regex_repetition.specs.Answers.{several, times, repeats_of, counted, braced, modified}
 use Rattle.lists.proofs.CasesLaws.{fourth}
 
 module _ (text : List ℕ) (at e : ℕ) (is : e ≡ at + 1 + until (code "}") (drop (at + 1) text)) (l : at < length text) where
-  pub braces_unclosed : length text ≤ e → repeats.Refused refusal.Count ≡ braced text at
+  pub braces_unclosed : length text ≤ e → Err refusal.Count ≡ braced text at
   unfolding braced enclosed
   braces_unclosed h = rw (braced, split_missing "}" text (at + 1) e is (omega arith) h)
 
@@ -48,15 +49,15 @@ module _ (text : List ℕ) (at : ℕ) where
   one_byte c l = ap (times c) (sym (place_drop text (at + 1) (omega arith)))
 
   module _ (l : at < length text) where
-    pub sign_star : get_or text at 0 ≡ code "*" → repeats.Onward 0 (at + 1) ≡ repeats_of text (sign (drop at text))
+    pub sign_star : get_or text at 0 ≡ code "*" → Ok (several 0 None (at + 1)) ≡ repeats_of text (sign (drop at text))
     unfolding sign first_of
     sign_star e = one_byte (onward 0) l ∙ rw (drop_here 0 text at l, e)
 
-    pub sign_plus : get_or text at 0 ≡ code "+" → repeats.Onward 1 (at + 1) ≡ repeats_of text (sign (drop at text))
+    pub sign_plus : get_or text at 0 ≡ code "+" → Ok (several 1 None (at + 1)) ≡ repeats_of text (sign (drop at text))
     unfolding sign first_of
     sign_plus e = one_byte (onward 1) l ∙ rw (drop_here 0 text at l, e)
 
-    pub sign_optional : get_or text at 0 ≡ code "?" → repeats.Between 0 1 (at + 1) ≡ repeats_of text (sign (drop at text))
+    pub sign_optional : get_or text at 0 ≡ code "?" → Ok (several 0 (Some 1) (at + 1)) ≡ repeats_of text (sign (drop at text))
     unfolding sign first_of
     sign_optional e = one_byte (between 0 1) l ∙ rw (drop_here 0 text at l, e)
 
@@ -66,11 +67,11 @@ module _ (text : List ℕ) (at : ℕ) where
 
   pub sign_none :
       (get_or text at 0 ≡ code "*" → ⊥) → (get_or text at 0 ≡ code "+" → ⊥) → (get_or text at 0 ≡ code "?" → ⊥) → (get_or text at 0 ≡ code "{" → ⊥) →
-      repeats.Refused refusal.MisplacedSign ≡ repeats_of text (sign (drop at text))
+      Err refusal.MisplacedSign ≡ repeats_of text (sign (drop at text))
   unfolding sign
   sign_none a b c d = by (lt_or_le at (length text))
     where
-      by : (at < length text) ⊎ (length text ≤ at) → repeats.Refused refusal.MisplacedSign ≡ repeats_of text (sign (drop at text))
+      by : (at < length text) ⊎ (length text ≤ at) → Err refusal.MisplacedSign ≡ repeats_of text (sign (drop at text))
       by (inl l) = sym (ap (repeats_of text)
           (ap sign (drop_here 0 text at l)
           ∙ fourth (eqb (get_or text at 0) (code "*")) (eqb (get_or text at 0) (code "+")) (eqb (get_or text at 0) (code "?")) (eqb (get_or text at 0) (code "{")) _ _ _ _ _
@@ -123,13 +124,24 @@ sign_rest text at = by (lt_or_le at (length text))
         (λ _. tt)))))
     by (inr l) = rw (drop_all text at l, sign) tt
 
-times_same : (c d : Count) (e k : ℕ) → times c e ≡ times d k → (c ≡ d) × (e ≡ k)
-times_same (between n m) (between i j) e k h = (cc, cc)
-times_same (between n m) (onward i) e k h = let z : ◌≡◌ {A = ℕ} 0 1 = cc in absurd (omega arith)
-times_same (onward n) (between i j) e k h = let z : ◌≡◌ {A = ℕ} 0 1 = cc in absurd (omega arith)
-times_same (onward n) (onward i) e k h = (cc, cc)
+repeats_in : Result Repeats Refusal → Repeats
+repeats_in (Ok r) = r
+repeats_in (Err n) = several 0 None 0
 
-times_refused : (c : Count) (e : ℕ) (n : Refusal) → times c e ≡ repeats.Refused n → ⊥
+times_same : (c d : Count) (e k : ℕ) → times c e ≡ times d k → (c ≡ d) × (e ≡ k)
+unfolding repeats_in
+times_same c d e k h = by c d (ap (λ x. (repeats_in x).least) h) (ap (λ x. (repeats_in x).most) h) (ap (λ x. (repeats_in x).end) h)
+  where
+    by :
+        (c d : Count) → (repeats_in (times c e)).least ≡ (repeats_in (times d k)).least →
+        (repeats_in (times c e)).most ≡ (repeats_in (times d k)).most → (repeats_in (times c e)).end ≡ (repeats_in (times d k)).end →
+        (c ≡ d) × (e ≡ k)
+    by (between n m) (between i j) p q r = (cc, r)
+    by (between n m) (onward i) p q r = absurd (cc)
+    by (onward n) (between i j) p q r = absurd (cc)
+    by (onward n) (onward i) p q r = (cc, r)
+
+times_refused : (c : Count) (e : ℕ) (n : Refusal) → times c e ≡ Err n → ⊥
 times_refused (between n m) e k h = let z : ◌≡◌ {A = ℕ} 0 1 = cc in omega arith
 times_refused (onward n) e k h = let z : ◌≡◌ {A = ℕ} 0 1 = cc in omega arith
 
@@ -155,11 +167,11 @@ module _ (text : List ℕ) (at : ℕ) where
       by false e = refl
 
   pub repetition_refused :
-      (n : Refusal) → repeats.Refused n ≡ repeats_of text (sign (drop at text)) → repeats.Refused n ≡ repeats_of text (repetition (drop at text))
+      (n : Refusal) → Err n ≡ repeats_of text (sign (drop at text)) → Err n ≡ repeats_of text (repetition (drop at text))
   unfolding repetition then
   repetition_refused n h = by (sign (drop at text)) h
     where
-      by : (x : Parsing Count) → repeats.Refused n ≡ repeats_of text x → repeats.Refused n ≡ repeats_of text (then x (λ c r. modifier (next "?" r) c r))
+      by : (x : Parsing Count) → Err n ≡ repeats_of text x → Err n ≡ repeats_of text (then x (λ c r. modifier (next "?" r) c r))
       by (found c r) h = absurd (times_refused c (place text r) n (sym h))
       by (fault m r) h = h
 
@@ -175,3 +187,20 @@ module _ (text : List ℕ) (at : ℕ) where
           let q = times_same c d e (place text r) h in
           ap₂ (λ i j. times i (modified text j)) q.0 q.1 ∙ after_modifier d r s
       by (fault n r) s h = absurd (times_refused c e n h)
+
+  pub repetition_found :
+      (d : Repeats) → Ok d ≡ repeats_of text (sign (drop at text)) →
+      Ok (several d.least d.most (modified text d.end)) ≡ repeats_of text (repetition (drop at text))
+  unfolding repetition then repeats_in
+  repetition_found d h = by (sign (drop at text)) (sign_rest text at) h
+    where
+      by :
+          (x : Parsing Count) → Says (Rest text) (λ n r. Unit {0}) x → Ok d ≡ repeats_of text x →
+          Ok (several d.least d.most (modified text d.end)) ≡ repeats_of text (then x (λ c r. modifier (next "?" r) c r))
+      by (found (between n m) r) s h =
+          let e : d ≡ several n (Some m) (place text r) = ap repeats_in h in
+          ap (λ d. Ok (several d.least d.most (modified text d.end))) e ∙ after_modifier (between n m) r s
+      by (found (onward n) r) s h =
+          let e : d ≡ several n None (place text r) = ap repeats_in h in
+          ap (λ d. Ok (several d.least d.most (modified text d.end))) e ∙ after_modifier (onward n) r s
+      by (fault n r) s h = absurd (cc)

@@ -1,121 +1,103 @@
 // The repetition at a place of a text (document 01, "Repetitions"): how many words it joins, and where it ends.
 #![tactic(auto)]
 
-ghost use Rattle.std.specs.Prelude.{◌≡◌, ◌+◌, ◌<◌, length, drop};
+ghost use Rattle.std.specs.Prelude.{◌≡◌, ◌+◌, ◌<◌, ◌≤◌, length, drop};
 ghost use Rattle.regex_tree.specs.Repetition.{number as number_of, counts as counts_of, sign as sign_of, repetition as repetition_of};
-ghost use Rattle.regex_repetition.specs.Answers.{repeats_of, number_or, ranged, counted, braced, modified};
+ghost use Rattle.regex_repetition.specs.Answers.{repeats_of, number_found, ranged, counted, braced, modified};
 
 use refusal::Refusal;
 use text::{find, peek};
 
-// A repetition: the least and the most words, or the least alone; then where it ends. Or why it is turned away.
-#[derive(Drop)]
-pub enum Repeats {
-    Between(usize, usize, usize),
-    Onward(usize, usize),
-    Refused(Refusal),
+// A repetition of at least `least` words, and at most `most` if there is a limit; it ends at `end`.
+#[derive(Clone, Copy)]
+pub struct Repeats {
+    pub least: usize,
+    pub most: Option<usize>,
+    pub end: usize,
 }
 
-// The number that these digits make, or 256 for none.
-fn number(digits: &[u8]) -> usize
-    ensures { result ≡ number_or (number_of digits.now) }
+// The number that these digits make: 1 to 3 digits, at most 255.
+#[tactic(auto, using(crate::specs::CountLaws::digits_none, crate::specs::CountLaws::digits_more, crate::specs::CountLaws::number_empty, crate::specs::CountLaws::number_long, crate::specs::CountLaws::number_low, crate::specs::CountLaws::number_high, crate::specs::CountLaws::number_much, crate::specs::CountLaws::number_is))]
+fn number(digits: &[u8]) -> Result<usize, Refusal>
+    ensures { result ≡ number_found (number_of digits.now) }
 {
-    if digits.len() < 1 {
-        return 256;
-    }
-    if 3 < digits.len() {
-        return 256;
+    if digits.is_empty() || 3 < digits.len() {
+        return Err(Refusal::Count);
     }
     let mut n = 0;
-    let mut i = 0;
-    while i < digits.len() {
-        let b = digits[i];
-        if b < b'0' {
-            return 256;
+    for &b in digits {
+        if !b.is_ascii_digit() {
+            return Err(Refusal::Count);
         }
-        if b'9' < b {
-            return 256;
-        }
-        n = 10 * n + (b - b'0') as usize;
+        n = 10 * n + usize::from(b - b'0');
         if 255 < n {
-            return 256;
+            return Err(Refusal::Count);
         }
-        i += 1;
     }
-    n
+    Ok(n)
 }
 
 // From n to m words; `end` is the place after the braces.
-fn range(n: usize, m: usize, end: usize) -> Repeats
+#[tactic(auto, using(crate::specs::CountLaws::ranged_order, crate::specs::CountLaws::ranged_none, crate::specs::CountLaws::ranged_is))]
+fn range(n: usize, m: usize, end: usize) -> Result<Repeats, Refusal>
+    requires { m ≤ 255 }
     ensures { result ≡ ranged n m end }
 {
-    if m < n {
-        return Repeats::Refused(Refusal::Count);
+    if m < n || m < 1 {
+        return Err(Refusal::Count);
     }
-    if m < 1 {
-        return Repeats::Refused(Refusal::Count);
-    }
-    if 255 < m {
-        return Repeats::Refused(Refusal::Count);
-    }
-    Repeats::Between(n, m, end)
+    Ok(Repeats { least: n, most: Some(m), end })
 }
 
 // The count inside the braces; `end` is the place after them.
-fn counts(inside: &[u8], end: usize) -> Repeats
+#[tactic(auto, using(crate::specs::CountLaws::number_most, crate::specs::CountLaws::counts_one, crate::specs::CountLaws::counts_no_number, crate::specs::CountLaws::counts_bad, crate::specs::CountLaws::counts_two, crate::specs::CountLaws::counts_no_most, crate::specs::CountLaws::counts_onward))]
+fn counts(inside: &[u8], end: usize) -> Result<Repeats, Refusal>
     ensures { result ≡ counted (counts_of inside.now) end }
 {
     let comma = find(inside, 0, b',');
     if inside.len() <= comma {
-        let n = number(inside);
+        let n = number(inside)?;
         return range(n, n, end);
     }
-    let n = number(&inside[..comma]);
-    let beyond = comma + 1;
-    let m = &inside[beyond..];
-    if m.len() != 0 {
-        return range(n, number(m), end);
+    let least = number(&inside[..comma])?;
+    let rest = &inside[comma + 1..];
+    if rest.is_empty() {
+        return Ok(Repeats { least, most: None, end });
     }
-    if 255 < n {
-        return Repeats::Refused(Refusal::Count);
-    }
-    Repeats::Onward(n, end)
+    let most = number(rest)?;
+    range(least, most, end)
 }
 
 // The repetition in braces that begins here.
-fn braces(text: &[u8], at: usize) -> Repeats
+#[tactic(auto, using(crate::specs::SignLaws::braces_unclosed, crate::specs::SignLaws::braces_closed))]
+fn braces(text: &[u8], at: usize) -> Result<Repeats, Refusal>
     requires { at < length text.now }
     ensures { result ≡ braced text.now at }
 {
     let first = at + 1;
     let e = find(text, first, b'}');
     if text.len() <= e {
-        return Repeats::Refused(Refusal::Count);
+        return Err(Refusal::Count);
     }
     counts(&text[first..e], e + 1)
 }
 
 // The repetition that begins here, without the modifier.
-fn sign(text: &[u8], at: usize) -> Repeats
+#[tactic(auto, using(crate::specs::SignLaws::sign_star, crate::specs::SignLaws::sign_plus, crate::specs::SignLaws::sign_optional, crate::specs::SignLaws::sign_braces, crate::specs::SignLaws::sign_none, text::proofs::TextLaws::byte_is))]
+fn sign(text: &[u8], at: usize) -> Result<Repeats, Refusal>
     ensures { result ≡ repeats_of text.now (sign_of (drop at text.now)) }
 {
-    let b = peek(text, at);
-    if b == b'*' {
-        return Repeats::Onward(0, at + 1);
+    match peek(text, at) {
+        b'*' => Ok(Repeats { least: 0, most: None, end: at + 1 }),
+        b'+' => Ok(Repeats { least: 1, most: None, end: at + 1 }),
+        b'?' => Ok(Repeats { least: 0, most: Some(1), end: at + 1 }),
+        b'{' => braces(text, at),
+        _ => Err(Refusal::MisplacedSign),
     }
-    if b == b'+' {
-        return Repeats::Onward(1, at + 1);
-    }
-    if b == b'?' {
-        return Repeats::Between(0, 1, at + 1);
-    }
-    if b == b'{' {
-        return braces(text, at);
-    }
-    Repeats::Refused(Refusal::MisplacedSign)
 }
 
 // The place after one `?`, if there is one here.
+#[tactic(auto, using(crate::specs::SignLaws::modified_is, crate::specs::SignLaws::modified_not, text::proofs::TextLaws::byte_is))]
 fn after_modifier(text: &[u8], at: usize) -> usize
     ensures { result ≡ modified text.now at }
 {
@@ -126,12 +108,11 @@ fn after_modifier(text: &[u8], at: usize) -> usize
 }
 
 // The repetition that begins here: one `?` may follow it.
-pub fn repetition(text: &[u8], at: usize) -> Repeats
+#[tactic(auto, using(crate::specs::SignLaws::repetition_refused, crate::specs::SignLaws::repetition_is))]
+pub fn repetition(text: &[u8], at: usize) -> Result<Repeats, Refusal>
     ensures { result ≡ repeats_of text.now (repetition_of (drop at text.now)) }
 {
-    match sign(text, at) {
-        Repeats::Refused(x) => Repeats::Refused(x),
-        Repeats::Between(n, m, e) => Repeats::Between(n, m, after_modifier(text, e)),
-        Repeats::Onward(n, e) => Repeats::Onward(n, after_modifier(text, e)),
-    }
+    let mut found = sign(text, at)?;
+    found.end = after_modifier(text, found.end);
+    Ok(found)
 }

@@ -1,48 +1,37 @@
 -- `regex_repetition::counts` meets its contract.
-use native.Mathlib.Omega.{arith}
-use Prim.Native.Nat.{◌+◌}
-use mathlib.Core.Path.{sym, ◌∙◌}
-use lib.Seq.{length-take-le}
+use Rattle.std.proofs.Common.{◌≡◌, ◌+◌, ◌-◌, ◌∙◌, List, ℕ, Bool, true, false, length, take, drop, eqb, sym, ap, eqb-true, eq-eqb}
+use Rattle.std.proofs.lemmas.Result.{err_from_is_err_and}
 use Rattle.text.proofs.TextLaws.{part_rest}
-use Rattle.regex_repetition.specs.CountLaws.{counts_one, counts_two, counts_onward, counts_bad}
+use Rattle.regex_repetition.specs.CountLaws.{counts_two, counts_onward, counts_no_most}
 use Rattle.regex_repetition.proofs.counts.Goals as goal
 
-pub returns-then-inside-comma : goal.returns-then-inside-comma
-returns-then-inside-comma c =
-    let s = c.args.inside.now in
-    let k = c.find-comma.result in
-    let q = c.find-comma.ensures in
-    c.range.ensures ∙ counts_one s c.args.end k q c.number-n.result c.if-inside-comma.true
-    c.number-n.ensures
+-- the rest of the text, passed as a slice, is empty
+rest_empty : (s : List ℕ) (k : ℕ) → true ≡ eqb (length (take (length s - k) (drop k s))) 0 → length (drop k s) ≡ 0
+rest_empty s k h = rw (part_rest s k) at (eqb-true _ _ (sym h))
 
-pub slice_bounds-number-end : goal.slice_bounds-number-end
-slice_bounds-number-end c =
-    let s = c.args.inside.now in
-    let k = c.find-comma.result in
-    let q = c.find-comma.ensures in
-    sym (length-take-le k s (omega arith))
+rest_some : (s : List ℕ) (k : ℕ) → false ≡ eqb (length (take (length s - k) (drop k s))) 0 → length (drop k s) ≡ 0 → ⊥
+rest_some s k h z = let e : false ≡ true = (rw (part_rest s k) at h) ∙ eq-eqb _ _ z in absurd (cc)
 
-pub returns-then-m-ne0 : goal.returns-then-m-ne0
-returns-then-m-ne0 c =
+pub returns-then-is_empty : goal.returns-then-is_empty
+returns-then-is_empty c =
     let s = c.args.inside.now in
     let k = c.find-comma.result in
-    let q = c.find-comma.ensures in
-    c.range-then-m-ne0.ensures ∙ counts_two s c.args.end k q c.if-inside-comma.false c.number-n-2.result
-    c.number.result c.number-n-2.ensures (rw (part_rest s (k + 1)) at c.number.ensures)
-    (rw (part_rest s (k + 1)) at c.if-m-ne0.true)
+    counts_onward s c.args.end k c.find-comma.ensures c.if-inside-comma.false c.in_ok-least.least c.in_ok-least.ensures
+    (rest_empty s (k + 1) c.if-is_empty.ensures)
 
-pub returns-then-n-gt255 : goal.returns-then-n-gt255
-returns-then-n-gt255 c =
+pub returns-in_err-most : goal.returns-in_err-most
+returns-in_err-most c =
     let s = c.args.inside.now in
     let k = c.find-comma.result in
-    let q = c.find-comma.ensures in
-    counts_bad s c.args.end k q c.if-inside-comma.false c.number-n-2.result c.number-n-2.ensures
-    (rw (part_rest s (k + 1)) at c.if-m-ne0.false) c.if-n-gt255.true
+    let p = err_from_is_err_and c.from_residual-in_err-most.result c.from_residual-in_err-most.ensures.1 in
+    rw (p.1, p.2)
+    (counts_no_most s c.args.end k c.find-comma.ensures c.if-inside-comma.false c.in_ok-least.least c.in_ok-least.ensures
+    (rest_some s (k + 1) c.if-is_empty.ensures) _ (rw (part_rest s (k + 1)) at c.in_err-most.ensures))
 
 pub returns : goal.returns
 returns c =
     let s = c.args.inside.now in
     let k = c.find-comma.result in
-    let q = c.find-comma.ensures in
-    counts_onward s c.args.end k q c.if-inside-comma.false c.number-n-2.result c.number-n-2.ensures
-    (rw (part_rest s (k + 1)) at c.if-m-ne0.false) c.if-n-gt255.false
+    c.range-2.ensures
+    ∙ counts_two s c.args.end k c.find-comma.ensures c.if-inside-comma.false c.in_ok-least.least c.in_ok-least.ensures
+    (rest_some s (k + 1) c.if-is_empty.ensures) c.in_ok-most.most (rw (part_rest s (k + 1)) at c.in_ok-most.ensures)

@@ -1,26 +1,13 @@
 -- `regex_repetition::repetition` meets its contract.
-use mathlib.Core.Path.{sym, ap, ◌∙◌}
-use Rattle.regex_tree.specs.Tree.{between, onward}
-use Rattle.regex_repetition.specs.Answers.{times}
-use Rattle.regex_repetition.specs.SignLaws.{repetition_refused, repetition_is}
+use Rattle.std.proofs.Common.{◌∙◌}
+use Rattle.std.proofs.lemmas.Result.{err_from_is_err_and}
+use Rattle.regex_repetition.specs.SignLaws.{repetition_refused, repetition_found}
 use Rattle.regex_repetition.proofs.repetition.Goals as goal
 
-pub returns-in-Refused : goal.returns-in-Refused
-returns-in-Refused c =
-    let text = c.args.text.now in
-    let at = c.args.at in
-    repetition_refused text at _ (sym c.in-Refused.is ∙ c.sign.ensures)
+pub returns-in_err-found : goal.returns-in_err-found
+returns-in_err-found c =
+    let p = err_from_is_err_and c.from_residual.result c.from_residual.ensures.1 in
+    rw (p.1, p.2) (repetition_refused c.args.text.now c.args.at _ c.in_err-found.ensures)
 
-pub returns-in-Between : goal.returns-in-Between
-returns-in-Between c =
-    let text = c.args.text.now in
-    let at = c.args.at in
-    let g = c.in-Between in
-    ap (times (between g.n g.m)) c.after_modifier.ensures ∙ repetition_is text at (between g.n g.m) g.e (sym g.is ∙ c.sign.ensures)
-
-pub returns-in-Onward : goal.returns-in-Onward
-returns-in-Onward c =
-    let text = c.args.text.now in
-    let at = c.args.at in
-    let g = c.in-Onward in
-    ap (times (onward g.n)) c.after_modifier-in-Onward.ensures ∙ repetition_is text at (onward g.n) g.e (sym g.is ∙ c.sign.ensures)
+pub returns : goal.returns
+returns c = rw c.after_modifier.ensures (repetition_found c.args.text.now c.args.at c.in_ok-found.found c.in_ok-found.ensures)
