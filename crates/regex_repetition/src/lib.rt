@@ -46,7 +46,11 @@ fn range(n: usize, m: usize, end: usize) -> Result<Repeats, Refusal>
     if m < n || m < 1 {
         return Err(Refusal::Count);
     }
-    Ok(Repeats { least: n, most: Some(m), end })
+    Ok(Repeats {
+        least: n,
+        most: Some(m),
+        end,
+    })
 }
 
 // The count inside the braces; `end` is the place after them.
@@ -62,7 +66,11 @@ fn counts(inside: &[u8], end: usize) -> Result<Repeats, Refusal>
     let least = number(&inside[..comma])?;
     let rest = &inside[comma + 1..];
     if rest.is_empty() {
-        return Ok(Repeats { least, most: None, end });
+        return Ok(Repeats {
+            least,
+            most: None,
+            end,
+        });
     }
     let most = number(rest)?;
     range(least, most, end)
@@ -88,9 +96,21 @@ fn sign(text: &[u8], at: usize) -> Result<Repeats, Refusal>
     ensures { result ≡ repeats_of text.now (sign_of (drop at text.now)) }
 {
     match peek(text, at) {
-        b'*' => Ok(Repeats { least: 0, most: None, end: at + 1 }),
-        b'+' => Ok(Repeats { least: 1, most: None, end: at + 1 }),
-        b'?' => Ok(Repeats { least: 0, most: Some(1), end: at + 1 }),
+        b'*' => Ok(Repeats {
+            least: 0,
+            most: None,
+            end: at + 1,
+        }),
+        b'+' => Ok(Repeats {
+            least: 1,
+            most: None,
+            end: at + 1,
+        }),
+        b'?' => Ok(Repeats {
+            least: 0,
+            most: Some(1),
+            end: at + 1,
+        }),
         b'{' => braces(text, at),
         _ => Err(Refusal::MisplacedSign),
     }

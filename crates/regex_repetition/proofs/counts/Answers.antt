@@ -1,5 +1,5 @@
 -- `regex_repetition::counts` meets its contract.
-use Rattle.std.proofs.Common.{◌≡◌, ◌+◌, ◌-◌, ◌∙◌, List, ℕ, Bool, true, false, length, take, drop, eqb, sym, ap, eqb-true, eq-eqb}
+use Rattle.std.proofs.Common.{◌≡◌, ◌+◌, ◌-◌, ◌∙◌, List, ℕ, true, false, length, take, drop, eqb, sym, eqb-true, eq-eqb}
 use Rattle.std.proofs.lemmas.Result.{err_from_is_err_and}
 use Rattle.text.proofs.TextLaws.{part_rest}
 use Rattle.regex_repetition.specs.CountLaws.{counts_two, counts_onward, counts_no_most}

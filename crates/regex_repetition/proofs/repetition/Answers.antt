@@ -1,5 +1,4 @@
 -- `regex_repetition::repetition` meets its contract.
-use Rattle.std.proofs.Common.{◌∙◌}
 use Rattle.std.proofs.lemmas.Result.{err_from_is_err_and}
 use Rattle.regex_repetition.specs.SignLaws.{repetition_refused, repetition_found}
 use Rattle.regex_repetition.proofs.repetition.Goals as goal
