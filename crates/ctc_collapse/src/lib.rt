@@ -10,17 +10,14 @@ ghost use Rattle.ctc_collapse.specs.Calls.{collapse_call};
 ghost use Rattle.ctc_collapse.specs.Added.{added};
 
 use ctc_labels::has_fault;
-use refusal::{Counted, Refusal};
+use refusal::Refusal;
 
 // Stores label x, which comes after label a, at place n of the word, or leaves it out; returns the next place.
 fn put_added(word: &mut [u8], n: usize, a: u8, x: u8) -> usize
     requires { n + length (added a x) ≤ length word.old }
     ensures { Stored (added a x) n word.old word.new result }
 {
-    if x == a {
-        return n;
-    }
-    if x == 0 {
+    if x == a || x == 0 {
         return n;
     }
     word[n] = x;
@@ -32,27 +29,25 @@ pub fn write_collapse(path: &[u8], word: &mut [u8]) -> usize
     requires { length path.now ≤ length word.old }
     ensures { Wrote (collapse_of path.now) word.old word.new result }
 {
-    let mut a: u8 = 0;
-    let mut n: usize = 0;
-    let mut i: usize = 0;
-    while i < path.len() {
-        let x = path[i];
+    let mut a = 0;
+    let mut n = 0;
+    for &x in path {
         n = put_added(word, n, a, x);
         a = x;
-        i += 1;
     }
     n
 }
 
 // Document 01's Collapse: the word that a path of labels 0 to k collapses to.
-pub fn collapse(k: usize, path: &[u8], word: &mut [u8]) -> Counted
+#[tactic(auto, unfolding(crate::specs::Calls::collapse_call, refusal::specs::Verdict::unless, lists::specs::Memory::written))]
+pub fn collapse(k: usize, path: &[u8], word: &mut [u8]) -> Result<usize, Refusal>
     ensures { Fills (collapse_call k path.now (length word.old)) (reported result) word.old word.new }
 {
     if word.len() < path.len() {
-        return Counted::Refused(Refusal::OutputMemory);
+        return Err(Refusal::OutputMemory);
     }
     if has_fault(k, 0, path) {
-        return Counted::Refused(Refusal::Label);
+        return Err(Refusal::Label);
     }
-    Counted::Filled(write_collapse(path, word))
+    Ok(write_collapse(path, word))
 }
