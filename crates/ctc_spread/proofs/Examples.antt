@@ -1,6 +1,5 @@
 -- The call Spread at its limits, and the order of its checks, computed.
 use Rattle.std.specs.Prelude.{ℕ, ◌≡◌, refl, List, [], ◌∷◌}
-use Rattle.lists.specs.Each.{all}
 use Rattle.refusal.specs.declared.Refusal.TheVariants.{OutputMemory, Label}
 use Rattle.refusal.specs.Verdict.{passed, refused, unless}
 use Rattle.ctc.specs.Spread.{spread}

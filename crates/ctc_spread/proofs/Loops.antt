@@ -1,6 +1,7 @@
 -- What one iteration of each loop of this crate does, over plain lists.
-use Rattle.std.specs.Prelude.{ℕ, ◌+◌, ◌<◌, ◌≤◌, ◌≡◌, refl, Bool, true, false, cond, List, [], ◌∷◌, ◌++◌, length, get_or, drop, set, eqb}
+use Rattle.std.specs.Prelude.{ℕ, ◌+◌, ◌<◌, ◌≤◌, ◌≡◌, refl, Bool, true, false, cond, List, [], ◌∷◌, ◌++◌, length, get_or, drop, set, eqb, count_by, zip}
 use Rattle.std.proofs.Common.{sym, ap, ◌∙◌, add-one, arith, length-drop, eq-eqb, ne_eqb}
+use Rattle.std.proofs.lemmas.List.Sums.{sum_by-cons}
 use Rattle.lists.proofs.EachLaws.{drop_here, drop_all}
 use Rattle.lists.specs.Stored.{Stored}
 use Rattle.ctc.specs.Spread.{pairs, parted}
@@ -73,3 +74,13 @@ unfolding pairs
 few_pairs_in [] = omega arith
 few_pairs_in (x ∷ []) = omega arith
 few_pairs_in (x ∷ (y ∷ w)) = let h = few_pairs_in (y ∷ w) in let b = at_most_one x y in omega arith
+
+-- each pair, an element and the one after it, counted
+pub pairs_counted : (w : List ℕ) → pairs w ≡ count_by (λ p. eqb p.0 p.1) (zip w (drop 1 w))
+unfolding pairs
+pairs_counted [] = refl
+pairs_counted (x ∷ []) = refl
+pairs_counted (x ∷ (y ∷ w)) =
+    let h = pairs_counted (y ∷ w) in
+    let s = sum_by-cons (λ p. cond (eqb p.0 p.1) 1 0) (x, y) (zip (y ∷ w) w) in
+    omega (arith, h, s)

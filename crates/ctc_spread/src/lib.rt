@@ -11,20 +11,16 @@ ghost use Rattle.ctc_spread.specs.Calls.{spread_call};
 ghost use Rattle.ctc_spread.specs.Spaced.{spaced};
 
 use ctc_labels::has_fault;
-use numbers::one_if;
-use refusal::{Counted, Refusal};
+use refusal::Refusal;
 
 // How many pairs of equal neighbours a word has.
 fn count_pairs(word: &[u8]) -> usize
     ensures { result ≡ pairs word.now }
 {
-    let mut n: usize = 0;
-    let mut i: usize = 0;
-    while i + 1 < word.len() {
-        n += one_if(word[i] == word[i + 1]);
-        i += 1;
-    }
-    n
+    word.iter()
+        .zip(word.iter().skip(1))
+        .filter(|(a, b)| a == b)
+        .count()
 }
 
 // Stores letter x, which comes after letter a, at place n of the path, after a blank if they are equal; returns the next place.
@@ -46,27 +42,24 @@ fn write_spread(word: &[u8], path: &mut [u8]) -> usize
     requires { (length (spread_of word.now) ≤ length path.old) × Each (0 <◌) word.now }
     ensures { Wrote (spread_of word.now) path.old path.new result }
 {
-    let mut a: u8 = 0;
-    let mut n: usize = 0;
-    let mut i: usize = 0;
-    while i < word.len() {
-        let x = word[i];
+    let mut a = 0;
+    let mut n = 0;
+    for &x in word {
         n = put_spaced(path, n, a, x);
         a = x;
-        i += 1;
     }
     n
 }
 
 // Document 01's Spread: the shortest path that collapses to a word of labels 1 to k.
-pub fn spread(k: usize, word: &[u8], path: &mut [u8]) -> Counted
+pub fn spread(k: usize, word: &[u8], path: &mut [u8]) -> Result<usize, Refusal>
     ensures { Fills (spread_call k word.now (length path.old)) (reported result) path.old path.new }
 {
     if path.len() < word.len() + count_pairs(word) {
-        return Counted::Refused(Refusal::OutputMemory);
+        return Err(Refusal::OutputMemory);
     }
     if has_fault(k, 1, word) {
-        return Counted::Refused(Refusal::Label);
+        return Err(Refusal::Label);
     }
-    Counted::Filled(write_spread(word, path))
+    Ok(write_spread(word, path))
 }
