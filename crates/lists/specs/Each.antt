@@ -1,6 +1,5 @@
 -- What holds of each element of a list, as a fact, and as a test: the library's.
 use Rattle.std.specs.Prelude.{List, [], ◌∷◌}
-
 -- the test holds of each element
 pub use Rattle.std.specs.List.{list_all as all}
 

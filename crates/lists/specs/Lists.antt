@@ -1,7 +1,6 @@
 -- The words on lists and numbers that promises use.
 use Rattle.std.specs.Prelude.{Bool, true, ◌&&◌, false, List, [], ◌∷◌, ◌≡◌, ◌⊎◌, ℕ, zero, suc, ◌<◌, eqb, leb, get_or}
 use Rattle.lists.specs.Each.{Each}
-
 -- the test holds of some element: the library's word
 pub use Rattle.std.specs.List.{list_any as any}
 
