@@ -1,7 +1,20 @@
 -- An answer handed back as a number and a list of counts.
-use Rattle.std.specs.Prelude.{ℕ, ◌≡◌, cond, List, [], ◌∷◌}
+use Rattle.std.specs.Prelude.{ℕ, ◌≡◌, cond, List, [], ◌∷◌, Result, Ok, Err}
+use Rattle.refusal.specs.declared.Refusal.{Refusal}
+use Rattle.refusal.specs.Number.{number_of}
 use Rattle.refusal.specs.Report.{Report}
 use Rattle.answers.specs.Judgement.{Judgement}
+
+module _ {C : Type 0} where
+  -- 0, or the number of the refusal
+  abbrev pub number_or_zero : Result C Refusal → ℕ
+  number_or_zero (Ok _) = 0
+  number_or_zero (Err n) = number_of n
+
+  -- the counts of an answer, or `none` at a refusal
+  abbrev pub counts_or : C → Result C Refusal → C
+  counts_or none (Ok c) = c
+  counts_or none (Err _) = none
 
 -- Which counts of a report are handed back, in their order.
 
