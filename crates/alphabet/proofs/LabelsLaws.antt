@@ -87,6 +87,16 @@ module _ (A : List ℕ) where
     pub labels_past : (x : ℕ) → length A < x → labels_from x ≡ []
     labels_past x h = keep_past (length A) (λ y. eqb (character A y) c) x h
 
+    -- n labels are counted, and those from x on are still to come
+    pub counting_more :
+        (n m x r : ℕ) → x ≤ length A → n + length (labels_from x) ≡ m → r ≡ cond (eqb (character A x) c) 1 0 → n + r + length (labels_from (x + 1)) ≡ m
+    counting_more n m x r h e q =
+        let s = ap length (labels_here x h) ∙ keeping_length (eqb (character A x) c) x (labels_from (x + 1)) in
+        omega arith
+
+    pub counting_end : (n m x : ℕ) → length A < x → n + length (labels_from x) ≡ m → n ≡ m
+    counting_end n m x h e = let z = ap length (labels_past x h) in omega arith
+
     -- the characters of the alphabet that are c, counted from index i on: each is that of the label i + 1
     counted_from : (n i : ℕ) → i + n ≡ length A → length (labels_from (i + 1)) ≡ count_by (λ b. eqb b c) (drop i A)
     counted_from zero i e = rw (labels_past (i + 1) (omega arith), drop_all A i (omega arith))
