@@ -1,6 +1,7 @@
 -- Where each letter's arcs start: arcs are in the order of their sources, so one index separates those with sources below the letter from
 -- the others.
 use Rattle.std.specs.Prelude.{ℕ, ◌<◌, ◌≤◌, ◌≡◌, List, length, get_or}
+use Rattle.std.proofs.Props.{props}
 use Rattle.automaton.specs.Form.{letters_of, source}
 
 -- r is the first index from n on whose word has no source below i
@@ -21,3 +22,7 @@ pub record StartsAt (f : List ℕ) (i b : ℕ) : Type 0 where
 pub record ArcStarts (f s : List ℕ) : Type 0 where
   pub size : length s ≡ 129
   pub starts : (i : ℕ) → i < 129 → StartsAt f i (get_or s i 0)
+
+-- the starts are right in one way at most: the facts are equations and inequalities of numbers
+pub arc_starts-prop : (f s : List ℕ) → IsProp (ArcStarts f s)
+arc_starts-prop f s = Prim.hlevel props

@@ -1,39 +1,53 @@
 // Where each letter's arcs start: arcs are in the order of their sources.
 #![tactic(auto)]
 
-ghost use Rattle.std.specs.Prelude.{◌≤◌, length};
-ghost use Rattle.automaton.specs.Valid.{Valid};
-ghost use Rattle.form_starts.specs.Starts.{Skipped, ArcStarts};
+ghost use Rattle.std.specs.Prelude.{◌≡◌, ◌≤◌, length};
+ghost use Rattle.form_starts.specs.Starts.{Skipped, ArcStarts, arc_starts-prop};
 
-use form_words::{letters, source};
+use form_words::Form;
+
+// A form with the place where each letter's arcs start: for 0 to 128, the index of the first word whose source is not below the letter.
+#[derive(Drop)]
+pub struct Arcs<'a> {
+    pub form: Form<'a>,
+    pub starts: [usize; 129],
+    ghost placed: { ArcStarts form.words.now starts } by { arc_starts-prop form.words.now starts },
+}
 
 // The first index from n on whose word has no source below i; the form's length if there is none.
-fn skip_below(form: &[u32], n: usize, i: usize) -> usize
-    requires { n ≤ length form.now }
-    ensures { Skipped form.now n i result }
+fn skip_below(form: Form, n: usize, i: usize) -> usize
+    requires { n ≤ length form.words.now }
+    ensures { Skipped form.entry.words.now n i result }
 {
-    let mut m = n;
-    while m < form.len() {
-        if i <= source(form, m) {
+    for m in n..form.len() {
+        if i <= form.source(m) {
             return m;
         }
-        m += 1;
     }
-    m
+    form.len()
 }
 
 // Where each letter's arcs start.
-pub fn arc_starts(form: &[u32]) -> [usize; 129]
-    requires { Valid form.now }
-    ensures { ArcStarts form.now result }
+fn arc_starts(form: Form) -> [usize; 129]
+    ensures { ArcStarts form.entry.words.now result }
 {
-    let mut s = [0; 129];
-    let mut n = letters(form) + 1;
-    let mut i = 0;
-    while i < 129 {
+    let mut starts = [0; 129];
+    let mut n = form.letters() + 1;
+    for i in 0..129 {
         n = skip_below(form, n, i);
-        s[i] = n;
-        i += 1;
+        starts[i] = n;
     }
-    s
+    starts
+}
+
+impl<'a> Arcs<'a> {
+    // The form with its starts.
+    pub fn new(form: Form<'a>) -> Arcs<'a>
+        ensures { result.form ≡ form.entry }
+    {
+        Arcs {
+            form,
+            starts: arc_starts(form),
+        }
+    }
 }

@@ -1,28 +1,26 @@
 -- `form_sets::mark_after` meets its contract: the letters that may be first, or the targets of the arcs.
-use Prim.Native.Nat.{◌≤◌}
-use mathlib.Core.Path.{sym, subst}
-use native.Mathlib.Omega.{arith}
-use Rattle.lists.specs.Marks.{Marks}
-use Rattle.automaton.specs.Form.{view}
+use Rattle.std.specs.Prelude.{◌+◌, ◌≤◌}
+use Rattle.std.proofs.Common.{arith}
 use Rattle.form_starts.specs.Loops.{range_rises}
-use Rattle.form_sets.specs.Sets.{Enters}
 use Rattle.form_sets.specs.Loops.{all_reached}
 use Rattle.form_sets.proofs.mark_after.Goals as goal
-
-pub returns-then-i-eq0 : goal.returns-then-i-eq0
-returns-then-i-eq0 c =
-    let a = c.args in
-    subst (λ i. Marks (Enters (view a.form.now) a.x i) a.set.now c.mark_firsts.new.set) (sym c.if-i-eq0.true) c.mark_firsts.ensures
 
 pub mark_targets-requires : goal.mark_targets-requires
 mark_targets-requires c =
     let a = c.args in
+    let arcs = a.arcs.now in
+    let few = arcs.form.valid.head.letters_high in
     let p = c.requires in
-    (p.0, p.1, p.2.past, range_rises a.form.now a.i a.b a.e p.2 p.3, p.3.inside)
+    let first = arcs.placed.starts a.i (omega arith) in
+    let next = arcs.placed.starts (a.i + 1) (omega arith) in
+    (p.0, first.past, range_rises arcs.form.words.now a.i _ _ first next, next.inside)
 
-pub returns : goal.returns
-returns c =
+pub returns-else-i-eq0 : goal.returns-else-i-eq0
+returns-else-i-eq0 c =
     let a = c.args in
+    let arcs = a.arcs.now in
+    let few = arcs.form.valid.head.letters_high in
     let p = c.requires in
     let some : 1 ≤ a.i = omega (arith, c.if-i-eq0.false) in
-    all_reached a.form.now a.x a.set.now c.mark_targets.new.set a.i a.b a.e some p.2 p.3 c.mark_targets.ensures
+    all_reached arcs.form.words.now a.x a.set.now c.mark_targets.new.set a.i _ _ some (arcs.placed.starts a.i (omega arith))
+    (arcs.placed.starts (a.i + 1) (omega arith)) c.mark_targets.ensures
