@@ -1,7 +1,6 @@
 -- The call Judge on small forms, at its limits, and the order of its checks, computed.
 use Rattle.std.specs.Prelude.{ℕ, ◌≡◌, refl, true, false, List, [], ◌∷◌, ◌++◌, map, replicate}
-use Rattle.lists.specs.Lists.{any, numbers}
-use Rattle.lists.specs.Each.{all}
+use Rattle.lists.specs.Lists.{numbers}
 use Rattle.refusal.specs.declared.Refusal.TheVariants.{BadForm, Label}
 use Rattle.refusal.specs.Verdict.{passed, refused, unless}
 use Rattle.automaton.specs.Form.{ordered, valid_form, follow_of, ends_of}

@@ -1,48 +1,41 @@
 // The call Judge: does a form accept a word (document 01, "Opening and the compiled form")?
 #![tactic(auto)]
 
-ghost use Rattle.std.specs.Prelude.{◌≡◌, true};
+ghost use Rattle.std.specs.Prelude.{◌≡◌};
 ghost use Rattle.answers.specs.Judgement.{report, reported};
-ghost use Rattle.automaton.specs.Form.{valid_form, view};
+ghost use Rattle.automaton.specs.Form.{view};
 ghost use Rattle.automaton.specs.Accepted.{accepts as accepts_of};
 ghost use Rattle.judge.specs.Judge.{judged};
 
-use answers::Judged;
-use form_check::valid;
+use form_check::checked;
 use form_sets::{advance, no_letter, some_may_end};
-use form_starts::arc_starts;
-use form_words::alphabet;
-use numbers::wide;
+use form_starts::Arcs;
+use form_words::Form;
 use refusal::Refusal;
 
 // Does the form accept the word?
-fn accepts(form: &[u32], word: &[u8]) -> bool
-    requires { valid_form form.now ≡ true }
-    ensures { result ≡ accepts_of (view form.now) word.now }
+fn accepts(form: Form, word: &[u8]) -> bool
+    ensures { result ≡ accepts_of (view form.entry.words.now) word.now }
 {
-    let starts = arc_starts(form);
+    let arcs = Arcs::new(form);
     let mut set = no_letter();
-    let mut n = 0;
-    while n < word.len() {
-        let next = advance(form, &starts, set, wide(word[n]));
+    for &x in word {
+        let next = advance(&arcs, set, usize::from(x));
         set = next;
-        n += 1;
     }
     some_may_end(form, set)
 }
 
 // The call: whether the form accepts the word, or the refusal that applies.
-pub fn judge(form: &[u32], word: &[u8]) -> Judged
+#[tactic(auto, using(crate::proofs::JudgeLaws::judged_invalid, crate::proofs::JudgeLaws::judged_no_word, crate::proofs::JudgeLaws::judged_word))]
+pub fn judge(form: &[u32], word: &[u8]) -> Result<bool, Refusal>
     ensures { reported result ≡ report (judged form.now word.now) }
 {
-    if !valid(form) {
-        return Judged::Refused(Refusal::BadForm);
+    let Some(form) = checked(form) else {
+        return Err(Refusal::BadForm);
+    };
+    if ctc_labels::has_fault(form.alphabet(), 1, word) {
+        return Err(Refusal::Label);
     }
-    if ctc_labels::has_fault(alphabet(form), 1, word) {
-        return Judged::Refused(Refusal::Label);
-    }
-    if accepts(form, word) {
-        return Judged::Accepted;
-    }
-    Judged::Rejected
+    Ok(accepts(form, word))
 }

@@ -1,44 +1,30 @@
 -- `form_arcs::equal_arcs` meets its contract: the iterations so far have marked their letters.
-use mathlib.Core.Bool.{false}
-use native.Mathlib.Omega.{arith}
-use lib.ListN.{replicate}
-use Rattle.lists.proofs.MarksLaws.{iterations_none, iterations_more}
+use Rattle.std.specs.Prelude.{false, replicate}
+use Rattle.std.proofs.Common.{sym, subst, arith}
+use Rattle.lists.specs.Marks.{Marks}
+use Rattle.lists.proofs.OrderLaws.{not_both}
+use Rattle.lists.proofs.MarksLaws.{iterations_more}
 use Rattle.form_arcs.specs.Equal.{SharesAt}
-use Rattle.form_arcs.specs.EqualLoops.{equal_all}
+use Rattle.form_arcs.specs.EqualLoops.{equal_marked, equal_not}
 use Rattle.form_arcs.proofs.equal_arcs.Goals as goal
-
-pub letters-l-requires : goal.letters-l-requires
-letters-l-requires c =
-    let h = c.requires.0.long in
-    omega arith
-
-pub loop-i-init : goal.loop-i-init
-loop-i-init c =
-    let a = c.args in
-    (omega arith, iterations_none (SharesAt a.form.now a.starts.now) 2 (replicate 128 false))
-
-pub mark_equal-requires : goal.mark_equal-requires
-mark_equal-requires c =
-    let p = c.requires in
-    (p.0, p.1, c.loop-i.invariant.0, omega (arith, c.letters-l.ensures, c.loop-i-test.true), c.loop-i.invariant.1.size)
-
-pub overflow_add-i : goal.overflow_add-i
-overflow_add-i c =
-    let few = c.requires.0.head.letters_high in
-    omega (arith, c.letters-l.ensures, c.loop-i-test.true)
-
-pub loop-i-smaller : goal.loop-i-smaller
-loop-i-smaller c = omega (arith, c.loop-i-test.true)
+use Rattle.form_arcs.proofs.equal_arcs.Goals.{then-as_before, else-as_before}
 
 pub loop-i-preserved : goal.loop-i-preserved
 loop-i-preserved c =
-    let a = c.args in
+    let arcs = c.args.arcs.now in
+    let f = arcs.form.words.now in
+    let few = arcs.form.valid.head.letters_high in
     let l = c.loop-i in
-    let low = l.invariant.0 in
-    (omega arith, iterations_more (SharesAt a.form.now a.starts.now) 2 l.i (replicate 128 false) l.same c.mark_equal.new.same low l.invariant.1 c.mark_equal.ensures)
-
-pub returns : goal.returns
-returns c =
-    let a = c.args in
-    let l = c.loop-i in
-    equal_all a.form.now a.starts.now l.i l.same (omega (arith, c.letters-l.ensures, c.loop-i-test.false)) l.invariant.1
+    let end = c.letters-i-end.ensures in
+    let d = c.as_before.ensures in
+    let size = l.invariant.size in
+    let marks : Marks (SharesAt f arcs.starts l.i) l.same c.if-as_before.same =
+    elim c.if-as_before.branch [
+      | then-as_before w ↦
+          subst (Marks (SharesAt f arcs.starts l.i) l.same) (sym w.same-is)
+          (equal_marked f arcs.starts l.i l.same (omega arith) (omega arith, omega arith, d.holds w.if-as_before.true))
+      | else-as_before w ↦
+          subst (Marks (SharesAt f arcs.starts l.i) l.same) (sym w.same-is)
+          (equal_not f arcs.starts l.i l.same (λ q. not_both c.as_before.result (d.found q) w.if-as_before.false))
+    ] in
+    iterations_more (SharesAt f arcs.starts) 2 l.i (replicate 128 false) l.same c.if-as_before.same (omega arith) l.invariant marks

@@ -1,14 +1,9 @@
 -- `judge::accepts` meets its contract: what is left of the word, from the present set, decides.
-use Prim.Native.Nat.{◌≤◌, ◌-◌}
-use mathlib.Core.Logic.{◌↔◌}
-use lib.ListN.{length, drop}
+use Rattle.std.specs.Prelude.{◌↔◌, drop}
 use Rattle.automaton.specs.Automaton.{Accepts}
 use Rattle.automaton.specs.Form.{view}
 use Rattle.form_sets.specs.Loops.{SpellsFrom}
 use Rattle.judge.proofs.accepts.Given as goal
 
-abbrev pub invariant-loop-n : goal.invariant-loop-n
-invariant-loop-n l = (l.n ≤ length l.word) × (Accepts (view l.form) l.word ↔ SpellsFrom (view l.form) l.set (drop l.n l.word))
-
-abbrev pub decreases-loop-n : goal.decreases-loop-n
-decreases-loop-n l = length l.word - l.n
+abbrev pub invariant-loop-x : goal.invariant-loop-x
+invariant-loop-x l = let f = l.form.words.now in Accepts (view f) l.word ↔ SpellsFrom (view f) l.set (drop l.x-index l.word)
