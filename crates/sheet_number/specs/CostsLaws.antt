@@ -1,7 +1,7 @@
 -- Laws of the cost at a place: a lone `-`, or a number.
 use Rattle.std.specs.Prelude.{◌≡◌, List, [], ◌∷◌, ◌++◌, true, false, ◌⊎◌, ℕ, ◌+◌, ◌-◌, ◌<◌, length, get_or, eqb, Option as Answer, Some, None}
 use Rattle.std.proofs.Math.Path.{refl}
-use Rattle.std.proofs.Common.{sym, ap, ◌∙◌, inl, inr, ⊎_elim, arith, eqb-true, eq-eqb}
+use Rattle.std.proofs.Common.{sym, ap, ◌∙◌, inl, inr, ⊎_elim, arith, eqb-true, eq-eqb, ne_eqb}
 use Rattle.lists.specs.Cases.{provided}
 use Rattle.lists.proofs.OrderLaws.{and_left, and_right, and_both, not_both}
 use Rattle.matrix.specs.Matrix.{BARRED}
@@ -14,6 +14,13 @@ use Rattle.sheet_number.specs.ItemsLaws.{item_begins, separator_within}
 use Rattle.sheet_number.specs.declared.Item.{Item}
 
 module _ (input : List ℕ) (at : ℕ) where
+  -- the two tests of `is_bar`
+  pub no_bar : (get_or input at 0 ≡ 45 → ⊥) → false ≡ bar_at input at
+  no_bar n = rw (ne_eqb (get_or input at 0) 45 n)
+
+  pub bar_if_ended : get_or input at 0 ≡ 45 → separator (get_or input (at + 1) 0) ≡ bar_at input at
+  bar_if_ended e = rw (eq-eqb (get_or input at 0) 45 e)
+
   -- a lone `-` is the cost of a barred label
   pub bar_as_cost : bar_at input at ≡ true → ReadCost input at (Some (record { value = BARRED; end = at + 1 }))
   bar_as_cost h =

@@ -172,6 +172,10 @@ module _ (input : List ℕ) (at e v : ℕ) (h : Digits input at e v) where
   same_number : (f w : ℕ) → NumberAt input at f w → NumberAt input at e w
   same_number f w c = subst (λ i. NumberAt input at i w) (same_end f w c) c
 
+  -- the input ends after the digits
+  pub number_open : e ≡ length input → ReadNumber input at None
+  number_open l f w c = let k = (same_number f w c).within in omega arith
+
   -- no separator follows the digits
   pub number_unread : separator (get_or input e 0) ≡ false → ReadNumber input at None
   number_unread q f w c = not_both (separator (get_or input e 0)) (same_number f w c).ends q

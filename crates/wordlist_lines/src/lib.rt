@@ -1,11 +1,13 @@
 // Which word lists are turned away (document 02, T-05): by their bytes, by their lines, and by characters without a label.
 #![tactic(auto)]
 
-ghost use Rattle.std.specs.Prelude.{◌≡◌};
+ghost use Rattle.std.specs.Prelude.{◌≡◌, length, MatchOption};
 ghost use Rattle.lists.specs.Lists.{any};
 ghost use Rattle.lists.specs.Each.{all};
+ghost use Rattle.text_lines.specs.Places.{LineEnd};
 ghost use Rattle.wordlist.specs.Words.{list_byte, list_fault, strange};
 ghost use Rattle.wordlist_lines.specs.Again.{Again};
+ghost use Rattle.wordlist_lines.specs.FirstLine.{FirstLine};
 
 use alphabet::count_labels;
 use text_lines::line_end;
@@ -14,67 +16,52 @@ use text_lines::line_end;
 fn is_list_byte(b: u8) -> bool
     ensures { result ≡ list_byte b }
 {
-    if b == b'\n' {
-        return true;
-    }
-    if b < 32 {
-        return false;
-    }
-    b <= 126
+    b == b'\n' || (32..=126).contains(&b)
 }
 
 // Is each byte a newline, or 32 to 126?
 pub fn are_list_bytes(list: &[u8]) -> bool
     ensures { result ≡ all list_byte list.now }
 {
-    let mut i = 0;
-    while i < list.len() {
-        if !is_list_byte(list[i]) {
-            return false;
-        }
-        i += 1;
-    }
-    true
+    list.iter().all(|&b| is_list_byte(b))
 }
 
 // Is the byte no newline, and no character with a label?
 fn is_strange(alphabet: &[u8], b: u8) -> bool
     ensures { result ≡ strange alphabet.now b }
 {
-    if b == b'\n' {
-        return false;
-    }
-    count_labels(alphabet, b) == 0
+    b != b'\n' && count_labels(alphabet, b) == 0
 }
 
 // Is there such a byte in the list?
 pub fn has_strange(alphabet: &[u8], list: &[u8]) -> bool
     ensures { result ≡ any (strange alphabet.now) list.now }
 {
-    let mut i = 0;
-    while i < list.len() {
-        if is_strange(alphabet, list[i]) {
-            return true;
-        }
-        i += 1;
-    }
-    false
+    list.iter().any(|&b| is_strange(alphabet, b))
 }
 
-// Is the line one of the lines of the rest?
-fn comes_again(line: &[u8], rest: &[u8]) -> bool
-    ensures { Again line.now rest.now result }
+// The first line, and what comes after its newline, if a newline closes it.
+fn first_line(text: &[u8]) -> Option<(&[u8], &[u8])>
+    ensures { MatchOption result (LineEnd text.now 0 (length text.now))
+        (λ r. FirstLine text.now r.0.now r.1.now) }
 {
-    let mut at = 0;
-    while at < rest.len() {
-        let end = line_end(rest, at);
-        if end == rest.len() {
-            return false;
-        }
-        if text::same(line, &rest[at..end]) {
+    let end = line_end(text, 0);
+    if end == text.len() {
+        return None;
+    }
+    Some((&text[..end], &text[end + 1..]))
+}
+
+// Is the line one of the lines of the list?
+fn comes_again(line: &[u8], list: &[u8]) -> bool
+    ensures { Again line.now list.now result }
+{
+    let mut rest = list;
+    while let Some((next, after)) = first_line(rest) {
+        if line == next {
             return true;
         }
-        at = end + 1;
+        rest = after;
     }
     false
 }
@@ -83,19 +70,12 @@ fn comes_again(line: &[u8], rest: &[u8]) -> bool
 pub fn has_fault(list: &[u8]) -> bool
     ensures { result ≡ list_fault list.now }
 {
-    let mut at = 0;
-    while at < list.len() {
-        let end = line_end(list, at);
-        if end == list.len() {
+    let mut rest = list;
+    while let Some((line, after)) = first_line(rest) {
+        if line.is_empty() || comes_again(line, after) {
             return true;
         }
-        if end == at {
-            return true;
-        }
-        if comes_again(&list[at..end], &list[end + 1..]) {
-            return true;
-        }
-        at = end + 1;
+        rest = after;
     }
-    false
+    !rest.is_empty()
 }

@@ -1,77 +1,25 @@
--- `wordlist_lines::has_fault` meets its contract: the lines from `at` on decide.
-use Prim.Native.Nat.{◌+◌}
-use mathlib.Core.Path.{refl, sym, subst, ◌∙◌}
-use native.Mathlib.Omega.{arith}
-use Rattle.text.proofs.TextLaws.{part_rest}
-use Rattle.text_lines.specs.Places.{part}
-use Rattle.wordlist_lines.specs.Again.{Again}
-use Rattle.wordlist_lines.specs.FaultLaws.{fault_unclosed, fault_empty, fault_again, fault_later, fault_none}
+-- `wordlist_lines::has_fault` meets its contract: the first line of the rest is at fault, or the lines after it decide.
+use Rattle.std.proofs.Common.{sym, ◌∙◌, rules, tests}
+use Rattle.wordlist_lines.specs.FirstLineLaws.{fault_of_empty, fault_of_again, fault_of_rest, fault_at_end}
 use Rattle.wordlist_lines.proofs.has_fault.Goals as goal
+use Rattle.wordlist_lines.proofs.has_fault.Goals.{then-is_empty-via-then-is_empty, then-is_empty-via-else-is_empty+then-comes_again}
 
-pub loop-at-init : goal.loop-at-init
-loop-at-init c = (omega arith, refl)
+pub returns-then-is_empty : goal.returns-then-is_empty
+returns-then-is_empty c =
+    let s = c.in-Some in
+    sym
+    (sym c.loop-line.invariant
+    ∙ elim c.then-is_empty.branch [
+      | then-is_empty-via-then-is_empty w ↦ fault_of_empty _ _ _ s.ensures (search (rules, tests))
+      | then-is_empty-via-else-is_empty+then-comes_again w ↦
+          fault_of_again _ _ _ s.ensures (λ e. search (rules, tests)) w.comes_again.result w.comes_again.ensures w.if-comes_again.true
+    ])
 
-pub returns-then-end-list : goal.returns-then-end-list
-returns-then-end-list c =
-    let s = c.args.list.now in
-    let l = c.loop-at in
-    let e = c.line_end-end in
-    sym (fault_unclosed s l.at e.result e.ensures (omega arith) (omega arith)) ∙ l.invariant.1
-
-pub returns-then-end-at : goal.returns-then-end-at
-returns-then-end-at c =
-    let s = c.args.list.now in
-    let l = c.loop-at in
-    let e = c.line_end-end in
-    let w = e.ensures.within in
-    sym (fault_empty s l.at e.result e.ensures (omega arith) (omega arith)) ∙ l.invariant.1
-
-pub slice_bounds-comes_again-count : goal.slice_bounds-comes_again-count
-slice_bounds-comes_again-count c = let f = c.line_end-end.ensures.from in omega arith
-
-pub slice_bounds-comes_again-start : goal.slice_bounds-comes_again-start
-slice_bounds-comes_again-start c = let f = c.line_end-end.ensures.from in omega arith
-
-pub slice_bounds-comes_again-end : goal.slice_bounds-comes_again-end
-slice_bounds-comes_again-end c = let w = c.line_end-end.ensures.within in omega arith
-
-pub overflow_add-end : goal.overflow_add-end
-overflow_add-end c = let w = c.line_end-end.ensures.within in omega arith
-
-pub slice_bounds-comes_again-count-in-loop-at : goal.slice_bounds-comes_again-count-in-loop-at
-slice_bounds-comes_again-count-in-loop-at c = let w = c.line_end-end.ensures.within in omega arith
-
-pub slice_bounds-comes_again-start-in-loop-at : goal.slice_bounds-comes_again-start-in-loop-at
-slice_bounds-comes_again-start-in-loop-at c = let w = c.line_end-end.ensures.within in omega arith
-
-pub returns-then-comes_again : goal.returns-then-comes_again
-returns-then-comes_again c =
-    let s = c.args.list.now in
-    let l = c.loop-at in
-    let e = c.line_end-end in
-    let w = e.ensures.within in
-    let r = c.comes_again in
-    let again = subst (λ t. Again (part l.at e.result s) t r.result) (part_rest s (e.result + 1)) r.ensures in
-    sym (fault_again s l.at e.result e.ensures (omega arith) (λ q. omega arith) r.result again c.if-comes_again.true) ∙ l.invariant.1
-
-pub overflow_add-at : goal.overflow_add-at
-overflow_add-at c = let w = c.line_end-end.ensures.within in omega arith
-
-pub loop-at-smaller : goal.loop-at-smaller
-loop-at-smaller c = let f = c.line_end-end.ensures.from in let w = c.line_end-end.ensures.within in omega arith
-
-pub loop-at-preserved : goal.loop-at-preserved
-loop-at-preserved c =
-    let s = c.args.list.now in
-    let l = c.loop-at in
-    let e = c.line_end-end in
-    let w = e.ensures.within in
-    let r = c.comes_again in
-    let again = subst (λ t. Again (part l.at e.result s) t r.result) (part_rest s (e.result + 1)) r.ensures in
-    (omega arith, sym (fault_later s l.at e.result e.ensures (omega arith) (λ q. omega arith) r.result again c.if-comes_again.false) ∙ l.invariant.1)
+pub loop-line-preserved : goal.loop-line-preserved
+loop-line-preserved c =
+    let s = c.in-Some in
+    sym (fault_of_rest _ _ _ s.ensures (λ e. search (rules, tests)) c.comes_again.result c.comes_again.ensures c.if-comes_again.false)
+    ∙ c.loop-line.invariant
 
 pub returns : goal.returns
-returns c =
-    let s = c.args.list.now in
-    let l = c.loop-at in
-    sym (fault_none s l.at (omega arith)) ∙ l.invariant.1
+returns c = sym (sym c.loop-line.invariant ∙ fault_at_end c.loop-line.rest.now c.in_default.ensures ∙ search (rules, tests))

@@ -1,12 +1,10 @@
--- `wordlist_lines::has_fault` meets its contract: the lines from `at` on decide.
-use Prim.Native.Nat.{◌≤◌, ◌-◌}
-use mathlib.Core.Path.{◌≡◌}
-use lib.ListN.{length, drop}
+-- `wordlist_lines::has_fault` meets its contract: the lines that are left decide.
+use Rattle.std.proofs.Common.{◌≡◌, length}
 use Rattle.wordlist.specs.Words.{list_fault}
 use Rattle.wordlist_lines.proofs.has_fault.Given as goal
 
-abbrev pub invariant-loop-at : goal.invariant-loop-at
-invariant-loop-at l = (l.at ≤ length l.list) × (list_fault (drop l.at l.list) ≡ list_fault l.list)
+abbrev pub invariant-loop-line : goal.invariant-loop-line
+invariant-loop-line l = list_fault l.rest ≡ list_fault l.fn.list
 
-abbrev pub decreases-loop-at : goal.decreases-loop-at
-decreases-loop-at l = length l.list - l.at
+abbrev pub decreases-loop-line : goal.decreases-loop-line
+decreases-loop-line l = length l.rest
