@@ -1,11 +1,11 @@
 -- Members taken out of a set one by one, in the order of the list.
-use Rattle.std.specs.Prelude.{ℕ, ◌+◌, ◌<◌, ◌≡◌, refl, Bool, false, ◌⊎◌, List, length, get_or, set as put}
+use Rattle.std.specs.Prelude.{ℕ, ◌+◌, ◌≤◌, ◌<◌, ◌≡◌, refl, Bool, false, ◌⊎◌, List, length, get_or, take, set as put}
 use Rattle.std.proofs.Common.{sym, ap, ◌∙◌, inl, inr, arith, length-set, get_or-set_same, get_or-set_other}
 use Rattle.std.proofs.lemmas.Bool.{false≢true}
 use Rattle.lists.proofs.OrderLaws.{eq_or_ne}
 use Rattle.lists.specs.Marks.{Has, Listed}
 use Rattle.trellis_members.specs.Members.{Members}
-use Rattle.trellis_members.specs.MembersLaws.{members_empty}
+use Rattle.trellis_members.specs.MembersLaws.{members_empty, members_list}
 
 -- the first k elements of the list were taken out of the set
 pub record TakenOut (list : List ℕ) (k : ℕ) (before after : List Bool) : Type 0 where
@@ -41,6 +41,9 @@ module _ {list : List ℕ} {k : ℕ} {before after : List Bool} (taken : TakenOu
           let t = taken.left u (sym (get_or-set_other after (get_or list k 0) u false false d) ∙ h) in
           (t.0, λ l. t.1 (earlier u d l))
 
-pub taken_all : {list : List ℕ} {n : ℕ} {before after : List Bool} → Members before list n → TakenOut list n before after → Members after list 0
-taken_all {list = list} {after = after} members taken =
-    members_empty after list (taken.size ∙ members.size) members.room (λ u h. let t = taken.left u h in t.1 (members.all u t.0))
+pub taken_all :
+    {list : List ℕ} {n k : ℕ} {before after : List Bool} → Members before list n → TakenOut (take n list) k before after
+    → length (take n list) ≤ k → Members after list 0
+taken_all {list = list} {n = n} {after = after} members taken end =
+    members_empty after list (taken.size ∙ members.size) members.room
+    (λ u h. let t = taken.left u h in let l = (members_list members).all u t.0 in t.1 (l.0, (let i = l.1 in omega arith), l.2))

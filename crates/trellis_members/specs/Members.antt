@@ -16,6 +16,16 @@ pub record Members (set : List Bool) (list : List ℕ) (n : ℕ) : Type 0 where
   pub has : (k : ℕ) → k < n → Has set (get_or list k 0)
   pub all : (u : ℕ) → Has set u → Listed list n u
 
+-- a list of the members of a set, each of them once
+pub record Lists (set : List Bool) (list : List ℕ) : Type 0 where
+  pub number : length list ≡ trues set
+  pub has : (k : ℕ) → k < length list → Has set (get_or list k 0)
+  pub all : (u : ℕ) → Has set u → Listed list (length list) u
+
+-- no member
+abbrev pub IsEmpty : List Bool → Type 0
+IsEmpty set = (u : ℕ) → Has set u → ⊥
+
 -- the place u and no other
 abbrev pub Just : (u k : ℕ) → Type 0
 Just u k = k ≡ u

@@ -1,12 +1,13 @@
 -- Laws of a set with the list of its members: the number of members, no member, one member more, and a state put if it fits.
-use Rattle.std.specs.Prelude.{ℕ, zero, suc, ◌+◌, ◌<◌, ◌≤◌, ◌≡◌, refl, Bool, true, false, cond, not, ◌&&◌, ◌||◌, ◌⊎◌, List, [], ◌∷◌, length, get_or, set as put, replicate}
-use Rattle.std.proofs.Common.{sym, ap, subst, ◌∙◌, inl, inr, arith, length-set, get_or-set_same, get_or-set_other}
+use Rattle.std.specs.Prelude.{ℕ, zero, suc, ◌+◌, ◌<◌, ◌≤◌, ◌≡◌, refl, Bool, true, false, cond, not, ◌&&◌, ◌||◌, ◌⊎◌, List, [], ◌∷◌, length, get_or, take, set as put, replicate}
+use Rattle.std.specs.Int.{from_bool}
+use Rattle.std.proofs.Common.{sym, ap, subst, ◌∙◌, inl, inr, arith, length-set, length-take-le, get_or-take, get_or-set_same, get_or-set_other}
 use Rattle.std.proofs.lemmas.Bool.{false≢true}
 use Rattle.std.proofs.lemmas.List.{length-replicate, set-get_or}
 use Rattle.lists.proofs.OrderLaws.{eq_or_ne}
 use Rattle.lists.proofs.MarksLaws.{has_none, marks_none, marks_one, marks_same}
 use Rattle.lists.specs.Marks.{Has, Marks, Listed}
-use Rattle.trellis_members.specs.Members.{trues, Members, Just, JustIf}
+use Rattle.trellis_members.specs.Members.{trues, Members, Lists, IsEmpty, Just, JustIf}
 
 pub has_inside : (s : List Bool) (u : ℕ) → Has s u → u < length s
 has_inside [] u h = absurd (false≢true h)
@@ -60,17 +61,40 @@ pub members_none : (list : List ℕ) → length list ≡ 256 → Members (replic
 members_none list room = members_empty (replicate 255 false) list (length-replicate 255 false) room (has_none 255)
 
 -- what is marked in a set of no member
-pub only_marked :
-    {before after : List Bool} {list : List ℕ} (P : ℕ → Type 0) → Members before list 0 → Marks P before after → (u : ℕ) → Has after u → P u
+pub only_marked : {before after : List Bool} (P : ℕ → Type 0) → IsEmpty before → Marks P before after → (u : ℕ) → Has after u → P u
 only_marked {before = before} P none m u h = by (m.only u h)
   where
     by : Has before u ⊎ P u → P u
-    by (inl z) = let l = (none.all u z).1 in absurd (omega arith)
+    by (inl z) = absurd (none u z)
     by (inr p) = p
+
+-- a truth value as a number
+pub one_if : (b : Bool) → from_bool b ≡ cond b 1 0
+one_if true = refl
+one_if false = refl
 
 module _ {s : List Bool} {list : List ℕ} {n : ℕ} (members : Members s list n) where
   pub members_most : n ≤ 255
   members_most = let t = trues_most s in let z = members.size in let m = members.number in omega arith
+
+  -- no member, where there are none
+  pub members_none_left : n ≡ 0 → IsEmpty s
+  members_none_left e u h = let l = (members.all u h).1 in absurd (omega arith)
+
+  -- the members, as a list of their own
+  pub members_list : Lists s (take n list)
+  members_list =
+      let high = members_most in
+      let room = members.room in
+      let long : length (take n list) ≡ n = length-take-le n list (omega arith) in
+      record {
+        number = long ∙ members.number;
+        has = λ k h. let l : k < n = omega arith in subst (Has s) (sym (get_or-take n list k 0 l)) (members.has k l);
+        all = λ u h. listed u (members.all u h) long;
+      }
+    where
+      listed : (u : ℕ) → Listed list n u → length (take n list) ≡ n → Listed (take n list) (length (take n list)) u
+      listed u (k, h, e) long = (k, omega arith, get_or-take n list k 0 h ∙ e)
 
   pub listed_has : (u : ℕ) → Listed list n u → Has s u
   listed_has u (k, h, e) = subst (Has s) e (members.has k h)

@@ -1,33 +1,74 @@
-// A set of states as an array of truth values, and the list of its members beside it, so that loops go over members only. The list has
-// one place more than there are states, so that the place after its last member can always be written.
+// A set of states with the list of its members, so that loops go over members only. The list has one place more than there are states,
+// so that the place after its last member can always be written.
 #![tactic(auto)]
 
-ghost use Rattle.std.specs.Prelude.{◌<◌};
-ghost use Rattle.lists.specs.Marks.{Marks};
-ghost use Rattle.trellis_members.specs.Members.{Members, JustIf};
+ghost use Rattle.std.specs.Prelude.{◌<◌, List, Bool, MatchBool, ℕ};
+ghost use Rattle.lists.specs.Marks.{Has, Marks};
+ghost use Rattle.trellis_members.specs.Members.{Members, Lists, IsEmpty, JustIf};
 
-use numbers::{narrow_byte, one_if, wide};
+use std::marker::Model;
 
-// Puts state u into the set of n members if it fits, unless it is there; returns the number of members. There is no branch: the list is
-// always written after its last member.
-pub fn put_if(fits: bool, u: usize, set: &mut [bool; 255], list: &mut [u8; 256], n: usize) -> usize
-    requires { Members set.old list.old n × (u < 255) }
-    ensures { Marks (JustIf fits u) set.old set.new × Members set.new list.new result }
-{
-    let added = fits & !set[u];
-    set[u] = set[u] | fits;
-    list[n] = narrow_byte(u);
-    n + one_if(added)
+#[derive(Drop)]
+pub struct States {
+    set: [bool; 255],
+    list: [u8; 256],
+    count: usize,
 }
 
-// Takes the n members out of the set.
-pub fn clear(set: &mut [bool; 255], list: &[u8; 256], n: usize)
-    requires { Members set.old list.now n }
-    ensures { Members set.new list.now 0 }
-{
-    let mut k = 0;
-    while k < n {
-        set[wide(list[k])] = false;
-        k += 1;
+// Contracts see the set alone.
+impl Model for States {
+    ghost Value = { List Bool };
+
+    ghost view = { λ s. s.set };
+
+    ghost invariant = { λ s. Members s.set s.list s.count };
+}
+
+impl States {
+    // No state.
+    pub fn new() -> States
+        ensures { IsEmpty result }
+    {
+        let set = [false; 255];
+        let list = [0; 256];
+        States {
+            set,
+            list,
+            count: 0,
+        }
+    }
+
+    pub fn is_empty(&self) -> bool
+        ensures { MatchBool result (IsEmpty self.now) ((u : ℕ) × Has self.now u) }
+    {
+        self.count == 0
+    }
+
+    // The members, each of them once.
+    pub fn listed(&self) -> &[u8]
+        ensures { Lists self.now result.now }
+    {
+        &self.list[..self.count]
+    }
+
+    // Puts state u if it fits, unless it is there. There is no branch: the list is always written after its last member.
+    pub fn put_if(&mut self, fits: bool, u: usize)
+        requires { u < 255 }
+        ensures { Marks (JustIf fits u) self.old self.new }
+    {
+        let added = fits & !self.set[u];
+        self.set[u] = self.set[u] | fits;
+        self.list[self.count] = u as u8;
+        self.count += added as usize;
+    }
+
+    // Takes all members out.
+    pub fn clear(&mut self)
+        ensures { IsEmpty self.new }
+    {
+        for &u in &self.list[..self.count] {
+            self.set[usize::from(u)] = false;
+        }
+        self.count = 0;
     }
 }
