@@ -68,6 +68,10 @@ only_marked {before = before} P none m u h = by (m.only u h)
     by (inl z) = absurd (none u z)
     by (inr p) = p
 
+-- what is on a list of the members is a member
+pub lists_has : {s : List Bool} {list : List ℕ} → Lists s list → (u : ℕ) → Listed list (length list) u → Has s u
+lists_has {s = s} lists u (k, h, e) = subst (Has s) e (lists.has k h)
+
 -- a truth value as a number
 pub one_if : (b : Bool) → from_bool b ≡ cond b 1 0
 one_if true = refl

@@ -1,10 +1,10 @@
 -- The kept states that steps lead to, one iteration at a time of the loops over letters, arcs and states.
-use Rattle.std.specs.Prelude.{ℕ, ◌+◌, ◌*◌, ◌-◌, ◌/◌, ◌≤◌, ◌<◌, ◌≡◌, refl, Bool, true, false, not, ◌&&◌, List, ◌⊎◌, ◌↔◌, eqb, get_or}
+use Rattle.std.specs.Prelude.{ℕ, ◌+◌, ◌*◌, ◌-◌, ◌/◌, ◌≤◌, ◌<◌, ◌≡◌, refl, Bool, true, false, not, ◌&&◌, List, ◌⊎◌, ◌↔◌, eqb, length, get_or}
 use Rattle.std.proofs.Common.{sym, ap, ◌∙◌, subst, inl, inr, arith, eqb-true, eq-eqb, ne_eqb}
 use Rattle.std.proofs.lemmas.Bool.{eqb-false, not-true}
 use Rattle.lists.proofs.OrderLaws.{not_both, and_left, and_right, and_both}
 use Rattle.lists.proofs.MarksLaws.{marks_none, marks_same, marks_then, iterations_more}
-use Rattle.lists.specs.Marks.{Marks, Iterations, Listed}
+use Rattle.lists.specs.Marks.{Has, Marks, Iterations, Listed}
 use Rattle.automaton.specs.Automaton.{Automaton}
 use Rattle.automaton.specs.Proper.{Proper}
 use Rattle.automaton.specs.Form.{letters_of, alphabet_of, view, target}
@@ -17,7 +17,8 @@ use Rattle.trellis.specs.Extended.{OnLetter, stay, pass, arc, rest, leave}
 use Rattle.trellis.proofs.ExtendedLaws.{AtLetter, at_letter}
 use Rattle.trellis.specs.Reached.{entering, Reached}
 use Rattle.trellis.proofs.ReachedLaws.{entering_blanks, entering_letter}
-use Rattle.trellis_members.specs.Members.{Just, JustIf}
+use Rattle.trellis_members.specs.Members.{Lists, Just, JustIf}
+use Rattle.trellis_members.specs.MembersLaws.{lists_has}
 use Rattle.trellis_steps.specs.Steps.{AddUp, Keeps, KeptIn, KeptOf, KeptAt, Onto, OtherLetter, Led, Following, TargetOf, From}
 
 -- a state is entered by the blank or by a label of the alphabet
@@ -224,3 +225,12 @@ all_put A column row v list n set after = kept_same A column row v (Iterations (
 
     back : (u : ℕ) → Reached A (Listed list n) u → Iterations (From A list) 0 n u
     back u (s, (k, high, e), q) = (k, omega arith, high, subst (λ s. Onto A s u) (sym e) q)
+
+-- the same by the set whose members the list has
+pub members_put :
+    (A : Automaton) (column row : List ℕ) (v : ℕ) {from : List Bool} {list : List ℕ} (set after : List Bool) → Lists from list
+    → Marks (KeptOf A column row v (Listed list (length list))) set after → Marks (KeptOf A column row v (Has from)) set after
+members_put A column row v {from = from} {list = list} set after lists =
+    kept_same A column row v (Reached A (Listed list (length list))) (Reached A (Has from)) set after
+    (λ u (s, l, o). (s, lists_has lists s l, o))
+    (λ u (s, h, o). (s, lists.all s h, o))

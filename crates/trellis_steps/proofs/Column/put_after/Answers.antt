@@ -1,0 +1,36 @@
+-- `Column::put_after` meets its contract: the first letters, or the targets of the letter's arcs.
+use Prim.Native.Nat.{◌+◌}
+use mathlib.Core.Path.{sym, subst}
+use native.Mathlib.Omega.{arith}
+use lib.ListN.{get_or}
+use Rattle.lists.specs.Marks.{Marks}
+use Rattle.form_starts.specs.Loops.{range_rises}
+use Rattle.trellis_steps.specs.Steps.{Following}
+use Rattle.trellis_steps.specs.Loops.{targets_put}
+use Rattle.trellis_steps.specs.Kept.{words, graph, Kept}
+use Rattle.trellis_steps.proofs.Column.put_after.Goals as goal
+
+pub put_targets-requires : goal.put_targets-requires
+put_targets-requires c =
+    let s = c.args.self.now in
+    let i = c.args.i in
+    let few = s.form.valid.head.letters_high in
+    let first = s.started.starts i (omega arith) in
+    let next = s.started.starts (i + 1) (omega arith) in
+    (first.past, range_rises (words s) i (get_or s.starts.now i 0) (get_or s.starts.now (i + 1) 0) first next, next.inside)
+
+pub returns-then-i-eq0 : goal.returns-then-i-eq0
+returns-then-i-eq0 c =
+    let a = c.args in
+    let s = a.self.now in
+    subst (λ i. Marks (Kept s (Following (graph s) a.own i)) a.to.now c.put_firsts.new.to) (sym c.if-i-eq0.true) c.put_firsts.ensures
+
+pub returns-else-i-eq0 : goal.returns-else-i-eq0
+returns-else-i-eq0 c =
+    let a = c.args in
+    let s = a.self.now in
+    let few = s.form.valid.head.letters_high in
+    let first = s.started.starts a.i (omega arith) in
+    let next = s.started.starts (a.i + 1) (omega arith) in
+    targets_put (words s) s.costs.now s.row.now s.left s.form.valid a.own a.to.now c.put_targets.new.to a.i (get_or s.starts.now a.i 0)
+    (get_or s.starts.now (a.i + 1) 0) (omega arith) first next c.put_targets.ensures

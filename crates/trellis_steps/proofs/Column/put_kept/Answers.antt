@@ -1,0 +1,42 @@
+-- `Column::put_kept` meets its contract: the iterations so far have put what steps from their states lead to.
+use mathlib.Core.Path.{◌≡◌, subst}
+use native.Mathlib.Omega.{arith}
+use lib.ListN.{length, get_or}
+use Rattle.lists.specs.Marks.{Marks, Iterations}
+use Rattle.trellis_steps.specs.Steps.{Onto, From}
+use Rattle.trellis_steps.specs.Loops.{kept_iterations_none, kept_iterations_more, all_put, members_put}
+use Rattle.trellis_steps.specs.Kept.{graph, Kept}
+use Rattle.trellis_steps.proofs.Column.put_kept.Goals as goal
+
+pub loop-s-init : goal.loop-s-init
+loop-s-init c =
+    let a = c.args in
+    let s = a.self.now in
+    kept_iterations_none (graph s) s.costs.now s.row.now s.left (From (graph s) c.listed-s-items.result.now) 0 a.to.now
+
+pub put_steps-requires : goal.put_steps-requires
+put_steps-requires c =
+    let items = c.listed-s-items in
+    let high = c.requires (get_or items.result.now c.loop-s.s-index 0) (items.ensures.has c.loop-s.s-index c.loop-s-test.true) in
+    let e = c.from.ensures in
+    omega arith
+
+pub loop-s-preserved : goal.loop-s-preserved
+loop-s-preserved c =
+    let a = c.args in
+    let s = a.self.now in
+    let l = c.loop-s in
+    let after = c.put_steps.new.to in
+    kept_iterations_more (graph s) s.costs.now s.row.now s.left (From (graph s) c.listed-s-items.result.now) 0 l.s-index a.to.now l.to after
+    (omega arith) l.invariant (subst (λ u. Marks (Kept s (Onto (graph s) u)) l.to after) c.from.ensures c.put_steps.ensures)
+
+pub returns : goal.returns
+returns c =
+    let a = c.args in
+    let s = a.self.now in
+    let l = c.loop-s in
+    let items = c.listed-s-items.result.now in
+    let end : l.s-index ≡ length items = omega arith in
+    members_put (graph s) s.costs.now s.row.now s.left a.to.now l.to c.listed-s-items.ensures
+    (all_put (graph s) s.costs.now s.row.now s.left items (length items) a.to.now l.to
+    (subst (λ k. Marks (Kept s (Iterations (From (graph s) items) 0 k)) a.to.now l.to) end l.invariant))
