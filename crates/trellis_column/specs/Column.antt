@@ -6,7 +6,7 @@ use Rattle.automaton.specs.Automaton.{Automaton}
 use Rattle.trellis.specs.Reached.{entering}
 use Rattle.trellis_steps.specs.Steps.{AddUp, KeptOf}
 
--- the value that means 'no label'
+-- a number above all labels
 abbrev pub NONE : ℕ
 NONE = 256
 
@@ -43,6 +43,10 @@ pub record LowEnough (A : Automaton) (column row : List ℕ) (v : ℕ) (In : ℕ
 -- x is the label of a state of the set
 abbrev pub LabelIn : Automaton → (ℕ → Type 0) → ℕ → Type 0
 LabelIn A In x = (u : ℕ) × In u × (x ≡ entering A u)
+
+-- x is offered, and nothing below it
+abbrev pub Lowest : (ℕ → Type 0) → ℕ → Type 0
+Lowest Offered x = Offered x × ((y : ℕ) → Offered y → x ≤ y)
 
 -- x is the label of the state at index k of a list
 abbrev pub LabelAt : Automaton → List ℕ → (k x : ℕ) → Type 0

@@ -1,5 +1,5 @@
 -- Laws of one column of the trace: kept states that are low enough have the lowest label of all, and the states of that label.
-use Rattle.std.specs.Prelude.{ℕ, ◌*◌, ◌-◌, ◌≤◌, ◌<◌, ◌≡◌, refl, Bool, List, ◌⊎◌, get_or}
+use Rattle.std.specs.Prelude.{ℕ, ◌*◌, ◌-◌, ◌≤◌, ◌<◌, ◌≡◌, refl, Bool, List, ◌⊎◌, Option, Some, None, IsSome, MatchOption, get_or}
 use Rattle.std.proofs.Common.{sym, ap, inl, inr, arith}
 use Rattle.lists.proofs.OrderLaws.{lt_or_le}
 use Rattle.lists.specs.Least.{Least}
@@ -9,26 +9,26 @@ use Rattle.automaton.proofs.ValidLaws.{valid_proper}
 use Rattle.trellis.proofs.ExtendedLaws.{step_within}
 use Rattle.trellis.specs.Reached.{entering}
 use Rattle.trellis_steps.specs.Loops.{entering_high}
-use Rattle.trellis_members.specs.Members.{Members}
+use Rattle.trellis_members.specs.Members.{Members, IsEmpty}
 use Rattle.trellis_members.specs.MembersLaws.{listed_has, only_marked}
 use Rattle.trellis_steps.specs.Steps.{ColumnReady, KeptOf, Within}
-use Rattle.trellis_column.specs.Column.{NONE, Blanks, LowEnough, LabelIn, OfLabel, SomeKept, Taken}
+use Rattle.trellis_column.specs.Column.{NONE, Blanks, LowEnough, LabelIn, Lowest, OfLabel, SomeKept, Taken}
 use Rattle.trellis_column.specs.BlanksLaws.{blanks_kept, kept_blanks}
 
 -- Kept states, all those of the lowest label among them.
 
-module _ (f column row : List ℕ) (v : ℕ) (In : ℕ → Type 0) {set near : List Bool} {list : List ℕ} (empty : Members set list 0) where
+module _ (f column row : List ℕ) (v : ℕ) (In : ℕ → Type 0) {set near : List Bool} (empty : IsEmpty set) where
   -- the blanks, if there are any
   pub lowest_blanks :
-      {nears : List ℕ} {m : ℕ} → ColumnReady f column row v → Within f In → Marks (Blanks column row v In) set near → Members near nears m → 0 < m
+      ColumnReady f column row v → Within f In → Marks (Blanks column row v In) set near → (u : ℕ) × Has near u
       → LowEnough (view f) column row v In near
-  lowest_blanks {nears = nears} z w k e h =
+  lowest_blanks z w k some =
       let p = valid_proper f z.valid in
       let only : (u : ℕ) → Has near u → OfLabel (view f) 0 (KeptOf (view f) column row v In) u =
       λ u i. blanks_kept p column row v In w u (only_marked (Blanks column row v In) empty k u i) in
       record {
         hit = λ u i. (only u i).0;
-        some = (get_or nears 0 0, e.has 0 h);
+        some = some;
         low = λ u x q i l. let o = (only x i).1 in k.marked u (kept_blanks p column row v In w u q (omega arith));
       }
 
@@ -42,13 +42,12 @@ module _ (f column row : List ℕ) (v : ℕ) (In : ℕ → Type 0) {set near : L
         low = λ u x q i l. k.marked u q;
       }
 
--- The column as a whole: kept states, all those of the lowest label among them, and the list of these states.
+-- The column as a whole: kept states, all those of the lowest label among them.
 
-pub record Nearby (f column row : List ℕ) (v : ℕ) (In : ℕ → Type 0) (near : List Bool) (nears : List ℕ) (n : ℕ) : Type 0 where
+pub record Nearby (f column row : List ℕ) (v : ℕ) (In : ℕ → Type 0) (near : List Bool) : Type 0 where
   pub sized : ColumnReady f column row v
   pub within : Within f In
   pub enough : LowEnough (view f) column row v In near
-  pub members : Members near nears n
 
 module _ (f column row : List ℕ) (v : ℕ) {set : List Bool} {list : List ℕ} {n : ℕ} (from : Members set list n) where
   listed_kept : (u : ℕ) → KeptOf (view f) column row v (Has set) u → KeptOf (view f) column row v (Listed list n) u
@@ -61,9 +60,9 @@ module _ (f column row : List ℕ) (v : ℕ) {set : List Bool} {list : List ℕ}
   listed_within w s i = w s (listed_has from s i)
 
   pub nearby :
-      {near : List Bool} {nears : List ℕ} {m : ℕ} → ColumnReady f column row v → Within f (Has set)
-      → LowEnough (view f) column row v (Listed list n) near → Members near nears m → Nearby f column row v (Has set) near nears m
-  nearby z w e k =
+      {near : List Bool} → ColumnReady f column row v → Within f (Has set) → LowEnough (view f) column row v (Listed list n) near
+      → Nearby f column row v (Has set) near
+  nearby z w e =
       record {
         sized = z;
         within = w;
@@ -73,36 +72,43 @@ module _ (f column row : List ℕ) (v : ℕ) {set : List Bool} {list : List ℕ}
               some = e.some;
               low = λ u x q. e.low u x (listed_kept u q);
             };
-        members = k;
       }
 
-module _ {f column row : List ℕ} {v : ℕ} {In : ℕ → Type 0} {near : List Bool} {nears : List ℕ} {n : ℕ}
-    (nearby : Nearby f column row v In near nears n) where
+module _ {f column row : List ℕ} {v : ℕ} {In : ℕ → Type 0} {near : List Bool} (nearby : Nearby f column row v In near) where
   near_high : (u : ℕ) → Has near u → u ≤ 2 * letters_of f
   near_high u h =
       let r = (nearby.enough.hit u h).0 in
       step_within (valid_proper f nearby.sized.valid) r.0 (entering (view f) u) u r.2 (nearby.within r.0 r.1)
 
   -- the states near are states of the form
-  pub near_within : Within f (Listed nears n)
-  near_within u l = near_high u (listed_has nearby.members u l)
+  pub near_within : Within f (Has near)
+  near_within = near_high
 
   near_label : (u : ℕ) → Has near u → entering (view f) u ≤ alphabet_of f
   near_label u h = entering_high f nearby.sized.valid u (near_high u h)
 
-  module _ {x : ℕ} (least : Least NONE (LabelIn (view f) (Listed nears n)) x) where
+  -- the lowest label is below NONE
+  pub least_lowest : {x : ℕ} → Least NONE (LabelIn (view f) (Has near)) x → Lowest (LabelIn (view f) (Has near)) x
+  least_lowest least =
+      let some = nearby.enough.some in
+      let high = near_label some.0 some.1 in
+      let few = nearby.sized.valid.head.alphabet_high in
+      let l = least.least (entering (view f) some.0) (some.0, some.1, refl) in
+      (least.met (omega arith), least.least)
+
+  -- there is a lowest label
+  pub some_lowest :
+      (o : Option ℕ) → MatchOption o (IsEmpty near) (Lowest (LabelIn (view f) (Has near))) → IsSome o
+  some_lowest None e = let some = nearby.enough.some in absurd (e some.0 some.1)
+  some_lowest (Some x) e = refl
+
+  module _ {x : ℕ} (least : Lowest (LabelIn (view f) (Has near)) x) where
     least_label : (u : ℕ) → Has near u → x ≤ entering (view f) u
-    least_label u h = least.least (entering (view f) u) (u, nearby.members.all u h, refl)
+    least_label u h = least.1 (entering (view f) u) (u, h, refl)
 
     -- some state has the lowest label
     found : LabelIn (view f) (Has near) x
-    found =
-        let some = nearby.enough.some in
-        let high = near_label some.0 some.1 in
-        let few = nearby.sized.valid.head.alphabet_high in
-        let l = least_label some.0 some.1 in
-        let met = least.met (omega arith) in
-        (met.0, listed_has nearby.members met.0 met.1, met.2)
+    found = least.0
 
     pub lowest_label : x ≤ alphabet_of f
     lowest_label = let o = found in let high = near_label o.0 o.1 in let e = o.2 in omega arith
@@ -128,7 +134,7 @@ module _ {f column row : List ℕ} {v : ℕ} {In : ℕ → Type 0} {near : List 
         by (inr h) = h
 
     pub taken :
-        {set next : List Bool} {list : List ℕ} → Members set list 0 → Marks (OfLabel (view f) x (Listed nears n)) set next
+        {set next : List Bool} → IsEmpty set → Marks (OfLabel (view f) x (Has near)) set next
         → Taken (view f) column row v In x (v - get_or column x 0) (Has next)
     taken empty m =
         record {
@@ -136,9 +142,7 @@ module _ {f column row : List ℕ} {v : ℕ} {In : ℕ → Type 0} {near : List 
           one = found.0;
           kept = nearby.enough.hit found.0 found.1;
           by_label = sym found.2;
-          hit = λ u h.
-              let o = only_marked (OfLabel (view f) x (Listed nears n)) empty m u h in
-              (nearby.enough.hit u (listed_has nearby.members u o.0), o.1);
-          all = λ u k e. m.marked u (nearby.members.all u (kept_near u k (omega arith)), e);
+          hit = λ u h. let o = only_marked (OfLabel (view f) x (Has near)) empty m u h in (nearby.enough.hit u o.0, o.1);
+          all = λ u k e. m.marked u (kept_near u k (omega arith), e);
           paid = refl;
         }

@@ -41,9 +41,14 @@ module _ {list : List ℕ} {k : ℕ} {before after : List Bool} (taken : TakenOu
           let t = taken.left u (sym (get_or-set_other after (get_or list k 0) u false false d) ∙ h) in
           (t.0, λ l. t.1 (earlier u d l))
 
-pub taken_all :
+pub taken_all : {list : List ℕ} {n : ℕ} {before after : List Bool} → Members before list n → TakenOut list n before after → Members after list 0
+taken_all {list = list} {after = after} members taken =
+    members_empty after list (taken.size ∙ members.size) members.room (λ u h. let t = taken.left u h in t.1 (members.all u t.0))
+
+-- the same of the list of the members alone
+pub taken_members :
     {list : List ℕ} {n k : ℕ} {before after : List Bool} → Members before list n → TakenOut (take n list) k before after
     → length (take n list) ≤ k → Members after list 0
-taken_all {list = list} {n = n} {after = after} members taken end =
+taken_members {list = list} {n = n} {after = after} members taken end =
     members_empty after list (taken.size ∙ members.size) members.room
     (λ u h. let t = taken.left u h in let l = (members_list members).all u t.0 in t.1 (l.0, (let i = l.1 in omega arith), l.2))

@@ -1,66 +1,56 @@
 -- `trellis_column::advance` meets its contract: some state is kept, so there is a lowest label.
-use native.Mathlib.Omega.{arith}
-use Rattle.trellis_members.specs.MembersLaws.{members_most}
-use Rattle.trellis_column.specs.ColumnLaws.{listed_some, listed_within, nearby, near_within, lowest_label, lowest_paid, taken}
+use Rattle.std.proofs.Common.{MatchOption, subst, arith}
+use Rattle.lists.specs.Marks.{Has}
+use Rattle.trellis_steps.specs.Kept.{graph}
+use Rattle.trellis_members.specs.Members.{IsEmpty}
+use Rattle.trellis_column.specs.Column.{LabelIn, Lowest}
+use Rattle.trellis_column.specs.ColumnLaws.{near_within, some_lowest, lowest_label, lowest_paid, taken}
 use Rattle.trellis_column.proofs.advance.Goals as goal
 
-pub put_lowest-m-requires : goal.put_lowest-m-requires
-put_lowest-m-requires c =
-    let a = c.args in
-    let p = c.requires in
-    (p.0, p.1, listed_within a.form.now a.column.now a.row.now a.v p.2 p.3, members_most p.2, listed_some a.form.now a.column.now a.row.now a.v p.2 p.4, p.5)
+pub lowest-requires : goal.lowest-requires
+lowest-requires c =
+    near_within {In = Has c.args.set.now} (record { sized = c.args.column.now.ready; within = c.requires.0; enough = c.put_lowest.ensures })
 
-pub lowest-x-requires : goal.lowest-x-requires
-lowest-x-requires c =
-    let a = c.args in
-    let p = c.requires in
-    let near = nearby a.form.now a.column.now a.row.now a.v p.2 p.0 p.3 c.put_lowest-m.ensures.0 c.put_lowest-m.ensures.1 in
-    (c.requires.0.valid, near_within near, members_most c.put_lowest-m.ensures.1)
+pub unwrap-x-requires : goal.unwrap-x-requires
+unwrap-x-requires c =
+    some_lowest {In = Has c.args.set.now} (record { sized = c.args.column.now.ready; within = c.requires.0; enough = c.put_lowest.ensures })
+    c.lowest.result c.lowest.ensures
 
-pub clear-requires : goal.clear-requires
-clear-requires c = c.requires.2
-
-pub picked-count-requires : goal.picked-count-requires
-picked-count-requires c =
-    let a = c.args in
-    let p = c.requires in
-    let near = nearby a.form.now a.column.now a.row.now a.v p.2 p.0 p.3 c.put_lowest-m.ensures.0 c.put_lowest-m.ensures.1 in
-    (c.requires.0.valid, near_within near, members_most c.put_lowest-m.ensures.1, c.clear.ensures)
-
-pub clear-requires-2 : goal.clear-requires-2
-clear-requires-2 c = c.put_lowest-m.ensures.1
-
-pub offset_bounds-column-x : goal.offset_bounds-column-x
-offset_bounds-column-x c =
-    let a = c.args in
-    let p = c.requires in
-    let near = nearby a.form.now a.column.now a.row.now a.v p.2 p.0 p.3 c.put_lowest-m.ensures.0 c.put_lowest-m.ensures.1 in
-    let l = lowest_label near c.lowest-x.ensures in let few = c.requires.0.valid.head.alphabet_high in omega arith
+pub put_of_label-requires : goal.put_of_label-requires
+put_of_label-requires c =
+    near_within {In = Has c.args.set.now} (record { sized = c.args.column.now.ready; within = c.requires.0; enough = c.put_lowest.ensures })
 
 pub bounds-column-x : goal.bounds-column-x
 bounds-column-x c =
-    let a = c.args in
-    let p = c.requires in
-    let near = nearby a.form.now a.column.now a.row.now a.v p.2 p.0 p.3 c.put_lowest-m.ensures.0 c.put_lowest-m.ensures.1 in
-    let l = lowest_label near c.lowest-x.ensures in let w = c.requires.0.wide in omega arith
+    let s = c.args.column.now in
+    let near = c.put_lowest.new.near in
+    let least = subst (λ o. MatchOption o (IsEmpty near) (Lowest (LabelIn (graph s) (Has near)))) c.unwrap-x.ensures c.lowest.ensures in
+    let l = lowest_label {In = Has c.args.set.now} (record { sized = s.ready; within = c.requires.0; enough = c.put_lowest.ensures }) least in
+    let wide = s.ready.wide in
+    omega arith
 
-pub overflow_sub-left : goal.overflow_sub-left
-overflow_sub-left c =
-    let a = c.args in
-    let p = c.requires in
-    let near = nearby a.form.now a.column.now a.row.now a.v p.2 p.0 p.3 c.put_lowest-m.ensures.0 c.put_lowest-m.ensures.1 in
-    let l = lowest_paid near c.lowest-x.ensures in omega arith
+pub overflow_sub-result : goal.overflow_sub-result
+overflow_sub-result c =
+    let s = c.args.column.now in
+    let near = c.put_lowest.new.near in
+    let least = subst (λ o. MatchOption o (IsEmpty near) (Lowest (LabelIn (graph s) (Has near)))) c.unwrap-x.ensures c.lowest.ensures in
+    lowest_paid {In = Has c.args.set.now} (record { sized = s.ready; within = c.requires.0; enough = c.put_lowest.ensures }) least
 
-pub overflow_cast-label : goal.overflow_cast-label
-overflow_cast-label c =
-    let a = c.args in
-    let p = c.requires in
-    let near = nearby a.form.now a.column.now a.row.now a.v p.2 p.0 p.3 c.put_lowest-m.ensures.0 c.put_lowest-m.ensures.1 in
-    let l = lowest_label near c.lowest-x.ensures in let few = c.requires.0.valid.head.alphabet_high in omega arith
+pub overflow_cast-result : goal.overflow_cast-result
+overflow_cast-result c =
+    let s = c.args.column.now in
+    let near = c.put_lowest.new.near in
+    let least = subst (λ o. MatchOption o (IsEmpty near) (Lowest (LabelIn (graph s) (Has near)))) c.unwrap-x.ensures c.lowest.ensures in
+    let l = lowest_label {In = Has c.args.set.now} (record { sized = s.ready; within = c.requires.0; enough = c.put_lowest.ensures }) least in
+    let few = s.form.valid.head.alphabet_high in
+    omega arith
 
 pub returns : goal.returns
 returns c =
-    let a = c.args in
-    let p = c.requires in
-    let near = nearby a.form.now a.column.now a.row.now a.v p.2 p.0 p.3 c.put_lowest-m.ensures.0 c.put_lowest-m.ensures.1 in
-    (taken near c.lowest-x.ensures c.clear.ensures c.picked-count.ensures.0, c.picked-count.ensures.1, c.clear-2.ensures)
+    let s = c.args.column.now in
+    let near = c.put_lowest.new.near in
+    let least = subst (λ o. MatchOption o (IsEmpty near) (Lowest (LabelIn (graph s) (Has near)))) c.unwrap-x.ensures c.lowest.ensures in (
+      taken {In = Has c.args.set.now} (record { sized = s.ready; within = c.requires.0; enough = c.put_lowest.ensures }) least c.clear.ensures
+          c.put_of_label.ensures,
+      c.clear-2.ensures,
+    )

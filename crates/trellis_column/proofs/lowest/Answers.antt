@@ -1,53 +1,32 @@
 -- `trellis_column::lowest` meets its contract: the loop has the lowest of the labels so far.
 use Prim.Native.Nat.{◌+◌}
-use mathlib.Core.Path.{◌≡◌, refl, sym, ap, ◌∙◌, subst}
-use native.Mathlib.Omega.{arith}
-use lib.ListN.{get_or}
-use Rattle.lists.proofs.LeastLaws.{least_start, least_more}
-use Rattle.lists.specs.Least.{Least, Among}
-use Rattle.automaton.specs.Form.{view}
+use Rattle.std.proofs.Common.{MatchOption, ◌≡◌, sym, ap, ◌∙◌, subst, get_or, arith}
+use Rattle.lists.specs.Least.{Among}
 use Rattle.trellis.specs.Reached.{entering}
-use Rattle.trellis_column.specs.Column.{NONE, LabelAt}
-use Rattle.trellis_column.specs.Loops.{label_least, labels_all}
+use Rattle.trellis_steps.specs.Kept.{graph}
+use Rattle.trellis_column.specs.Column.{LabelAt, Lowest}
+use Rattle.trellis_column.specs.Loops.{lowest_first, lowest_more, lowest_members}
 use Rattle.trellis_column.proofs.lowest.Goals as goal
+use Rattle.trellis_column.proofs.lowest.Goals.{in-Some, in-None}
 
-pub loop-k-init : goal.loop-k-init
-loop-k-init c =
-    let a = c.args in
-    (omega arith, least_start 0 (LabelAt (view a.form.now) a.nears.now))
-
-pub bounds-nears-k : goal.bounds-nears-k
-bounds-nears-k c = omega (arith, c.loop-k-test.true, c.requires.2)
-
-pub entering-requires : goal.entering-requires
-entering-requires c =
-    let a = c.args in
-    let e = c.wide.ensures in
-    let w = c.requires.1 (get_or a.nears.now c.loop-k.k 0) (c.loop-k.k, c.loop-k-test.true, refl) in
-    (c.requires.0.long, omega arith)
-
-pub overflow_add-k : goal.overflow_add-k
-overflow_add-k c = omega (arith, c.loop-k-test.true, c.requires.2)
-
-pub loop-k-smaller : goal.loop-k-smaller
-loop-k-smaller c = omega (arith, c.loop-k-test.true)
-
-pub loop-k-preserved : goal.loop-k-preserved
-loop-k-preserved c =
-    let a = c.args in
-    let l = c.loop-k in
-    let Q = LabelAt (view a.form.now) a.nears.now in
-    let w = c.requires.1 (get_or a.nears.now l.k 0) (l.k, c.loop-k-test.true, refl) in (
-      omega (arith, c.loop-k-test.true),
-      subst (Least NONE (Among 0 (l.k + 1) Q)) (sym c.least_size-x.ensures)
-          (least_more 0 Q (omega arith) l.invariant.1
-          (label_least a.form.now a.nears.now l.k c.requires.0 w (c.entering.ensures ∙ ap (entering (view a.form.now)) c.wide.ensures))),
-    )
+pub loop-s-preserved : goal.loop-s-preserved
+loop-s-preserved c =
+    let A = graph c.args.column.now in
+    let items = c.listed-s-items.result.now in
+    let k = c.loop-s.s-index in
+    let x = c.entering-x.result in
+    let e : x ≡ entering A (get_or items k 0) = c.entering-x.ensures ∙ ap (entering A) c.from.ensures in
+    elim c.match-lowest.branch [
+      | in-Some w ↦
+          let before = subst (λ o. MatchOption o (k ≡ 0) (Lowest (Among 0 k (LabelAt A items)))) w.in-Some.is c.loop-s.invariant in
+          subst (λ o. MatchOption o (k + 1 ≡ 0) (Lowest (Among 0 (k + 1) (LabelAt A items)))) (sym w.lowest-is)
+          (subst (Lowest (Among 0 (k + 1) (LabelAt A items))) (sym w.min.ensures) (lowest_more A items k x w.in-Some.y before e))
+      | in-None w ↦
+          let none = subst (λ o. MatchOption o (k ≡ 0) (Lowest (Among 0 k (LabelAt A items)))) w.in-None.is c.loop-s.invariant in
+          subst (λ o. MatchOption o (k + 1 ≡ 0) (Lowest (Among 0 (k + 1) (LabelAt A items)))) (sym w.lowest-is)
+          (lowest_first A items k x none e)
+    ]
 
 pub returns : goal.returns
 returns c =
-    let a = c.args in
-    let l = c.loop-k in
-    let e : l.k ≡ a.n = omega (arith, l.invariant.0, c.loop-k-test.false) in
-    labels_all (view a.form.now) a.nears.now a.n
-    (subst (λ k. Least NONE (Among 0 k (LabelAt (view a.form.now) a.nears.now)) l.x) e l.invariant.1)
+    lowest_members (graph c.args.column.now) c.listed-s-items.ensures c.loop-s.lowest c.loop-s.s-index (omega arith) c.loop-s.invariant

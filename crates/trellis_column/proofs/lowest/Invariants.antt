@@ -1,12 +1,9 @@
 -- `trellis_column::lowest` meets its contract: the loop has the lowest of the labels so far.
-use Prim.Native.Nat.{◌≤◌, ◌-◌}
-use Rattle.lists.specs.Least.{Least, Among}
-use Rattle.automaton.specs.Form.{view}
-use Rattle.trellis_column.specs.Column.{NONE, LabelAt}
+use Rattle.std.proofs.Common.{MatchOption, ◌≡◌}
+use Rattle.lists.specs.Least.{Among}
+use Rattle.trellis_steps.specs.Kept.{graph}
+use Rattle.trellis_column.specs.Column.{LabelAt, Lowest}
 use Rattle.trellis_column.proofs.lowest.Given as goal
 
-abbrev pub invariant-loop-k : goal.invariant-loop-k
-invariant-loop-k l = (l.k ≤ l.n) × Least NONE (Among 0 l.k (LabelAt (view l.form) l.nears)) l.x
-
-abbrev pub decreases-loop-k : goal.decreases-loop-k
-decreases-loop-k l = l.n - l.k
+abbrev pub invariant-loop-s : goal.invariant-loop-s
+invariant-loop-s l = MatchOption l.lowest (l.s-index ≡ 0) (Lowest (Among 0 l.s-index (LabelAt (graph l.column) l.s-items)))

@@ -5,7 +5,7 @@ use native.Mathlib.Omega.{arith}
 use lib.ListN.{set as put, get_or, length, take}
 use mathlib.Core.Bool.{false}
 use Rattle.trellis_members.specs.MembersLaws.{has_inside, members_most, members_list, members_none_left}
-use Rattle.trellis_members.specs.Loops.{TakenOut, taken_none, taken_more, taken_all}
+use Rattle.trellis_members.specs.Loops.{TakenOut, taken_none, taken_more, taken_members}
 use Rattle.trellis_members.proofs.States.clear.Goals as goal
 
 pub shared_ref_as_front-u-items : goal.shared_ref_as_front-u-items
@@ -32,7 +32,7 @@ pub invariant_of-self : goal.invariant_of-self
 invariant_of-self c =
     let s = c.self.inside in
     let after = c.loop-u.self-inside.1.0 in
-    taken_all c.self.invariant
+    taken_members c.self.invariant
     (subst (λ before. TakenOut (take s.count s.list) c.loop-u.u-index before after) (sym c.self.view_is) c.loop-u.invariant) c.loop-u-test.false
 
 pub returns : goal.returns
