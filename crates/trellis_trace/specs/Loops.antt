@@ -16,7 +16,7 @@ use Rattle.trellis.specs.Extended.{extended}
 use Rattle.trellis.proofs.ExtendedLaws.{step_within}
 use Rattle.trellis.specs.Reached.{entering, Reached}
 use Rattle.trellis.proofs.ReachedLaws.{Kept, Picked, picked_chosen, next_row, some_kept}
-use Rattle.trellis_members.specs.Members.{Members, JustIf}
+use Rattle.trellis_members.specs.Members.{IsEmpty, JustIf}
 use Rattle.trellis_members.specs.MembersLaws.{only_marked}
 use Rattle.trellis_steps.specs.Steps.{ColumnReady, KeptOf, Within}
 use Rattle.trellis_steps.specs.Loops.{entering_high}
@@ -30,19 +30,17 @@ traced_front {M = M} {before = before} t =
     ap (take M.count) t.memory ∙ take_at t.path (drop (length t.path) before) M.count t.best.qualifies.long
 
 -- before column t: the labels that are written, the states that they lead to, and what is left to pay
-pub record Tracked (f : List ℕ) (M : Matrix) (before : List ℕ) (t : ℕ) (set : List Bool) (list : List ℕ) (n left : ℕ)
-    (after : List ℕ) : Type 0 where
+pub record Tracked (f : List ℕ) (M : Matrix) (before : List ℕ) (t : ℕ) (set : List Bool) (left : ℕ) (after : List ℕ) : Type 0 where
   pub so_far : t ≤ M.count
   pub done : List ℕ
   pub long : length done ≡ t
   pub memory : after ≡ written done before
-  pub members : Members set list n
   pub within : Within f (Has set)
   pub tracing : Tracing (extended (view f)) M 0 M.count t (M.count - t) (Has set) left done
 
 pub tracked_length :
-    {f : List ℕ} {M : Matrix} {before list after : List ℕ} {set : List Bool} {t n left : ℕ} → M.count ≤ length before
-    → Tracked f M before t set list n left after → length after ≡ length before
+    {f : List ℕ} {M : Matrix} {before after : List ℕ} {set : List Bool} {t left : ℕ} → M.count ≤ length before
+    → Tracked f M before t set left after → length after ≡ length before
 tracked_length {before = before} h s =
     let l = s.long in
     let m = s.so_far in
@@ -58,9 +56,9 @@ pub record PartsOf (f : List ℕ) (M : Matrix) (work : List ℕ) (base stride t 
 module _ {f : List ℕ} {M : Matrix} {work : List ℕ} {base stride : ℕ} (ready : Ready f M work base stride) where
   -- no label is written yet
   pub tracked_none :
-      (before : List ℕ) {empty set : List Bool} {none list : List ℕ} {n : ℕ} → Members empty none 0 → Marks (JustIf true 0) empty set
-      → Members set list n → Tracked f M before 0 set list n (get_or work base 0) before
-  tracked_none before {set = set} nothing start members =
+      (before : List ℕ) {empty set : List Bool} → IsEmpty empty → Marks (JustIf true 0) empty set
+      → Tracked f M before 0 set (get_or work base 0) before
+  tracked_none before {set = set} nothing start =
       let only : (s : ℕ) → Has set s → s ≡ 0 = λ s h. (only_marked (JustIf true 0) nothing start s h).1 in
       let togo : CostToGo (extended (view f)) M 0 M.count 0 (get_or work (base + 0 * stride + 0) 0) = ready.table 0 M.count (omega arith) 0 (omega arith) in
       let at : base + 0 * stride + 0 ≡ base = omega arith in
@@ -70,7 +68,6 @@ module _ {f : List ℕ} {M : Matrix} {work : List ℕ} {base stride : ℕ} (read
         done = [];
         long = refl;
         memory = sym (written_none before);
-        members = members;
         within = λ s h. let e = only s h in omega arith;
         tracing =
             subst (λ n. Tracing (extended (view f)) M 0 M.count 0 n (Has set) (get_or work base 0) []) all
@@ -80,7 +77,7 @@ module _ {f : List ℕ} {M : Matrix} {work : List ℕ} {base stride : ℕ} (read
 
   -- every column is done
   pub tracked_all :
-      {before list after : List ℕ} {set : List Bool} {t n left : ℕ} → M.count ≤ t → Tracked f M before t set list n left after
+      {before after : List ℕ} {set : List Bool} {t left : ℕ} → M.count ≤ t → Tracked f M before t set left after
       → Traced (view f) M before after
   tracked_all {set = set} {t = t} {left = left} h s =
       let l = s.so_far in
@@ -115,8 +112,8 @@ module _ {f : List ℕ} {M : Matrix} {work : List ℕ} {base stride : ℕ} (read
           long = let l = part_length work r p (omega arith) in omega arith;
         }
 
-    module _ {column row before list after : List ℕ} {set : List Bool} {n left : ℕ} (parts : PartsOf f M work base stride t column row)
-        (tracked : Tracked f M before t set list n left after) where
+    module _ {column row before after : List ℕ} {set : List Bool} {left : ℕ} (parts : PartsOf f M work base stride t column row)
+        (tracked : Tracked f M before t set left after) where
       abbrev next : ℕ → ℕ
       next u = get_or work (base + (t + 1) * stride + u) 0
 
@@ -153,8 +150,7 @@ module _ {f : List ℕ} {M : Matrix} {work : List ℕ} {base stride : ℕ} (read
           (k.0, back_kept k.0 k.2)
 
       -- one more column
-      module _ {set' : List Bool} {list' : List ℕ} {n' label left' : ℕ} (taken : Taken (view f) column row left (Has set) label left' (Has set'))
-          (members : Members set' list' n') where
+      module _ (set' : List Bool) {label left' : ℕ} (taken : Taken (view f) column row left (Has set) label left' (Has set')) where
         picked : Picked (view f) M t next (Has set) left label (Has set')
         picked =
             record {
@@ -166,7 +162,7 @@ module _ {f : List ℕ} {M : Matrix} {work : List ℕ} {base stride : ℕ} (read
               all = λ u h k e. taken.all u (back_kept u k) e;
             }
 
-        pub tracked_more : M.count ≤ length before → Tracked f M before (t + 1) set' list' n' left' (put after t label)
+        pub tracked_more : M.count ≤ length before → Tracked f M before (t + 1) set' left' (put after t label)
         tracked_more room =
             let proper = valid_proper f ready.valid in
             let G = extended (view f) in
@@ -187,8 +183,7 @@ module _ {f : List ℕ} {M : Matrix} {work : List ℕ} {base stride : ℕ} (read
               done = tracked.done ++ (label ∷ []);
               long = simp length-append (omega arith);
               memory = ap (λ m. put m t label) tracked.memory ∙ written_more tracked.done before t label l (omega arith);
-              members = members;
-              within = within;
+                    within = within;
               tracing =
                   subst (λ v. Tracing G M 0 M.count (t + 1) (M.count - (t + 1)) (Has set') v (tracked.done ++ (label ∷ []))) rest_left
                   (tracing_more G M rest next tracing_now.shared
