@@ -7,7 +7,7 @@ use Rattle.trellis_steps.specs.declared.Column.{Column}
 
 -- the words of its form, and the automaton that they encode
 abbrev pub words : Column → List ℕ
-words c = c.form.words.now
+words c = c.arcs.now.form.words.now
 
 abbrev pub graph : Column → Automaton
 graph c = view (words c)

@@ -5,26 +5,22 @@
 ghost use Rattle.std.specs.Prelude.{◌≡◌, true, ◌↔◌, ◌+◌, ◌*◌, ◌<◌, ◌≤◌, length};
 ghost use Rattle.lists.specs.Marks.{Has, Marks, Iterations};
 ghost use Rattle.automaton.specs.Form.{letters_of, alphabet_of, view};
-ghost use Rattle.form_starts.specs.Starts.{ArcStarts};
 ghost use Rattle.trellis.specs.Reached.{entering as entering_of, Reached};
 ghost use Rattle.trellis_steps.specs.Steps.{ColumnReady, Within, AddUp};
 ghost use Rattle.trellis_steps.specs.Steps.{Onto, OtherLetter, Led, Following, TargetOf};
-ghost use Rattle.trellis_steps.specs.Unique.{starts-prop, ready-prop};
+ghost use Rattle.trellis_steps.specs.Unique.{ready-prop};
 
-use form_words::Form;
+use form_starts::Arcs;
 use trellis_members::States;
 
-// A column of the trace: the form and where each letter's arcs start, the column's costs, the costs to go of the next column, and what is
-// left to pay.
+// A column of the trace: the form with its arcs, the column's costs, the costs to go of the next column, and what is left to pay.
 #[derive(Clone, Copy)]
 pub struct Column<'a> {
-    pub form: Form<'a>,
-    pub starts: &'a [usize],
+    pub arcs: &'a Arcs<'a>,
     pub costs: &'a [u32],
     pub row: &'a [u32],
     pub left: u32,
-    ghost started: { ArcStarts form.words.now starts.now } by { starts-prop form.words.now starts.now },
-    ghost ready: { ColumnReady form.words.now costs.now row.now left } by { ready-prop form.words.now costs.now row.now left },
+    ghost ready: { ColumnReady arcs.now.form.words.now costs.now row.now left } by { ready-prop arcs.now.form.words.now costs.now row.now left },
 }
 
 impl<'a> Column<'a> {
@@ -38,7 +34,7 @@ impl<'a> Column<'a> {
         if u % 2 == 0 {
             return 0;
         }
-        self.form.label((u + 1) / 2)
+        self.arcs.form.label((u + 1) / 2)
     }
 
     // Do the cost of label x and the cost to go of state u add up to what is left?
@@ -62,7 +58,7 @@ impl<'a> Column<'a> {
         requires { (1 ≤ j) × (j ≤ letters_of (words self.now)) }
         ensures { Marks (Kept self.now (OtherLetter (graph self.now) own j)) to.old to.new }
     {
-        let x = self.form.label(j);
+        let x = self.arcs.form.label(j);
         let u = 2 * j - 1;
         to.put_if((x != own) & self.keeps(x, u), u);
     }
@@ -72,7 +68,7 @@ impl<'a> Column<'a> {
         requires { (1 ≤ j) × (j ≤ letters_of (words self.now)) }
         ensures { Marks (Kept self.now (Led (graph self.now) own 0 j)) to.old to.new }
     {
-        if self.form.may_be_first(j) {
+        if self.arcs.form.may_be_first(j) {
             self.put_letter(own, j, to);
         }
     }
@@ -81,7 +77,7 @@ impl<'a> Column<'a> {
     fn put_firsts(&self, own: usize, to: &mut States)
         ensures { Marks (Kept self.now (Following (graph self.now) own 0)) to.old to.new }
     {
-        for j in 1..self.form.letters() + 1 {
+        for j in 1..self.arcs.form.letters() + 1 {
             self.put_first(own, j, to);
         }
     }
@@ -92,7 +88,7 @@ impl<'a> Column<'a> {
         ensures { Marks (Kept self.now (Iterations (TargetOf (words self.now) own) b e)) to.old to.new }
     {
         for n in b..e {
-            self.put_letter(own, self.form.target(n), to);
+            self.put_letter(own, self.arcs.form.target(n), to);
         }
     }
 
@@ -104,7 +100,7 @@ impl<'a> Column<'a> {
         if i == 0 {
             self.put_firsts(own, to);
         } else {
-            self.put_targets(own, self.starts[i], self.starts[i + 1], to);
+            self.put_targets(own, self.arcs.starts[i], self.arcs.starts[i + 1], to);
         }
     }
 

@@ -183,7 +183,7 @@ module _ {f : List ℕ} {M : Matrix} {work : List ℕ} {base stride : ℕ} (read
               done = tracked.done ++ (label ∷ []);
               long = simp length-append (omega arith);
               memory = ap (λ m. put m t label) tracked.memory ∙ written_more tracked.done before t label l (omega arith);
-                    within = within;
+              within = within;
               tracing =
                   subst (λ v. Tracing G M 0 M.count (t + 1) (M.count - (t + 1)) (Has set') v (tracked.done ++ (label ∷ []))) rest_left
                   (tracing_more G M rest next tracing_now.shared

@@ -7,7 +7,7 @@ ghost use Rattle.automaton.specs.Form.{view};
 ghost use Rattle.matrix.specs.View.{value};
 ghost use Rattle.trellis_trace.specs.Traced.{Ready, Traced};
 
-use form_starts::arc_starts;
+use form_starts::Arcs;
 use form_words::Form;
 use matrix::Matrix;
 use trellis_column::advance;
@@ -16,19 +16,12 @@ use trellis_steps::Column;
 
 // Writes the best path, one label for each column. The row of column t begins at base + t * stride of the work memory: rows of several
 // tables may be in one list, as request T-08 will need.
-pub fn trace(
-    form: Form,
-    matrix: Matrix,
-    work: &[u32],
-    base: usize,
-    stride: usize,
-    path: &mut [u8],
-)
+pub fn trace(form: Form, matrix: Matrix, work: &[u32], base: usize, stride: usize, path: &mut [u8])
     requires { Ready form.words.now (value matrix) work.now base stride × (matrix.count ≤ length path.old) }
     ensures { Traced (view form.entry.words.now) (value matrix.entry) path.old path.new }
 {
-    let starts = arc_starts(form.words);
-    let states = 2 * form.letters() + 1;
+    let arcs = Arcs::new(form);
+    let states = 2 * arcs.form.letters() + 1;
     let mut set = States::new();
     let mut near = States::new();
     set.put_if(true, 0);
@@ -37,8 +30,7 @@ pub fn trace(
         let at = t * matrix.width;
         let next = base + (t + 1) * stride;
         let column = Column {
-            form,
-            starts: &starts,
+            arcs: &arcs,
             costs: &matrix.costs[at..at + matrix.width],
             row: &work[next..next + states],
             left,

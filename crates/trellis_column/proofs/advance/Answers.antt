@@ -42,7 +42,7 @@ overflow_cast-result c =
     let near = c.put_lowest.new.near in
     let least = subst (λ o. MatchOption o (IsEmpty near) (Lowest (LabelIn (graph s) (Has near)))) c.unwrap-x.ensures c.lowest.ensures in
     let l = lowest_label {In = Has c.args.set.now} (record { sized = s.ready; within = c.requires.0; enough = c.put_lowest.ensures }) least in
-    let few = s.form.valid.head.alphabet_high in
+    let few = s.arcs.now.form.valid.head.alphabet_high in
     omega arith
 
 pub returns : goal.returns

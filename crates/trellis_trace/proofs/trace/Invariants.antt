@@ -5,4 +5,4 @@ use Rattle.trellis_trace.specs.Loops.{Tracked}
 use Rattle.trellis_trace.proofs.trace.Given as goal
 
 abbrev pub invariant-loop-t : goal.invariant-loop-t
-invariant-loop-t l = Tracked l.form.words.now (value l.matrix) l.initial.path l.t l.set l.left l.path × IsEmpty l.near
+invariant-loop-t l = Tracked l.arcs.form.words.now (value l.matrix) l.initial.path l.t l.set l.left l.path × IsEmpty l.near

@@ -14,10 +14,10 @@ pub put_targets-requires : goal.put_targets-requires
 put_targets-requires c =
     let s = c.args.self.now in
     let i = c.args.i in
-    let few = s.form.valid.head.letters_high in
-    let first = s.started.starts i (omega arith) in
-    let next = s.started.starts (i + 1) (omega arith) in
-    (first.past, range_rises (words s) i (get_or s.starts.now i 0) (get_or s.starts.now (i + 1) 0) first next, next.inside)
+    let few = s.arcs.now.form.valid.head.letters_high in
+    let first = s.arcs.now.placed.starts i (omega arith) in
+    let next = s.arcs.now.placed.starts (i + 1) (omega arith) in
+    (first.past, range_rises (words s) i (get_or s.arcs.now.starts i 0) (get_or s.arcs.now.starts (i + 1) 0) first next, next.inside)
 
 pub returns-then-i-eq0 : goal.returns-then-i-eq0
 returns-then-i-eq0 c =
@@ -29,8 +29,8 @@ pub returns-else-i-eq0 : goal.returns-else-i-eq0
 returns-else-i-eq0 c =
     let a = c.args in
     let s = a.self.now in
-    let few = s.form.valid.head.letters_high in
-    let first = s.started.starts a.i (omega arith) in
-    let next = s.started.starts (a.i + 1) (omega arith) in
-    targets_put (words s) s.costs.now s.row.now s.left s.form.valid a.own a.to.now c.put_targets.new.to a.i (get_or s.starts.now a.i 0)
-    (get_or s.starts.now (a.i + 1) 0) (omega arith) first next c.put_targets.ensures
+    let few = s.arcs.now.form.valid.head.letters_high in
+    let first = s.arcs.now.placed.starts a.i (omega arith) in
+    let next = s.arcs.now.placed.starts (a.i + 1) (omega arith) in
+    targets_put (words s) s.costs.now s.row.now s.left s.arcs.now.form.valid a.own a.to.now c.put_targets.new.to a.i (get_or s.arcs.now.starts a.i 0)
+    (get_or s.arcs.now.starts (a.i + 1) 0) (omega arith) first next c.put_targets.ensures

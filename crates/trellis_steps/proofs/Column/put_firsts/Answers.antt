@@ -29,5 +29,5 @@ returns c =
     let s = a.self.now in
     let l = c.loop-j in
     let end : l.j ≡ letters_of (words s) + 1 = omega arith in
-    firsts_put (words s) s.costs.now s.row.now s.left s.form.valid a.own a.to.now l.to
+    firsts_put (words s) s.costs.now s.row.now s.left s.arcs.now.form.valid a.own a.to.now l.to
     (subst (λ j. Marks (Kept s (Iterations (Led (graph s) a.own 0) 1 j)) a.to.now l.to) end l.invariant)
