@@ -3,3 +3,4 @@ pub mod Examples
 pub mod Parts
 pub mod PartsLaws
 pub mod WholeLaws
+pub mod Once

@@ -2,21 +2,19 @@
 // by letter. The relation is given by an array: for each letter the set of letters that may follow it.
 #![tactic(auto)]
 
-ghost use Rattle.std.specs.Prelude.{◌≡◌, ◌+◌, ◌≤◌, [], length};
+ghost use Rattle.std.specs.Prelude.{◌≡◌, ◌+◌, ◌≤◌, length};
 ghost use Rattle.lists.specs.Stored.{Stored};
-ghost use Rattle.lists.specs.Lists.{keep, keeping, numbers};
+ghost use Rattle.lists.specs.Lists.{keep, numbers};
 ghost use Rattle.automaton.specs.Form.{arc_word};
 ghost use Rattle.form_encode_arcs.specs.Arcs.{letter_arcs, arcs_by};
 ghost use Rattle.automaton.specs.Arrays.{has};
-
-use numbers::{narrow, one_if};
 
 // The word of an arc from letter to letter.
 fn arc_word(source: usize, target: usize) -> u32
     requires { (source ≤ 255) × (target ≤ 255) }
     ensures { result ≡ arc_word source target }
 {
-    narrow(0x30000000 + source * 0x100 + target)
+    (0x30000000 + source * 0x100 + target) as u32
 }
 
 // How many of the letters are in the set `targets`.
@@ -24,11 +22,11 @@ fn count_letter_arcs(letters: usize, targets: &[bool]) -> usize
     requires { (letters ≤ 127) × (letters ≤ length targets.now) }
     ensures { (result ≡ length (keep (has targets.now) (numbers 1 letters))) × (result ≤ 127) }
 {
-    let mut n: usize = 0;
-    let mut j: usize = 1;
-    while j <= letters {
-        n += one_if(targets[j - 1]);
-        j += 1;
+    let mut n = 0;
+    for j in 1..letters + 1 {
+        if targets[j - 1] {
+            n += 1;
+        }
     }
     n
 }
@@ -38,23 +36,9 @@ pub fn count_arcs(letters: usize, follow: &[[bool; 127]]) -> usize
     requires { (letters ≤ 127) × (letters ≤ length follow.now) }
     ensures { (result ≡ length (arcs_by letters follow.now)) × (result ≤ 16129) }
 {
-    let mut n: usize = 0;
-    let mut i: usize = 1;
-    while i <= letters {
+    let mut n = 0;
+    for i in 1..letters + 1 {
         n += count_letter_arcs(letters, &follow[i - 1]);
-        i += 1;
-    }
-    n
-}
-
-// Writes the arc from one letter to another at place n of the form, if there is one, and returns the next place.
-fn put_arc(form: &mut [u32], n: usize, source: usize, target: usize, there: bool) -> usize
-    requires { (source ≤ 127) × (target ≤ 127) × (n + length (keeping there (arc_word source target) []) ≤ length form.old) }
-    ensures { Stored (keeping there (arc_word source target) []) n form.old form.new result }
-{
-    if there {
-        form[n] = arc_word(source, target);
-        return n + 1;
     }
     n
 }
@@ -72,10 +56,11 @@ fn write_letter_arcs(
     ensures { Stored (letter_arcs letters targets.now source) n form.old form.new result }
 {
     let mut m = n;
-    let mut target: usize = 1;
-    while target <= letters {
-        m = put_arc(form, m, source, target, targets[target - 1]);
-        target += 1;
+    for target in 1..letters + 1 {
+        if targets[target - 1] {
+            form[m] = arc_word(source, target);
+            m += 1;
+        }
     }
     m
 }
@@ -86,10 +71,8 @@ pub fn write_arcs(letters: usize, follow: &[[bool; 127]], form: &mut [u32], n: u
     ensures { Stored (arcs_by letters follow.now) n form.old form.new result }
 {
     let mut m = n;
-    let mut source: usize = 1;
-    while source <= letters {
+    for source in 1..letters + 1 {
         m = write_letter_arcs(letters, &follow[source - 1], source, form, m);
-        source += 1;
     }
     m
 }

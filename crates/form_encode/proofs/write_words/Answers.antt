@@ -16,8 +16,8 @@ use Rattle.form_encode.proofs.write_words.Goals as goal
 pub bounds-form-0 : goal.bounds-form-0
 bounds-form-0 c =
     let s = c.args in
-    let h = c.requires.follow_in_bounds in
-    omega (arith, length_words s.k s.letters s.empty s.labels.now s.first.now s.last.now s.follow.now)
+    let h = c.requires in
+    omega (arith, length_words s.a.alphabet s.a.letters s.a.empty s.a.labels.now s.a.first.now s.a.last.now s.a.follow.now)
 
 -- the form is the head that was written, the letters and the arcs
 words :
@@ -32,23 +32,21 @@ words k letters empty labels first last follow head e =
 pub write_letters-n-requires : goal.write_letters-n-requires
 write_letters-n-requires c =
     let s = c.args in
-    let h = c.requires.sized in
-    let whole = encode s.k (arrayed s.letters s.empty s.labels.now s.first.now s.last.now s.follow.now) in
-    let letters = letters_by s.letters s.labels.now s.first.now s.last.now in record {
-      letters_in_bounds = (h.labelled, h.begun, h.ended);
-      last_in_bounds = letters_room whole c.head_word.result letters (arcs_by s.letters s.follow.now) s.form.now (words s.k s.letters s.empty s.labels.now s.first.now s.last.now s.follow.now c.head_word.result c.head_word.ensures) c.requires.follow_in_bounds;
-    }
+    let h = s.a.sized in
+    let whole = encode s.a.alphabet (arrayed s.a.letters s.a.empty s.a.labels.now s.a.first.now s.a.last.now s.a.follow.now) in
+    let letters = letters_by s.a.letters s.a.labels.now s.a.first.now s.a.last.now in
+    letters_room whole c.head_word.result letters (arcs_by s.a.letters s.a.follow.now) s.form.now (words s.a.alphabet s.a.letters s.a.empty s.a.labels.now s.a.first.now s.a.last.now s.a.follow.now c.head_word.result c.head_word.ensures) c.requires
 
 pub write_arcs-requires : goal.write_arcs-requires
 write_arcs-requires c =
     let s = c.args in
-    let h = c.requires.sized in
-    let whole = encode s.k (arrayed s.letters s.empty s.labels.now s.first.now s.last.now s.follow.now) in
-    let letters = letters_by s.letters s.labels.now s.first.now s.last.now in
+    let h = s.a.sized in
+    let whole = encode s.a.alphabet (arrayed s.a.letters s.a.empty s.a.labels.now s.a.first.now s.a.last.now s.a.follow.now) in
+    let letters = letters_by s.a.letters s.a.labels.now s.a.first.now s.a.last.now in
     let w = c.write_letters-n in (
       h.few,
       h.followers,
-      arcs_room whole c.head_word.result letters (arcs_by s.letters s.follow.now) s.form.now (words s.k s.letters s.empty s.labels.now s.first.now s.last.now s.follow.now c.head_word.result c.head_word.ensures) c.requires.follow_in_bounds
+      arcs_room whole c.head_word.result letters (arcs_by s.a.letters s.a.follow.now) s.form.now (words s.a.alphabet s.a.letters s.a.empty s.a.labels.now s.a.first.now s.a.last.now s.a.follow.now c.head_word.result c.head_word.ensures) c.requires
           w.new.form w.result w.ensures,
     )
 
@@ -61,9 +59,9 @@ shape_of-form c =
 pub returns : goal.returns
 returns c =
     let s = c.args in
-    let whole = encode s.k (arrayed s.letters s.empty s.labels.now s.first.now s.last.now s.follow.now) in
-    let letters = letters_by s.letters s.labels.now s.first.now s.last.now in
+    let whole = encode s.a.alphabet (arrayed s.a.letters s.a.empty s.a.labels.now s.a.first.now s.a.last.now s.a.follow.now) in
+    let letters = letters_by s.a.letters s.a.labels.now s.a.first.now s.a.last.now in
     let w = c.write_letters-n in
     let a = c.write_arcs in
-    all_written whole c.head_word.result letters (arcs_by s.letters s.follow.now) s.form.now (words s.k s.letters s.empty s.labels.now s.first.now s.last.now s.follow.now c.head_word.result c.head_word.ensures) c.requires.follow_in_bounds
+    all_written whole c.head_word.result letters (arcs_by s.a.letters s.a.follow.now) s.form.now (words s.a.alphabet s.a.letters s.a.empty s.a.labels.now s.a.first.now s.a.last.now s.a.follow.now c.head_word.result c.head_word.ensures) c.requires
     w.new.form w.result w.ensures a.new.form a.result a.ensures

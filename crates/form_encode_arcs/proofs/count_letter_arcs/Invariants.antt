@@ -1,5 +1,5 @@
 -- `form_encode_arcs::count_letter_arcs` meets its contract: the letters counted and those still to come make the whole.
-use Prim.Native.Nat.{◌+◌, ◌-◌, ◌<◌, ◌≤◌}
+use Prim.Native.Nat.{◌+◌, ◌<◌}
 use mathlib.Core.Path.{◌≡◌}
 use lib.ListN.{length}
 use Rattle.lists.specs.Lists.{keep, numbers}
@@ -9,7 +9,4 @@ use Rattle.form_encode_arcs.proofs.count_letter_arcs.Given as goal
 
 abbrev pub invariant-loop-j : goal.invariant-loop-j
 invariant-loop-j l =
-    (l.n < l.j) × (l.j ≤ l.letters + 1) × (l.n + length (keep (has l.targets) (from l.letters l.j)) ≡ length (keep (has l.targets) (numbers 1 l.letters)))
-
-abbrev pub decreases-loop-j : goal.decreases-loop-j
-decreases-loop-j l = l.letters + 1 - l.j
+    (l.n < l.j) × (l.n + length (keep (has l.targets) (from l.letters l.j)) ≡ length (keep (has l.targets) (numbers 1 l.letters)))

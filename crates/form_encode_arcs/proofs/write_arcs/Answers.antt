@@ -14,11 +14,8 @@ pub loop-source-init : goal.loop-source-init
 loop-source-init c =
     let s = c.args in
     let f = s.form.now in
-    let whole = arcs_by s.letters s.follow.now in (
-      omega arith,
-      omega arith,
-      subst (λ t. Filling (take s.n f ++ whole) f f t s.n) (arcs_first s.letters s.follow.now) (filling_from whole f s.n c.requires.2),
-    )
+    let whole = arcs_by s.letters s.follow.now in
+    subst (λ t. Filling (take s.n f ++ whole) f f t s.n) (arcs_first s.letters s.follow.now) (filling_from whole f s.n c.requires.2)
 
 pub write_letter_arcs-m-requires : goal.write_letter_arcs-m-requires
 write_letter_arcs-m-requires c =
@@ -29,7 +26,7 @@ write_letter_arcs-m-requires c =
       omega arith,
       omega arith,
       filling_room (take s.n s.form.now ++ arcs_by s.letters s.follow.now) s.form.now (arcs l.source) l.form (flat_map arcs (from s.letters (l.source + 1))) l.m
-          (rw (flat_here s.letters arcs l.source (omega arith)) at l.invariant.2),
+          (rw (flat_here s.letters arcs l.source (omega arith)) at l.invariant),
     )
 
 pub loop-source-preserved : goal.loop-source-preserved
@@ -37,23 +34,20 @@ loop-source-preserved c =
     let s = c.args in
     let l = c.loop-source in
     let arcs = letter_arcs_at s.letters s.follow.now in
-    let wrote = c.write_letter_arcs-m in (
-      omega arith,
-      omega arith,
-      filling_stored (take s.n s.form.now ++ arcs_by s.letters s.follow.now) s.form.now (arcs l.source) l.form wrote.new.form
-          (flat_map arcs (from s.letters (l.source + 1))) l.m wrote.result
-          (rw (flat_here s.letters arcs l.source (omega arith)) at l.invariant.2) wrote.ensures,
-    )
+    let wrote = c.write_letter_arcs-m in
+    filling_stored (take s.n s.form.now ++ arcs_by s.letters s.follow.now) s.form.now (arcs l.source) l.form wrote.new.form
+    (flat_map arcs (from s.letters (l.source + 1))) l.m wrote.result
+    (rw (flat_here s.letters arcs l.source (omega arith)) at l.invariant) wrote.ensures
 
 pub shape_of-form : goal.shape_of-form
 shape_of-form c =
     let s = c.args in
     let l = c.loop-source in
-    filling_length (take s.n s.form.now ++ arcs_by s.letters s.follow.now) s.form.now l.form (flat_map (letter_arcs_at s.letters s.follow.now) (from s.letters l.source)) l.m l.invariant.2
+    filling_length (take s.n s.form.now ++ arcs_by s.letters s.follow.now) s.form.now l.form (flat_map (letter_arcs_at s.letters s.follow.now) (from s.letters l.source)) l.m l.invariant
 
 pub returns : goal.returns
 returns c =
     let s = c.args in
     let l = c.loop-source in
     filling_stored_all (arcs_by s.letters s.follow.now) s.form.now s.n c.requires.2 l.form l.m
-    (rw (flat_past s.letters (letter_arcs_at s.letters s.follow.now) l.source (omega arith)) at l.invariant.2)
+    (rw (flat_past s.letters (letter_arcs_at s.letters s.follow.now) l.source (omega arith)) at l.invariant)

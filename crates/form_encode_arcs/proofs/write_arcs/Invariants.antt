@@ -1,5 +1,4 @@
 -- `form_encode_arcs::write_arcs` meets its contract: what is before n, what is written and the arcs still to come make the whole.
-use Prim.Native.Nat.{◌+◌, ◌-◌, ◌≤◌}
 use mathlib.Core.List.{◌++◌, flat_map}
 use lib.ListN.{take}
 use Rattle.lists.proofs.FillingLoops.{Filling}
@@ -9,7 +8,4 @@ use Rattle.form_encode_arcs.proofs.write_arcs.Given as goal
 
 abbrev pub invariant-loop-source : goal.invariant-loop-source
 invariant-loop-source l =
-    (1 ≤ l.source) × (l.source ≤ l.letters + 1) × Filling (take l.n l.initial.form ++ arcs_by l.letters l.follow) l.initial.form l.form (flat_map (letter_arcs_at l.letters l.follow) (from l.letters l.source)) l.m
-
-abbrev pub decreases-loop-source : goal.decreases-loop-source
-decreases-loop-source l = l.letters + 1 - l.source
+    Filling (take l.n l.initial.form ++ arcs_by l.letters l.follow) l.initial.form l.form (flat_map (letter_arcs_at l.letters l.follow) (from l.letters l.source)) l.m

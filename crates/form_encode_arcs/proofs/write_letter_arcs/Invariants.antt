@@ -1,5 +1,4 @@
 -- `form_encode_arcs::write_letter_arcs` meets its contract: what is before n, what is written and the arcs still to come make the whole.
-use Prim.Native.Nat.{◌+◌, ◌-◌, ◌≤◌}
 use mathlib.Core.List.{◌++◌, map}
 use lib.ListN.{take}
 use Rattle.lists.specs.Lists.{keep}
@@ -12,8 +11,4 @@ use Rattle.form_encode_arcs.proofs.write_letter_arcs.Given as goal
 
 abbrev pub invariant-loop-target : goal.invariant-loop-target
 invariant-loop-target l =
-    (1 ≤ l.target) × (l.target ≤ l.letters + 1)
-    × Filling (take l.n l.initial.form ++ letter_arcs l.letters l.targets l.source) l.initial.form l.form (map (arc_word l.source) (keep (has l.targets) (from l.letters l.target))) l.m
-
-abbrev pub decreases-loop-target : goal.decreases-loop-target
-decreases-loop-target l = l.letters + 1 - l.target
+    Filling (take l.n l.initial.form ++ letter_arcs l.letters l.targets l.source) l.initial.form l.form (map (arc_word l.source) (keep (has l.targets) (from l.letters l.target))) l.m
