@@ -52,11 +52,8 @@ fn write_letters(a: Arrays, form: &mut [u32]) -> usize
     ensures { Stored (letters_by a.entry.letters a.entry.labels.now a.entry.first.now a.entry.last.now) 1 form.old form.new result }
 {
     for letter in 1..a.letters + 1 {
-        form[letter] = letter_word(
-            a.labels[letter - 1],
-            a.first[letter - 1],
-            a.last[letter - 1],
-        );
+        let j = letter - 1;
+        form[letter] = letter_word(a.labels[j], a.first[j], a.last[j]);
     }
     a.letters + 1
 }
