@@ -19,85 +19,65 @@ use text::{one_of, peek};
 fn sum(n: usize, m: usize) -> usize
     ensures { result ≡ few (n + m) }
 {
-    if 128 <= n {
-        return 128;
-    }
-    if 128 <= m {
-        return 128;
-    }
-    capped_at_128(n + m)
+    capped_at_128(n.saturating_add(m))
 }
 
 // k × n, up to 128.
 fn product(k: usize, n: usize) -> usize
     ensures { result ≡ few (k * n) }
 {
-    if k == 0 {
-        return 0;
-    }
-    if n == 0 {
-        return 0;
-    }
-    if 128 <= k {
-        return 128;
-    }
-    if 128 <= n {
-        return 128;
-    }
-    capped_at_128(k * n)
+    capped_at_128(k.saturating_mul(n))
 }
 
 // How many copies `{n,}` opens into.
 pub fn copies(n: usize) -> usize
     ensures { result ≡ copies_of (onward n) }
 {
-    if n == 0 { 1 } else { n }
+    n.max(1)
 }
 
 // A part that goes on after n letters.
-pub fn added(n: usize, rest: Part) -> Part
+pub fn added(n: usize, rest: Result<Part, Refusal>) -> Result<Part, Refusal>
     ensures { result ≡ add n rest }
 {
-    match rest {
-        Part::Refused(x) => Part::Refused(x),
-        Part::Found(e, m) => Part::Found(e, sum(n, m)),
-    }
+    let rest = rest?;
+    Ok(Part {
+        letters: sum(n, rest.letters),
+        ..rest
+    })
 }
 
 // A part of n letters, repeated.
-pub fn repeated(n: usize, r: Repeats) -> Part
-    ensures { result ≡ repeated_of n r }
+pub fn repeated(n: usize, times: Result<Repeats, Refusal>) -> Result<Part, Refusal>
+    ensures { result ≡ repeated_of n times }
 {
-    match r {
-        Repeats::Refused(x) => Part::Refused(x),
-        Repeats::Between(_, most, e) => Part::Found(e, product(most, n)),
-        Repeats::Onward(least, e) => Part::Found(e, product(copies(least), n)),
-    }
+    let times = times?;
+    let k = times.most.unwrap_or(copies(times.least));
+    Ok(Part {
+        end: times.end,
+        letters: product(k, n),
+    })
 }
 
 // A group: its content, and the `)` after it.
-pub fn closed(text: &[u8], content: Part) -> Part
+pub fn closed(text: &[u8], content: Result<Part, Refusal>) -> Result<Part, Refusal>
     ensures { result ≡ closed_of text.now content }
 {
-    match content {
-        Part::Refused(x) => Part::Refused(x),
-        Part::Found(e, n) => {
-            if peek(text, e) == b')' {
-                return Part::Found(e + 1, n);
-            }
-            Part::Refused(Refusal::MisplacedSign)
-        }
+    let content = content?;
+    if peek(text, content.end) != b')' {
+        return Err(Refusal::MisplacedSign);
     }
+    Ok(Part {
+        end: content.end + 1,
+        ..content
+    })
 }
 
 // Does a branch end here?
 pub fn is_end(text: &[u8], at: usize) -> bool
     ensures { result ≡ ends (drop at text.now) }
 {
-    if text.len() <= at {
-        return true;
-    }
-    one_of(b"|)", text[at])
+    text.len() <= at || one_of(b"|)", text[at])
 }
 
 // Does a repetition begin here?

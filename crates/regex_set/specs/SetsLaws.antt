@@ -1,6 +1,6 @@
 -- The set at a place of a text, by its first byte: its end, its members, its labels.
 use Rattle.std.proofs.Math.Path.{◌≡◌, sym, ap, ap₂}
-use Rattle.std.specs.Prelude.{refl, List, [], ◌∷◌, Bool, true, false, ◌&&◌, ◌⊎◌, ℕ, ◌+◌, ◌≤◌, ◌<◌, get_or, drop, eqb, leb}
+use Rattle.std.specs.Prelude.{refl, List, [], ◌∷◌, Bool, true, false, ◌&&◌, ◌⊎◌, ℕ, ◌+◌, ◌≤◌, ◌<◌, get_or, drop, eqb, leb, count_by}
 use Rattle.std.proofs.Common.{◌∙◌, inl, inr, eq-eqb, ne_eqb, eqb-true, le-leb, leb-true}
 use Rattle.std.proofs.Math.Bool.{cond, or-false}
 use Prim.Native.Char.{code}
@@ -12,6 +12,7 @@ use Rattle.refusal.specs.declared.Refusal.{Refusal}
 use Rattle.refusal.specs.declared.Refusal.TheVariants as refusal
 use Rattle.regex_tree.specs.Tree.{Set, except, Tree, set, member}
 use Rattle.regex_tree.specs.Parsing.{Parsing, found, fault, then}
+use Rattle.std.proofs.lemmas.List.Sums.{sum_by_from}
 use Rattle.lists.specs.Cases.{first_of}
 use Rattle.regex_tree.specs.Letters.{labels_of, letter_count}
 use Rattle.regex_tree.specs.Few.{few}
@@ -19,10 +20,9 @@ use Rattle.regex_tree.specs.Sets.{special, alone, escaped, bracket, a_set, label
 use Rattle.text.proofs.TextLaws.{place_drop, byte_within}
 use Rattle.text.specs.Places.{place}
 use Rattle.lists.proofs.CasesLaws.{fourth}
-use Rattle.regex_bracket.specs.declared.End.TheVariants as end
+use Rattle.std.specs.Prelude.{Result, Ok, Err}
 use Rattle.regex_bracket.specs.Answers.{end_of, is_found, set_of, bracket_at}
-use Rattle.regex_set.specs.declared.Part.TheVariants as part
-use Rattle.regex_set.specs.Answers.{part_of, set_tree, SetAt, set_at}
+use Rattle.regex_set.specs.Answers.{part, part_of, set_tree, SetAt, set_at}
 
 -- the set of one byte has that byte alone
 member_alone : (b x : ℕ) → eqb b x ≡ member (alone b) x
@@ -99,19 +99,19 @@ module _ (text : List ℕ) (at : ℕ) where
 -- Where the set ends.
 module _ (text : List ℕ) (at : ℕ) where
   -- a set that is one byte long ends after that byte
-  one_byte : at < length text → end.At (at + 1) ≡ end.At (place text (drop (at + 1) text))
-  one_byte l = ap end.At (sym (place_drop text (at + 1) (omega arith)))
+  one_byte : at < length text → ◌≡◌ {A = Result ℕ Refusal} (Ok (at + 1)) (Ok (place text (drop (at + 1) text)))
+  one_byte l = ap Ok (sym (place_drop text (at + 1) (omega arith)))
 
-  pub end_none : length text ≤ at → end.Refused refusal.MisplacedSign ≡ end_of text (a_set (drop at text))
+  pub end_none : length text ≤ at → Err refusal.MisplacedSign ≡ end_of text (a_set (drop at text))
   end_none l = sym (ap (end_of text) (set_empty text at l))
 
-  pub escape_ends : (w : List ℕ) → at < length text → special (get_or text (at + 1) 0) ≡ true → end.At (at + 2) ≡ end_of text (escaped w (drop (at + 1) text))
+  pub escape_ends : (w : List ℕ) → at < length text → special (get_or text (at + 1) 0) ≡ true → Ok (at + 2) ≡ end_of text (escaped w (drop (at + 1) text))
   escape_ends w l e =
       let k = byte_within text (at + 1) (λ z. not_both (special (get_or text (at + 1) 0)) e (ap special z)) in
       let p : place text (drop (at + 1 + 1) text) ≡ at + 2 = place_drop text (at + 1 + 1) (omega arith) ∙ omega arith in
-      sym (ap (end_of text) (escaped_special text (at + 1) w e) ∙ ap end.At p)
+      sym (ap (end_of text) (escaped_special text (at + 1) w e) ∙ ap Ok p)
 
-  pub escape_refused : (w : List ℕ) → special (get_or text (at + 1) 0) ≡ false → end.Refused refusal.MisplacedSign ≡ end_of text (escaped w (drop (at + 1) text))
+  pub escape_refused : (w : List ℕ) → special (get_or text (at + 1) 0) ≡ false → Err refusal.MisplacedSign ≡ end_of text (escaped w (drop (at + 1) text))
   escape_refused w e = sym (ap (end_of text) (escaped_plain text (at + 1) w e))
 
   module _ (l : at < length text) where
@@ -119,17 +119,17 @@ module _ (text : List ℕ) (at : ℕ) where
         get_or text at 0 ≡ code "\\" → end_of text (escaped (drop at text) (drop (at + 1) text)) ≡ end_of text (a_set (drop at text))
     end_escape e = sym (ap (end_of text) (set_escaped text at l e))
 
-    pub end_dot : get_or text at 0 ≡ code "." → end.At (at + 1) ≡ end_of text (a_set (drop at text))
+    pub end_dot : get_or text at 0 ≡ code "." → Ok (at + 1) ≡ end_of text (a_set (drop at text))
     end_dot e = one_byte l ∙ sym (ap (end_of text) (set_dot text at l e))
 
     pub end_bracket : get_or text at 0 ≡ code "[" → end_of text (bracket_at text at) ≡ end_of text (a_set (drop at text))
     end_bracket e = sym (ap (end_of text) (set_bracket text at l e))
 
     module _ (a : get_or text at 0 ≡ code "\\" → ⊥) (b : get_or text at 0 ≡ code "." → ⊥) (c : get_or text at 0 ≡ code "[" → ⊥) where
-      pub end_special : special (get_or text at 0) ≡ true → end.Refused refusal.MisplacedSign ≡ end_of text (a_set (drop at text))
+      pub end_special : special (get_or text at 0) ≡ true → Err refusal.MisplacedSign ≡ end_of text (a_set (drop at text))
       end_special e = sym (ap (end_of text) (set_special text at l a b c e))
 
-      pub end_alone : special (get_or text at 0) ≡ false → end.At (at + 1) ≡ end_of text (a_set (drop at text))
+      pub end_alone : special (get_or text at 0) ≡ false → Ok (at + 1) ≡ end_of text (a_set (drop at text))
       end_alone e = one_byte l ∙ sym (ap (end_of text) (set_alone text at l a b c e))
 
 -- Its members, where it is well formed.
@@ -180,6 +180,12 @@ module _ (A : List ℕ) (c : Set) (i n : ℕ) where
   unfolding labels_of
   labels_end l h = let e : labels_of (drop i A) c ≡ 0 = ap (λ s. labels_of s c) (drop_all A i l) in omega arith
 
+-- Its labels, counted by a test.
+pub labels_counted : (A : List ℕ) (c : Set) → count_by (λ b. member c b) A ≡ labels_of A c
+unfolding labels_of
+labels_counted [] c = refl
+labels_counted (b ∷ A) c = let h = labels_counted A c in omega (arith, sum_by_from (λ b. cond (member c b) 1 0) (0 + cond (member c b) 1 0) A)
+
 -- The set as a part of the text.
 module _ (A text s : List ℕ) where
   -- what the set that was found gives: a refusal if it has no label, or its tree
@@ -189,37 +195,37 @@ module _ (A text s : List ℕ) where
   abbrev made : Parsing Set → Parsing Tree
   made x = then (then x (λ c r. judged (eqb (labels_of A c) 0) c r)) (λ c r. found (set c) r)
 
-  pub ends_set : (e : ℕ) → end.At e ≡ end_of text (a_set s) → is_found (a_set s) ≡ true
+  pub ends_set : (e : ℕ) → Ok e ≡ end_of text (a_set s) → is_found (a_set s) ≡ true
   ends_set e h = by (a_set s) h
     where
-      by : (x : Parsing Set) → end.At e ≡ end_of text x → is_found x ≡ true
+      by : (x : Parsing Set) → Ok e ≡ end_of text x → is_found x ≡ true
       by (found c r) h = refl
       by (fault n r) h = let z : ◌≡◌ {A = ℕ} 0 1 = cc in absurd (omega arith)
 
-  pub part_refused : (n : Refusal) → end.Refused n ≡ end_of text (a_set s) → part.Refused n ≡ part_of A text (set_tree A s)
+  pub part_refused : (n : Refusal) → Err n ≡ end_of text (a_set s) → Err n ≡ part_of A text (set_tree A s)
   unfolding labelled_set then
   part_refused n h = by (a_set s) h
     where
-      by : (x : Parsing Set) → end.Refused n ≡ end_of text x → part.Refused n ≡ part_of A text (made x)
+      by : (x : Parsing Set) → Err n ≡ end_of text x → Err n ≡ part_of A text (made x)
       by (found c r) h = let z : ◌≡◌ {A = ℕ} 0 1 = cc in absurd (omega arith)
-      by (fault m r) h = let k : n ≡ m = cc in ap part.Refused k
+      by (fault m r) h = let k : n ≡ m = cc in ap Err k
 
-  module _ (e n : ℕ) (h : end.At e ≡ end_of text (a_set s)) (k : n ≡ labels_of A (set_of (a_set s))) where
-    pub part_foreign : n ≡ 0 → part.Refused refusal.Foreign ≡ part_of A text (set_tree A s)
+  module _ (e n : ℕ) (h : Ok e ≡ end_of text (a_set s)) (k : n ≡ labels_of A (set_of (a_set s))) where
+    pub part_foreign : n ≡ 0 → Err refusal.Foreign ≡ part_of A text (set_tree A s)
     unfolding labelled_set then
     part_foreign z = by (a_set s) h k
       where
-        by : (x : Parsing Set) → end.At e ≡ end_of text x → n ≡ labels_of A (set_of x) → part.Refused refusal.Foreign ≡ part_of A text (made x)
+        by : (x : Parsing Set) → Ok e ≡ end_of text x → n ≡ labels_of A (set_of x) → Err refusal.Foreign ≡ part_of A text (made x)
         by (found c r) h k = sym (ap (λ t. part_of A text (then (judged t c r) (λ c r. found (set c) r))) (eq-eqb (labels_of A c) 0 (omega arith)))
         by (fault m r) h k = let z : ◌≡◌ {A = ℕ} 0 1 = cc in absurd (omega arith)
 
-    pub part_labels : (n ≡ 0 → ⊥) → part.Found e (few n) ≡ part_of A text (set_tree A s)
+    pub part_labels : (n ≡ 0 → ⊥) → Ok (part e (few n)) ≡ part_of A text (set_tree A s)
     unfolding labelled_set then letter_count
     part_labels z = by (a_set s) h k
       where
-        by : (x : Parsing Set) → end.At e ≡ end_of text x → n ≡ labels_of A (set_of x) → part.Found e (few n) ≡ part_of A text (made x)
+        by : (x : Parsing Set) → Ok e ≡ end_of text x → n ≡ labels_of A (set_of x) → Ok (part e (few n)) ≡ part_of A text (made x)
         by (found c r) h k =
             let q : e ≡ place text r = cc in
-            ap₂ (λ i j. part.Found i (few j)) q k
+            ap₂ (λ i j. Ok (part i (few j))) q k
             ∙ sym (ap (λ t. part_of A text (then (judged t c r) (λ c r. found (set c) r))) (ne_eqb (labels_of A c) 0 (λ y. z (k ∙ y))))
         by (fault m r) h k = let z : ◌≡◌ {A = ℕ} 0 1 = cc in absurd (omega arith)

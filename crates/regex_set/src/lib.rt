@@ -10,16 +10,15 @@ ghost use Rattle.regex_tree.specs.Sets.{special, escaped, a_set};
 ghost use Rattle.regex_bracket.specs.Answers.{end_of};
 ghost use Rattle.regex_set.specs.Answers.{part_of, set_tree, SetAt, set_at};
 
-use numbers::one_if;
 use refusal::Refusal;
-use regex_bracket::{End, bracket_end, bracket_has};
+use regex_bracket::{bracket_end, bracket_has};
 use text::{one_of, peek};
 
-// A part of the text: where it ends, and how many letters it opens into, counted up to 128; or why it is turned away.
-#[derive(Drop)]
-pub enum Part {
-    Found(usize, usize),
-    Refused(Refusal),
+// A part of the text: where it ends, and how many letters it opens into, counted up to 128.
+#[derive(Clone, Copy)]
+pub struct Part {
+    pub end: usize,
+    pub letters: usize,
 }
 
 // Is the byte a sign that is ordinary only after a `\`?
@@ -30,90 +29,76 @@ fn is_special(b: u8) -> bool
 }
 
 // Where the escaped character ends whose `\` is here.
-fn escape_end(text: &[u8], at: usize) -> End
+#[tactic(auto, using(crate::specs::SetsLaws::escape_ends, crate::specs::SetsLaws::escape_refused))]
+fn escape_end(text: &[u8], at: usize) -> Result<usize, Refusal>
     requires { at < length text.now }
     ensures { result ≡ end_of text.now (escaped (drop at text.now) (drop (at + 1) text.now)) }
 {
     if is_special(peek(text, at + 1)) {
-        return End::At(at + 2);
+        return Ok(at + 2);
     }
-    End::Refused(Refusal::MisplacedSign)
+    Err(Refusal::MisplacedSign)
 }
 
 // Where the set that begins here ends, or why there is none.
-pub fn set_end(text: &[u8], at: usize) -> End
+#[tactic(auto, using(crate::specs::SetsLaws::end_none, crate::specs::SetsLaws::end_escape, crate::specs::SetsLaws::end_dot, crate::specs::SetsLaws::end_bracket, crate::specs::SetsLaws::end_special, crate::specs::SetsLaws::end_alone))]
+pub fn set_end(text: &[u8], at: usize) -> Result<usize, Refusal>
     ensures { result ≡ end_of text.now (a_set (drop at text.now)) }
 {
     if text.len() <= at {
-        return End::Refused(Refusal::MisplacedSign);
+        return Err(Refusal::MisplacedSign);
     }
-    let b = text[at];
-    if b == b'\\' {
-        return escape_end(text, at);
+    match text[at] {
+        b'\\' => escape_end(text, at),
+        b'.' => Ok(at + 1),
+        b'[' => bracket_end(text, at),
+        b if is_special(b) => Err(Refusal::MisplacedSign),
+        _ => Ok(at + 1),
     }
-    if b == b'.' {
-        return End::At(at + 1);
-    }
-    if b == b'[' {
-        return bracket_end(text, at);
-    }
-    if is_special(b) {
-        return End::Refused(Refusal::MisplacedSign);
-    }
-    End::At(at + 1)
 }
 
 // Is the byte a member of the set that begins here?
+#[tactic(auto, using(crate::specs::SetsLaws::set_within, crate::specs::SetsLaws::member_escape, crate::specs::SetsLaws::member_dot, crate::specs::SetsLaws::bracket_found, crate::specs::SetsLaws::member_bracket, crate::specs::SetsLaws::member_byte))]
 pub fn member(text: &[u8], at: usize, b: u8) -> bool
     requires { SetAt text.now at }
     ensures { result ≡ member_of (set_at text.now at) b }
 {
-    let c = peek(text, at);
-    if c == b'\\' {
-        return peek(text, at + 1) == b;
+    match peek(text, at) {
+        b'\\' => peek(text, at + 1) == b,
+        b'.' => true,
+        b'[' => bracket_has(text, at, b),
+        c => c == b,
     }
-    if c == b'.' {
-        return true;
-    }
-    if c == b'[' {
-        return bracket_has(text, at, b);
-    }
-    c == b
 }
 
 // How many labels of the alphabet the set that begins here has.
+#[tactic(auto, using(crate::specs::SetsLaws::labels_counted))]
 fn count_labels(alphabet: &[u8], text: &[u8], at: usize) -> usize
     requires { SetAt text.now at }
     ensures { result ≡ labels_of alphabet.now (set_at text.now at) }
 {
-    let mut n = 0;
-    let mut i = 0;
-    while i < alphabet.len() {
-        n += one_if(member(text, at, alphabet[i]));
-        i += 1;
-    }
-    n
+    alphabet.iter().filter(|&&b| member(text, at, b)).count()
 }
 
 // n, or 128 if it is more.
 pub fn capped_at_128(n: usize) -> usize
     ensures { result ≡ few n }
 {
-    if n < 128 { n } else { 128 }
+    n.min(128)
 }
 
 // The set that begins here, as a part of the text; refusal 8 if no label of the alphabet is in it.
-pub fn set(alphabet: &[u8], text: &[u8], at: usize) -> Part
+#[tactic(auto, using(crate::specs::SetsLaws::ends_set, crate::specs::SetsLaws::part_foreign, crate::specs::SetsLaws::part_labels))]
+pub fn set(alphabet: &[u8], text: &[u8], at: usize) -> Result<Part, Refusal>
     ensures { result ≡ part_of alphabet.now text.now (set_tree alphabet.now (drop at text.now)) }
 {
-    match set_end(text, at) {
-        End::Refused(x) => Part::Refused(x),
-        End::At(e) => {
-            let n = count_labels(alphabet, text, at);
-            if n == 0 {
-                return Part::Refused(Refusal::Foreign);
-            }
-            Part::Found(e, capped_at_128(n))
-        }
+    let end = set_end(text, at)?;
+    let letters = count_labels(alphabet, text, at);
+    if letters == 0 {
+        return Err(Refusal::Foreign);
     }
+    Ok(Part {
+        end,
+        letters: capped_at_128(letters),
+    })
 }
