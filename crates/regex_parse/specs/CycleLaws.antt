@@ -20,9 +20,9 @@ use Rattle.regex_tree.specs.Repetition.{repeats, repetition}
 use Rattle.regex_tree.specs.Parse.{Mode, m_alternation, m_branch, m_piece, m_group, ends, grouped, step, parse}
 use Rattle.regex_tree.proofs.StepsLaws.{parse_step}
 use Rattle.regex_set.specs.declared.Part.{Part}
-use Rattle.regex_set.specs.declared.Part.TheVariants as part
+use Rattle.std.specs.Prelude.{Result, Ok, Err}
 use Rattle.text.proofs.TextLaws.{place_drop, next_at, rest_at, byte_is}
-use Rattle.regex_set.specs.Answers.{part_of, set_tree}
+use Rattle.regex_set.specs.Answers.{part, part_of, set_tree}
 use Rattle.regex_repetition.specs.Answers.{repeats_of}
 use Rattle.regex_count.specs.SumsLaws.{few_times}
 use Rattle.regex_count.specs.Parts.{add, repeated, closed}
@@ -31,11 +31,11 @@ use Rattle.regex_parse.specs.PartsLaws.{part_at, Found, part_found}
 module _ (A text : List ℕ) where
   -- a parsed tree as part of a larger one, whose letters are known from its own
   part_under :
-      (f : Tree → Tree) (g : ℕ → ℕ) → ((t : Tree) → few (letter_count A (f t)) ≡ g (few (letter_count A t))) → (p : Part → Part) →
-      ((e n : ℕ) → p (part.Found e n) ≡ part.Found e (g n)) → ((x : Refusal) → p (part.Refused x) ≡ part.Refused x) → (x : Parsing Tree) →
+      (f : Tree → Tree) (g : ℕ → ℕ) → ((t : Tree) → few (letter_count A (f t)) ≡ g (few (letter_count A t))) → (p : Result Part Refusal → Result Part Refusal) →
+      ((e n : ℕ) → p (Ok (part e n)) ≡ Ok (part e (g n))) → ((x : Refusal) → p (Err x) ≡ Err x) → (x : Parsing Tree) →
       p (part_of A text x) ≡ part_of A text (then x (λ t s. found (f t) s))
   unfolding then
-  part_under f g h p a b (found t r) = a (place text r) (few (letter_count A t)) ∙ ap (part.Found (place text r)) (sym (h t))
+  part_under f g h p a b (found t r) = a (place text r) (few (letter_count A t)) ∙ ap (λ n. Ok (part (place text r) n)) (sym (h t))
   part_under f g h p a b (fault x r) = b x
 
   add_either : (t : Tree) (x : Parsing Tree) → add (few (letter_count A t)) (part_of A text x) ≡ part_of A text (then x (λ u s. found (either t u) s))
@@ -53,8 +53,8 @@ module _ (A text : List ℕ) where
   times_repeated :
       (t : Tree) (x : Parsing Count) → repeated (few (letter_count A t)) (repeats_of text x) ≡ part_of A text (then x (λ c s. found (times t c) s))
   unfolding then letter_count
-  times_repeated t (found (between n m) r) = ap (part.Found (place text r)) (few_times m (letter_count A t))
-  times_repeated t (found (onward n) r) = ap (part.Found (place text r)) (few_times (copies_of (onward n)) (letter_count A t))
+  times_repeated t (found (between n m) r) = ap (λ n. Ok (part (place text r) n)) (few_times m (letter_count A t))
+  times_repeated t (found (onward n) r) = ap (λ n. Ok (part (place text r) n)) (few_times (copies_of (onward n)) (letter_count A t))
   times_repeated t (fault x r) = refl
 
   -- The steps, with the test as an argument.
@@ -75,22 +75,22 @@ module _ (A text : List ℕ) where
 
   -- A refusal is passed on.
   then_refused :
-      (f : Tree → List ℕ → Parsing Tree) (x : Refusal) (y : Parsing Tree) → part.Refused x ≡ part_of A text y → part.Refused x ≡ part_of A text (then y f)
+      (f : Tree → List ℕ → Parsing Tree) (x : Refusal) (y : Parsing Tree) → Err x ≡ part_of A text y → Err x ≡ part_of A text (then y f)
   unfolding then
   then_refused f x (found t r) h = let z : ◌≡◌ {A = ℕ} 0 1 = cc in absurd (omega arith)
   then_refused f x (fault n r) h = h
 
   module _ (d at : ℕ) (x : Refusal) where
-    pub alternation_refused : part.Refused x ≡ part_at A text m_branch d at → part.Refused x ≡ part_at A text m_alternation d at
+    pub alternation_refused : Err x ≡ part_at A text m_branch d at → Err x ≡ part_at A text m_alternation d at
     unfolding step
     alternation_refused h =
         then_refused _ x (parse A m_branch d (drop at text)) h ∙ ap (part_of A text) (sym (parse_step A m_alternation d (drop at text)))
 
-    pub branch_refused : part.Refused x ≡ part_at A text m_piece d at → part.Refused x ≡ part_at A text m_branch d at
+    pub branch_refused : Err x ≡ part_at A text m_piece d at → Err x ≡ part_at A text m_branch d at
     unfolding step
     branch_refused h = then_refused _ x (parse A m_piece d (drop at text)) h ∙ ap (part_of A text) (sym (parse_step A m_branch d (drop at text)))
 
-    pub piece_refused : part.Refused x ≡ part_at A text m_group d at → part.Refused x ≡ part_at A text m_piece d at
+    pub piece_refused : Err x ≡ part_at A text m_group d at → Err x ≡ part_at A text m_piece d at
     unfolding step
     piece_refused h = then_refused _ x (parse A m_group d (drop at text)) h ∙ ap (part_of A text) (sym (parse_step A m_piece d (drop at text)))
 
@@ -102,7 +102,7 @@ module _ (A text : List ℕ) where
   pub group_set : (d at : ℕ) → (get_or text at 0 ≡ code "(" → ⊥) → part_of A text (set_tree A (drop at text)) ≡ part_at A text m_group d at
   group_set d at k = ap (part_of A text) (sym (by_open d at false (ne_eqb (get_or text at 0) (code "(") k)))
 
-  pub group_deep : (d at : ℕ) → get_or text at 0 ≡ code "(" → d ≡ 0 → part.Refused refusal.Depth ≡ part_at A text m_group d at
+  pub group_deep : (d at : ℕ) → get_or text at 0 ≡ code "(" → d ≡ 0 → Err refusal.Depth ≡ part_at A text m_group d at
   unfolding grouped
   group_deep d at k z =
       sym (ap (part_of A text) (by_open d at true (eq-eqb (get_or text at 0) (code "(") k) ∙ ap (λ i. grouped (parse A m_alternation) i (drop at text)) z))
@@ -126,11 +126,11 @@ module _ (A text : List ℕ) where
 
       by :
           (b : Bool) → eqb (get_or text (place text r) 0) (code ")") ≡ b →
-          cond b (part.Found (place text r + 1) (few (letter_count A t))) (part.Refused refusal.MisplacedSign) ≡ part_of A text (closing b t r)
+          cond b (Ok (part (place text r + 1) (few (letter_count A t)))) (Err refusal.MisplacedSign) ≡ part_of A text (closing b t r)
       by true e =
           let l = byte_is text (place text r) 40 (eqb-true (get_or text (place text r) 0) (code ")") e) in
           let q : rest r ≡ drop (place text r + 1) text = ap rest (sym rests) ∙ rest_at text (place text r) in
-          ap (λ i. part.Found i (few (letter_count A t))) (sym (ap (place text) q ∙ place_drop text (place text r + 1) (omega arith)))
+          ap (λ i. Ok (part i (few (letter_count A t)))) (sym (ap (place text) q ∙ place_drop text (place text r + 1) (omega arith)))
       by false e = refl
 
   pub group_closed :
@@ -145,8 +145,8 @@ module _ (A text : List ℕ) where
       ∙ ap (part_of A text) (sym (by_open (suc d) at true (eq-eqb (get_or text at 0) (code "(") k)))
 
 -- A parsed part, to which nothing is added.
-alone : {A text : List ℕ} {m : Mode} {d at e n : ℕ} (f : Found A text m d at e n) → part.Found e n ≡ part_of A text (found f.tree (drop e text))
-alone {text = text} {e = e} f = ap₂ part.Found (sym (place_drop text e f.within)) f.letters
+alone : {A text : List ℕ} {m : Mode} {d at e n : ℕ} (f : Found A text m d at e n) → Ok (part e n) ≡ part_of A text (found f.tree (drop e text))
+alone {text = text} {e = e} f = ap₂ (λ i j. Ok (part i j)) (sym (place_drop text e f.within)) f.letters
 
 -- A parsed branch: there is a `|` after it, or none.
 module _ {A text : List ℕ} {d at e n : ℕ} (f : Found A text m_branch d at e n) where
@@ -156,7 +156,7 @@ module _ {A text : List ℕ} {d at e n : ℕ} (f : Found A text m_branch d at e 
       parse_step A m_alternation d (drop at text) ∙ ap (λ x. then x (λ t s. bar A text (next "|" s) d t s)) f.reads
       ∙ ap (λ t. bar A text t d f.tree (drop e text)) (next_at "|" text e refl ∙ k)
 
-  pub alternation_alone : (get_or text e 0 ≡ code "|" → ⊥) → part.Found e n ≡ part_at A text m_alternation d at
+  pub alternation_alone : (get_or text e 0 ≡ code "|" → ⊥) → Ok (part e n) ≡ part_at A text m_alternation d at
   alternation_alone k = alone f ∙ ap (part_of A text) (sym (by_bar false (ne_eqb (get_or text e 0) (code "|") k)))
 
   pub alternation_more : get_or text e 0 ≡ code "|" → add n (part_at A text m_alternation d (e + 1)) ≡ part_at A text m_alternation d at
@@ -174,7 +174,7 @@ module _ {A text : List ℕ} {d at e n : ℕ} (f : Found A text m_piece d at e n
       parse_step A m_branch d (drop at text) ∙ ap (λ x. then x (λ t s. last A text (ends s) d t s)) f.reads
       ∙ ap (λ t. last A text t d f.tree (drop e text)) k
 
-  pub branch_last : ends (drop e text) ≡ true → part.Found e n ≡ part_at A text m_branch d at
+  pub branch_last : ends (drop e text) ≡ true → Ok (part e n) ≡ part_at A text m_branch d at
   branch_last k = alone f ∙ ap (part_of A text) (sym (by_end true k))
 
   pub branch_more : ends (drop e text) ≡ false → add n (part_at A text m_branch d e) ≡ part_at A text m_branch d at
@@ -190,7 +190,7 @@ module _ {A text : List ℕ} {d at e n : ℕ} (f : Found A text m_group d at e n
       parse_step A m_piece d (drop at text) ∙ ap (λ x. then x (λ t s. repeating A text (repeats s) t s)) f.reads
       ∙ ap (λ t. repeating A text t f.tree (drop e text)) k
 
-  pub piece_plain : repeats (drop e text) ≡ false → part.Found e n ≡ part_at A text m_piece d at
+  pub piece_plain : repeats (drop e text) ≡ false → Ok (part e n) ≡ part_at A text m_piece d at
   piece_plain k = alone f ∙ ap (part_of A text) (sym (by_sign false k))
 
   pub piece_repeated : repeats (drop e text) ≡ true → repeated n (repeats_of text (repetition (drop e text))) ≡ part_at A text m_piece d at

@@ -11,14 +11,19 @@ use Rattle.regex_tree.proofs.FrontLaws.{Front, Stop}
 use Rattle.regex_tree.proofs.Sound.{parse_sound}
 use Rattle.regex_tree.proofs.StepsLaws.{parse_forward}
 use Rattle.regex_set.specs.declared.Part.{Part}
-use Rattle.regex_set.specs.declared.Part.TheVariants as part
+use Rattle.refusal.specs.declared.Refusal.{Refusal}
+use Rattle.std.specs.Prelude.{Result, Ok, Err}
 use Rattle.text.proofs.TextLaws.{beyond}
 use Rattle.text.specs.Places.{place}
-use Rattle.regex_set.specs.Answers.{part_of}
+use Rattle.regex_set.specs.Answers.{part, part_of}
+
+part_in : Result Part Refusal → Part
+part_in (Ok p) = p
+part_in (Err n) = part 0 0
 
 module _ (A text : List ℕ) where
   -- the part at a place
-  abbrev pub part_at : Mode → ℕ → ℕ → Part
+  abbrev pub part_at : Mode → ℕ → ℕ → Result Part Refusal
   part_at m d at = part_of A text (parse A m d (drop at text))
 
   -- a parsed part
@@ -29,21 +34,23 @@ module _ (A text : List ℕ) where
     pub ahead : at < e
     pub within : e ≤ length text
 
-  pub part_found : (m : Mode) (d at e n : ℕ) → part.Found e n ≡ part_at m d at → Found m d at e n
+  pub part_found : (m : Mode) (d at e n : ℕ) → Ok (part e n) ≡ part_at m d at → Found m d at e n
+  unfolding part_in
   part_found m d at e n h = by (parse A m d (drop at text)) refl h
     where
-      by : (x : Parsing Tree) → parse A m d (drop at text) ≡ x → part.Found e n ≡ part_of A text x → Found m d at e n
+      by : (x : Parsing Tree) → parse A m d (drop at text) ≡ x → Ok (part e n) ≡ part_of A text x → Found m d at e n
       by (found t r) k h =
           let s : List ℕ = drop at text in
           let f : Front A m d s t r = of_found (Front A m d s) (Stop A m d s) (parse A m d s) t r (parse_sound A m d s) k in
           let l = parse_forward A m d (drop at text) t r k in
           let n₁ = length-drop at text in
           let b = beyond text at f.front r (omega arith) f.splits in
-          let q : e ≡ place text r = cc in
+          let q : e ≡ place text r = ap (λ x. (part_in x).end) h in
+          let m : n ≡ few (letter_count A t) = ap (λ x. (part_in x).letters) h in
           record {
             tree = t;
             reads = k ∙ ap (found t) (sym b.rests ∙ ap (λ i. drop i text) (sym q));
-            letters = cc;
+            letters = m;
             ahead = omega arith;
             within = let w = b.ends in omega arith;
           }

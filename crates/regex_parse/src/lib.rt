@@ -14,86 +14,66 @@ use regex_repetition::repetition;
 use regex_set::{Part, set};
 use text::peek;
 
-// The letters of an expression, counted up to 128, or why it is turned away.
-#[derive(Drop)]
-pub enum Parsed {
-    Letters(usize),
-    Refused(Refusal),
-}
-
 // Branches with `|` between them.
 #[cycle(alternation_branch_group_piece)]
-pub fn alternation(alphabet: &[u8], text: &[u8], at: usize, room: usize) -> Part
+pub fn alternation(alphabet: &[u8], text: &[u8], at: usize, room: usize) -> Result<Part, Refusal>
     ensures { result ≡ part_of alphabet.now text.now (parse alphabet.now m_alternation room (drop at text.now)) }
 {
-    match branch(alphabet, text, at, room) {
-        Part::Refused(x) => Part::Refused(x),
-        Part::Found(e, n) => {
-            if peek(text, e) != b'|' {
-                return Part::Found(e, n);
-            }
-            added(n, alternation(alphabet, text, e + 1, room))
-        }
+    let first = branch(alphabet, text, at, room)?;
+    if peek(text, first.end) != b'|' {
+        return Ok(first);
     }
+    added(
+        first.letters,
+        alternation(alphabet, text, first.end + 1, room),
+    )
 }
 
 // Pieces joined.
 #[cycle(alternation_branch_group_piece)]
-pub fn branch(alphabet: &[u8], text: &[u8], at: usize, room: usize) -> Part
+pub fn branch(alphabet: &[u8], text: &[u8], at: usize, room: usize) -> Result<Part, Refusal>
     ensures { result ≡ part_of alphabet.now text.now (parse alphabet.now m_branch room (drop at text.now)) }
 {
-    match piece(alphabet, text, at, room) {
-        Part::Refused(x) => Part::Refused(x),
-        Part::Found(e, n) => {
-            if is_end(text, e) {
-                return Part::Found(e, n);
-            }
-            added(n, branch(alphabet, text, e, room))
-        }
+    let first = piece(alphabet, text, at, room)?;
+    if is_end(text, first.end) {
+        return Ok(first);
     }
+    added(first.letters, branch(alphabet, text, first.end, room))
 }
 
 // A group or a set, repeated or not.
 #[cycle(alternation_branch_group_piece)]
-pub fn piece(alphabet: &[u8], text: &[u8], at: usize, room: usize) -> Part
+pub fn piece(alphabet: &[u8], text: &[u8], at: usize, room: usize) -> Result<Part, Refusal>
     ensures { result ≡ part_of alphabet.now text.now (parse alphabet.now m_piece room (drop at text.now)) }
 {
-    match group(alphabet, text, at, room) {
-        Part::Refused(x) => Part::Refused(x),
-        Part::Found(e, n) => {
-            if is_repeated(text, e) {
-                return repeated(n, repetition(text, e));
-            }
-            Part::Found(e, n)
-        }
+    let inner = group(alphabet, text, at, room)?;
+    if is_repeated(text, inner.end) {
+        return repeated(inner.letters, repetition(text, inner.end));
     }
+    Ok(inner)
 }
 
 // A set, or an alternation in parentheses, where `room` more groups may be opened.
 #[cycle(alternation_branch_group_piece)]
-pub fn group(alphabet: &[u8], text: &[u8], at: usize, room: usize) -> Part
+pub fn group(alphabet: &[u8], text: &[u8], at: usize, room: usize) -> Result<Part, Refusal>
     ensures { result ≡ part_of alphabet.now text.now (parse alphabet.now m_group room (drop at text.now)) }
 {
     if peek(text, at) != b'(' {
         return set(alphabet, text, at);
     }
     if room == 0 {
-        return Part::Refused(Refusal::Depth);
+        return Err(Refusal::Depth);
     }
     closed(text, alternation(alphabet, text, at + 1, room - 1))
 }
 
-// The whole text, with at most 16 groups open together.
-pub fn expression(alphabet: &[u8], text: &[u8]) -> Parsed
+// The whole text, with at most 16 groups open together: its letters, counted up to 128.
+pub fn expression(alphabet: &[u8], text: &[u8]) -> Result<usize, Refusal>
     ensures { result ≡ parsed alphabet.now text.now }
 {
-    match alternation(alphabet, text, 0, 16) {
-        Part::Refused(x) => Parsed::Refused(x),
-        Part::Found(e, n) => {
-            if e < text.len() {
-                return Parsed::Refused(Refusal::MisplacedSign);
-            }
-            Parsed::Letters(n)
-        }
+    let whole = alternation(alphabet, text, 0, 16)?;
+    if whole.end < text.len() {
+        return Err(Refusal::MisplacedSign);
     }
+    Ok(whole.letters)
 }

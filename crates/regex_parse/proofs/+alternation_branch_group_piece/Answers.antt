@@ -2,6 +2,7 @@
 use mathlib.Core.Path.{sym, ap, ◌∙◌}
 use native.Mathlib.Omega.{arith}
 use Rattle.regex_tree.specs.Parse.{m_branch, m_piece, m_group}
+use Rattle.std.proofs.lemmas.Result.{err_from_is_err_and}
 use Rattle.text.proofs.TextLaws.{byte_is}
 use Rattle.regex_count.specs.Parts.{add, repeated, closed}
 use Rattle.regex_parse.specs.PartsLaws.{part_found}
@@ -15,53 +16,55 @@ use Rattle.regex_parse.proofs.+alternation_branch_group_piece.Goals as goal
 pub alternation-returns-then-peek-ne124 : goal.alternation-returns-then-peek-ne124
 alternation-returns-then-peek-ne124 t c =
     let a = c.args in
-    let f = part_found a.alphabet.now a.text.now m_branch a.room a.at c.in_Found-x.e c.in_Found-x.n c.in_Found-x.ensures in
+    let f = part_found a.alphabet.now a.text.now m_branch a.room a.at c.in_ok-first.first.end c.in_ok-first.first.letters c.in_ok-first.ensures in
     alternation_alone f (λ z. c.if-peek-ne124.true (c.peek.ensures ∙ z))
 
 pub alternation-alternation-requires : goal.alternation-alternation-requires
 alternation-alternation-requires t c =
     let a = c.args in
-    let f = part_found a.alphabet.now a.text.now m_branch a.room a.at c.in_Found-x.e c.in_Found-x.n c.in_Found-x.ensures in
+    let f = part_found a.alphabet.now a.text.now m_branch a.room a.at c.in_ok-first.first.end c.in_ok-first.first.letters c.in_ok-first.ensures in
     let h = f.ahead in
-    let l = byte_is a.text.now c.in_Found-x.e 123 (sym c.peek.ensures ∙ c.if-peek-ne124.false) in
+    let l = byte_is a.text.now c.in_ok-first.first.end 123 (sym c.peek.ensures ∙ c.if-peek-ne124.false) in
     omega arith
 
-pub alternation-returns-in_Refused-x : goal.alternation-returns-in_Refused-x
-alternation-returns-in_Refused-x t c =
+pub alternation-returns-in_err-first : goal.alternation-returns-in_err-first
+alternation-returns-in_err-first t c =
     let a = c.args in
-    alternation_refused a.alphabet.now a.text.now a.room a.at _ c.in_Refused-x.ensures
+    let p = err_from_is_err_and c.from_residual.result c.from_residual.ensures.1 in
+    rw (p.1, p.2) (alternation_refused a.alphabet.now a.text.now a.room a.at _ c.in_err-first.ensures)
 
-pub alternation-returns-else-peek-ne124 : goal.alternation-returns-else-peek-ne124
-alternation-returns-else-peek-ne124 t c =
+pub alternation-returns : goal.alternation-returns
+alternation-returns t c =
     let a = c.args in
-    let f = part_found a.alphabet.now a.text.now m_branch a.room a.at c.in_Found-x.e c.in_Found-x.n c.in_Found-x.ensures in
-    c.added.ensures ∙ ap (add c.in_Found-x.n) c.alternation.ensures ∙ alternation_more f (sym c.peek.ensures ∙ c.if-peek-ne124.false)
+    let f = part_found a.alphabet.now a.text.now m_branch a.room a.at c.in_ok-first.first.end c.in_ok-first.first.letters c.in_ok-first.ensures in
+    c.added.ensures ∙ ap (add c.in_ok-first.first.letters) c.alternation.ensures ∙ alternation_more f (sym c.peek.ensures ∙ c.if-peek-ne124.false)
 
 -- `branch`: the piece that is parsed first is f
 pub branch-returns-then-is_end : goal.branch-returns-then-is_end
 branch-returns-then-is_end t c =
     let a = c.args in
-    let f = part_found a.alphabet.now a.text.now m_piece a.room a.at c.in-Found.e c.in-Found.n c.in-Found.ensures in
+    let f = part_found a.alphabet.now a.text.now m_piece a.room a.at c.in_ok-first.first.end c.in_ok-first.first.letters c.in_ok-first.ensures in
     branch_last f (sym c.is_end.ensures ∙ c.if-is_end.true)
 
 pub branch-branch-alphabet-requires : goal.branch-branch-alphabet-requires
 branch-branch-alphabet-requires t c =
     let a = c.args in
-    let f = part_found a.alphabet.now a.text.now m_piece a.room a.at c.in-Found.e c.in-Found.n c.in-Found.ensures in
+    let f = part_found a.alphabet.now a.text.now m_piece a.room a.at c.in_ok-first.first.end c.in_ok-first.first.letters c.in_ok-first.ensures in
     let h = f.ahead in
     let w = f.within in
     omega arith
 
-pub branch-returns-in-Refused : goal.branch-returns-in-Refused
-branch-returns-in-Refused t c =
+pub branch-returns-in_err-first : goal.branch-returns-in_err-first
+branch-returns-in_err-first t c =
     let a = c.args in
-    branch_refused a.alphabet.now a.text.now a.room a.at _ c.in-Refused.ensures
+    let p = err_from_is_err_and c.from_residual.result c.from_residual.ensures.1 in
+    rw (p.1, p.2) (branch_refused a.alphabet.now a.text.now a.room a.at _ c.in_err-first.ensures)
 
-pub branch-returns-else-is_end : goal.branch-returns-else-is_end
-branch-returns-else-is_end t c =
+pub branch-returns : goal.branch-returns
+branch-returns t c =
     let a = c.args in
-    let f = part_found a.alphabet.now a.text.now m_piece a.room a.at c.in-Found.e c.in-Found.n c.in-Found.ensures in
-    c.added.ensures ∙ ap (add c.in-Found.n) c.branch-alphabet.ensures ∙ branch_more f (sym c.is_end.ensures ∙ c.if-is_end.false)
+    let f = part_found a.alphabet.now a.text.now m_piece a.room a.at c.in_ok-first.first.end c.in_ok-first.first.letters c.in_ok-first.ensures in
+    c.added.ensures ∙ ap (add c.in_ok-first.first.letters) c.branch-alphabet.ensures ∙ branch_more f (sym c.is_end.ensures ∙ c.if-is_end.false)
 
 -- `group`
 pub group-returns-then-peek-ne40 : goal.group-returns-then-peek-ne40
@@ -84,16 +87,17 @@ group-returns t c =
 pub piece-returns-then-is_repeated : goal.piece-returns-then-is_repeated
 piece-returns-then-is_repeated t c =
     let a = c.args in
-    let f = part_found a.alphabet.now a.text.now m_group a.room a.at c.in-Found.e c.in-Found.n c.in-Found.ensures in
-    c.repeated.ensures ∙ ap (repeated c.in-Found.n) c.repetition.ensures ∙ piece_repeated f (sym c.is_repeated.ensures ∙ c.if-is_repeated.true)
+    let f = part_found a.alphabet.now a.text.now m_group a.room a.at c.in_ok-inner.inner.end c.in_ok-inner.inner.letters c.in_ok-inner.ensures in
+    c.repeated.ensures ∙ ap (repeated c.in_ok-inner.inner.letters) c.repetition.ensures ∙ piece_repeated f (sym c.is_repeated.ensures ∙ c.if-is_repeated.true)
 
-pub piece-returns-in-Refused : goal.piece-returns-in-Refused
-piece-returns-in-Refused t c =
+pub piece-returns-in_err-inner : goal.piece-returns-in_err-inner
+piece-returns-in_err-inner t c =
     let a = c.args in
-    piece_refused a.alphabet.now a.text.now a.room a.at _ c.in-Refused.ensures
+    let p = err_from_is_err_and c.from_residual.result c.from_residual.ensures.1 in
+    rw (p.1, p.2) (piece_refused a.alphabet.now a.text.now a.room a.at _ c.in_err-inner.ensures)
 
-pub piece-returns-else-is_repeated : goal.piece-returns-else-is_repeated
-piece-returns-else-is_repeated t c =
+pub piece-returns : goal.piece-returns
+piece-returns t c =
     let a = c.args in
-    let f = part_found a.alphabet.now a.text.now m_group a.room a.at c.in-Found.e c.in-Found.n c.in-Found.ensures in
+    let f = part_found a.alphabet.now a.text.now m_group a.room a.at c.in_ok-inner.inner.end c.in_ok-inner.inner.letters c.in_ok-inner.ensures in
     piece_plain f (sym c.is_repeated.ensures ∙ c.if-is_repeated.false)

@@ -1,20 +1,25 @@
 -- `regex_parse::expression` meets its contract.
+use Rattle.std.proofs.lemmas.Result.{err_from_is_err_and}
 use Rattle.regex_tree.specs.Parse.{m_alternation}
 use Rattle.regex_parse.specs.PartsLaws.{part_found}
 use Rattle.regex_parse.specs.ParsedLaws.{parsed_refused, parsed_stray, parsed_letters}
 use Rattle.regex_parse.proofs.expression.Goals as goal
 
-pub returns-then-e-text : goal.returns-then-e-text
-returns-then-e-text c =
-    let a = c.args in
-    let f = part_found a.alphabet.now a.text.now m_alternation 16 0 c.in-Found.e c.in-Found.n c.in-Found.ensures in
-    parsed_stray a.alphabet.now a.text.now c.in-Found.e c.in-Found.n f c.if-e-text.true
+pub returns-in_err-whole : goal.returns-in_err-whole
+returns-in_err-whole c =
+    let p = err_from_is_err_and c.from_residual.result c.from_residual.ensures.1 in
+    rw (p.1, p.2) (parsed_refused c.args.alphabet.now c.args.text.now _ c.in_err-whole.ensures)
 
-pub returns-in-Refused : goal.returns-in-Refused
-returns-in-Refused c = parsed_refused c.args.alphabet.now c.args.text.now _ c.in-Refused.ensures
-
-pub returns-else-e-text : goal.returns-else-e-text
-returns-else-e-text c =
+pub returns-then-whole-text : goal.returns-then-whole-text
+returns-then-whole-text c =
     let a = c.args in
-    let f = part_found a.alphabet.now a.text.now m_alternation 16 0 c.in-Found.e c.in-Found.n c.in-Found.ensures in
-    parsed_letters a.alphabet.now a.text.now c.in-Found.e c.in-Found.n f c.if-e-text.false
+    let w = c.in_ok-whole.whole in
+    let f = part_found a.alphabet.now a.text.now m_alternation 16 0 w.end w.letters c.in_ok-whole.ensures in
+    parsed_stray a.alphabet.now a.text.now w.end w.letters f c.if-whole-text.true
+
+pub returns : goal.returns
+returns c =
+    let a = c.args in
+    let w = c.in_ok-whole.whole in
+    let f = part_found a.alphabet.now a.text.now m_alternation 16 0 w.end w.letters c.in_ok-whole.ensures in
+    parsed_letters a.alphabet.now a.text.now w.end w.letters f c.if-whole-text.false
