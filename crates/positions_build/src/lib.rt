@@ -10,66 +10,61 @@ ghost use Rattle.positions_letters.specs.Shows.{Builds};
 ghost use Rattle.positions_build.specs.Places.{PartAt, opened_at, end_at, count_at, left_at, Room};
 ghost use Rattle.positions_build.specs.Whole.{Buildable, BuildsWhole};
 
-use positions_letters::{copies_at, set};
-use positions_parts::{Built, again, choice, ended, joint, perhaps};
+use positions_letters::{Source, copies_at};
+use positions_parts::Built;
 use regex_count::is_end;
 use text::peek;
 
 // Branches with `|` between them, built after the first `letters` letters.
 #[cycle(alternation_branch_group_piece)]
 fn alternation(
-    alphabet: &[u8],
-    text: &[u8],
+    source: &Source,
     at: usize,
     room: usize,
     letters: usize,
     labels: &mut [u8],
     follow: &mut [[bool; 127]],
 ) -> Built
-    requires part_at { PartAt alphabet.now text.now m_alternation room at }
-    requires room { Room alphabet.now (opened_at alphabet.now text.now m_alternation room at) letters labels.old follow.old }
-    ensures { Builds letters (opened_at alphabet.now text.now m_alternation room at)
-        (end_at alphabet.now text.now m_alternation room at) follow.old follow.new labels.old labels.new result }
+    requires part_at { PartAt source.now.alphabet.now source.now.text.now m_alternation room at }
+    requires room { Room source.now.alphabet.now (opened_at source.now.alphabet.now source.now.text.now m_alternation room at) letters labels.old follow.old }
+    ensures { Builds letters (opened_at source.now.alphabet.now source.now.text.now m_alternation room at)
+        (end_at source.now.alphabet.now source.now.text.now m_alternation room at) follow.old follow.new labels.old labels.new result }
 {
-    let a = branch(alphabet, text, at, room, letters, labels, follow);
-    let e = a.end;
-    if peek(text, e) != b'|' {
+    let a = branch(source, at, room, letters, labels, follow);
+    if peek(source.text, a.end) != b'|' {
         return a;
     }
-    let b = alternation(alphabet, text, e + 1, room, a.letters, labels, follow);
-    choice(a, b)
+    let b = alternation(source, a.end + 1, room, a.letters, labels, follow);
+    a.or(b)
 }
 
 // Pieces joined.
 #[cycle(alternation_branch_group_piece)]
 fn branch(
-    alphabet: &[u8],
-    text: &[u8],
+    source: &Source,
     at: usize,
     room: usize,
     letters: usize,
     labels: &mut [u8],
     follow: &mut [[bool; 127]],
 ) -> Built
-    requires part_at { PartAt alphabet.now text.now m_branch room at }
-    requires room { Room alphabet.now (opened_at alphabet.now text.now m_branch room at) letters labels.old follow.old }
-    ensures { Builds letters (opened_at alphabet.now text.now m_branch room at)
-        (end_at alphabet.now text.now m_branch room at) follow.old follow.new labels.old labels.new result }
+    requires part_at { PartAt source.now.alphabet.now source.now.text.now m_branch room at }
+    requires room { Room source.now.alphabet.now (opened_at source.now.alphabet.now source.now.text.now m_branch room at) letters labels.old follow.old }
+    ensures { Builds letters (opened_at source.now.alphabet.now source.now.text.now m_branch room at)
+        (end_at source.now.alphabet.now source.now.text.now m_branch room at) follow.old follow.new labels.old labels.new result }
 {
-    let a = piece(alphabet, text, at, room, 0, letters, labels, follow);
-    let e = a.end;
-    if is_end(text, e) {
+    let a = piece(source, at, room, 0, letters, labels, follow);
+    if is_end(source.text, a.end) {
         return a;
     }
-    let b = branch(alphabet, text, e, room, a.letters, labels, follow);
-    joint(a, b, follow)
+    let b = branch(source, a.end, room, a.letters, labels, follow);
+    a.then(b, follow)
 }
 
 // A group or a set, repeated or not: what is left of it after `copies` copies.
 #[cycle(alternation_branch_group_piece)]
 fn piece(
-    alphabet: &[u8],
-    text: &[u8],
+    source: &Source,
     at: usize,
     room: usize,
     copies: usize,
@@ -77,61 +72,53 @@ fn piece(
     labels: &mut [u8],
     follow: &mut [[bool; 127]],
 ) -> Built
-    requires part_at { PartAt alphabet.now text.now m_piece room at }
-    requires copies_bound { copies < copies_of (count_at alphabet.now text.now room at) }
-    requires room { Room alphabet.now (left_at alphabet.now text.now room at copies) letters labels.old follow.old }
-    ensures { Builds letters (left_at alphabet.now text.now room at copies) (end_at alphabet.now text.now m_piece room at)
+    requires part_at { PartAt source.now.alphabet.now source.now.text.now m_piece room at }
+    requires copies_bound { copies < copies_of (count_at source.now.alphabet.now source.now.text.now room at) }
+    requires room { Room source.now.alphabet.now (left_at source.now.alphabet.now source.now.text.now room at copies) letters labels.old follow.old }
+    ensures { Builds letters (left_at source.now.alphabet.now source.now.text.now room at copies) (end_at source.now.alphabet.now source.now.text.now m_piece room at)
         follow.old follow.new labels.old labels.new result }
 {
-    let a = group(alphabet, text, at, room, letters, labels, follow);
-    let c = copies_at(text, a.end);
+    let a = group(source, at, room, letters, labels, follow);
+    let c = copies_at(source.text, a.end);
     let spare = c.least <= copies;
     if copies + 1 == c.most {
-        again(a, c.onward, follow);
-        return perhaps(a, spare, c.end);
+        a.again(c.onward, follow);
+        return a.perhaps(spare, c.end);
     }
-    let b = piece(
-        alphabet,
-        text,
-        at,
-        room,
-        copies + 1,
-        a.letters,
-        labels,
-        follow,
-    );
-    let j = joint(a, b, follow);
-    perhaps(j, spare, c.end)
+    let b = piece(source, at, room, copies + 1, a.letters, labels, follow);
+    a.then(b, follow).perhaps(spare, c.end)
 }
 
 // A set, or an alternation in parentheses.
 #[cycle(alternation_branch_group_piece)]
 fn group(
-    alphabet: &[u8],
-    text: &[u8],
+    source: &Source,
     at: usize,
     room: usize,
     letters: usize,
     labels: &mut [u8],
     follow: &mut [[bool; 127]],
 ) -> Built
-    requires part_at { PartAt alphabet.now text.now m_group room at }
-    requires room { Room alphabet.now (opened_at alphabet.now text.now m_group room at) letters labels.old follow.old }
-    ensures { Builds letters (opened_at alphabet.now text.now m_group room at) (end_at alphabet.now text.now m_group room at)
+    requires part_at { PartAt source.now.alphabet.now source.now.text.now m_group room at }
+    requires room { Room source.now.alphabet.now (opened_at source.now.alphabet.now source.now.text.now m_group room at) letters labels.old follow.old }
+    ensures { Builds letters (opened_at source.now.alphabet.now source.now.text.now m_group room at) (end_at source.now.alphabet.now source.now.text.now m_group room at)
         follow.old follow.new labels.old labels.new result }
 {
-    if peek(text, at) != b'(' {
-        return set(alphabet, text, at, letters, labels);
+    if peek(source.text, at) != b'(' {
+        return source.set(at, letters, labels);
     }
-    let a = alternation(alphabet, text, at + 1, room - 1, letters, labels, follow);
-    let e = a.end;
-    ended(a, e + 1)
+    let a = alternation(source, at + 1, room - 1, letters, labels, follow);
+    Built {
+        end: a.end + 1,
+        ..a
+    }
 }
 
 // The whole text, with at most 16 groups open at once.
+#[tactic(auto, using(crate::specs::WholeLaws::text_found, crate::specs::WholeLaws::text_room))]
 pub fn build(alphabet: &[u8], text: &[u8], labels: &mut [u8], follow: &mut [[bool; 127]]) -> Built
     requires { Buildable alphabet.now text.now labels.old follow.old }
     ensures { BuildsWhole alphabet.now text.now labels.old labels.new follow.old follow.new result }
 {
-    alternation(alphabet, text, 0, 16, 0, labels, follow)
+    alternation(&Source { alphabet, text }, 0, 16, 0, labels, follow)
 }

@@ -14,15 +14,13 @@ ghost use Rattle.positions_letters.specs.Found.{rest_of, counted};
 ghost use Rattle.positions_letters.specs.Copies.{copies_by};
 ghost use Rattle.positions_letters.specs.Letters.{Ranged, SetRoom, SetBuilds};
 
-use numbers::narrow_byte;
 use positions_parts::Built;
-use regex_bracket::End;
 use regex_count::{copies, is_repeated};
-use regex_repetition::{Repeats, repetition};
+use regex_repetition::repetition;
 use regex_set::{member, set_end};
 
 // A repetition: how many copies a word must have, how many are built, whether the last has arcs back, and where the repetition ends.
-#[derive(Drop)]
+#[derive(Clone, Copy)]
 pub struct Copies {
     pub least: usize,
     pub most: usize,
@@ -35,43 +33,24 @@ pub fn copies_at(text: &[u8], at: usize) -> Copies
     requires { (at ≤ length text.now) × (is_found (counted (drop at text.now)) ≡ true) }
     ensures { result ≡ copies_by text.now (counted (drop at text.now)) }
 {
-    let one = Copies {
+    let once = Copies {
         least: 1,
         most: 1,
         onward: false,
         end: at,
     };
-    if is_repeated(text, at) {
-        match repetition(text, at) {
-            Repeats::Between(n, m, e) => Copies {
-                least: n,
-                most: m,
-                onward: false,
-                end: e,
-            },
-            Repeats::Onward(n, e) => Copies {
-                least: n,
-                most: copies(n),
-                onward: true,
-                end: e,
-            },
-            // Cannot occur, by the contract.
-            Repeats::Refused(_) => one,
-        }
-    } else {
-        one
+    if !is_repeated(text, at) {
+        return once;
     }
-}
-
-// The place after the set that begins at `at`.
-fn after_set(text: &[u8], at: usize) -> usize
-    requires { SetAt text.now at }
-    ensures { result ≡ place text.now (rest_of (a_set (drop at text.now))) }
-{
-    match set_end(text, at) {
-        End::At(e) => e,
+    match repetition(text, at) {
+        Ok(r) => Copies {
+            least: r.least,
+            most: r.most.unwrap_or(copies(r.least)),
+            onward: r.most.is_none(),
+            end: r.end,
+        },
         // Cannot occur, by the contract.
-        End::Refused(_) => at,
+        Err(_) => once,
     }
 }
 
@@ -81,61 +60,58 @@ fn range(from: usize, to: usize) -> [bool; 127]
     ensures { Ranged from to result }
 {
     let mut r = [false; 127];
-    let mut i = from;
-    while i < to {
-        r[i] = true;
-        i += 1;
-    }
+    r[from..to].fill(true);
     r
 }
 
-// Writes the label at place n if it is in the set, and returns the next place.
-fn put_label(labels: &mut [u8], n: usize, label: u8, there: bool) -> usize
-    requires { n + length (keeping there label []) ≤ length labels.old }
-    ensures { Stored (keeping there label []) n labels.old labels.new result }
-{
-    if there {
-        labels[n] = label;
-        return n + 1;
-    }
-    n
+// The text of an expression, and the alphabet whose labels its sets have.
+#[derive(Clone, Copy)]
+pub struct Source<'a> {
+    pub alphabet: &'a [u8],
+    pub text: &'a [u8],
 }
 
-// Writes the labels of the set that begins at `at`, ascending, from place n on, and returns the next place.
-fn write_labels(alphabet: &[u8], text: &[u8], at: usize, labels: &mut [u8], n: usize) -> usize
-    requires set_at { SetAt text.now at }
-    requires alphabet_len_bound { (length alphabet.now ≤ 255) × (n + length (labels_of_set alphabet.now (set_at text.now at)) ≤ length labels.old) }
-    ensures { Stored (labels_of_set alphabet.now (set_at text.now at)) n labels.old labels.new result }
-{
-    let mut m = n;
-    let mut label: usize = 1;
-    while label <= alphabet.len() {
-        m = put_label(
-            labels,
-            m,
-            narrow_byte(label),
-            member(text, at, alphabet[label - 1]),
-        );
-        label += 1;
+impl Source<'_> {
+    // The place after the set that begins at `at`.
+    fn after_set(&self, at: usize) -> usize
+        requires { SetAt self.now.text.now at }
+        ensures { result ≡ place self.now.text.now (rest_of (a_set (drop at self.now.text.now))) }
+    {
+        // `at` cannot occur, by the contract.
+        set_end(self.text, at).unwrap_or(at)
     }
-    m
-}
 
-// Builds the set that begins at `at`, after the first `letters` letters: one letter for each of its labels.
-pub fn set(alphabet: &[u8], text: &[u8], at: usize, letters: usize, labels: &mut [u8]) -> Built
-    requires set_at { SetAt text.now at }
-    requires set_room { SetRoom alphabet.now (set_at text.now at) letters labels.old }
-    ensures { SetBuilds alphabet.now text.now at letters labels.old labels.new result }
-{
-    let n = write_labels(alphabet, text, at, labels, letters);
-    let first = range(letters, n);
-    let last = first;
-    let end = after_set(text, at);
-    Built {
-        end,
-        letters: n,
-        nullable: false,
-        first,
-        last,
+    // Writes the labels of the set that begins at `at`, ascending, from place n on, and returns the next place.
+    fn write_labels(&self, at: usize, labels: &mut [u8], n: usize) -> usize
+        requires set_at { SetAt self.now.text.now at }
+        requires alphabet_len_bound { (length self.now.alphabet.now ≤ 255)
+            × (n + length (labels_of_set self.now.alphabet.now (set_at self.now.text.now at)) ≤ length labels.old) }
+        ensures { Stored (labels_of_set self.now.alphabet.now (set_at self.now.text.now at)) n labels.old labels.new result }
+    {
+        let mut m = n;
+        for (i, &character) in self.alphabet.iter().enumerate() {
+            if member(self.text, at, character) {
+                labels[m] = (i + 1) as u8;
+                m += 1;
+            }
+        }
+        m
+    }
+
+    // Builds the set that begins at `at`, after the first `letters` letters: one letter for each of its labels.
+    pub fn set(&self, at: usize, letters: usize, labels: &mut [u8]) -> Built
+        requires set_at { SetAt self.now.text.now at }
+        requires set_room { SetRoom self.now.alphabet.now (set_at self.now.text.now at) letters labels.old }
+        ensures { SetBuilds self.now.alphabet.now self.now.text.now at letters labels.old labels.new result }
+    {
+        let n = self.write_labels(at, labels, letters);
+        let first = range(letters, n);
+        Built {
+            end: self.after_set(at),
+            letters: n,
+            nullable: false,
+            first,
+            last: first,
+        }
     }
 }

@@ -2,10 +2,9 @@
 // index i - 1.
 #![tactic(auto)]
 
-ghost use Rattle.std.specs.Prelude.{◌≡◌, ◌&&◌, ◌≤◌, length};
-ghost use Rattle.positions_parts.specs.Together.{United, Chosen, Joined, Looped, Spared, Ended};
+ghost use Rattle.std.specs.Prelude.{◌≤◌, length};
+ghost use Rattle.positions_parts.specs.Together.{Chosen, Joined, Looped, Spared};
 
-use numbers::either;
 use positions_follow::{link, unite};
 
 // A part that was built: where it ends in the text; how many letters there are up to its end; whether it has the empty word; and which
@@ -19,102 +18,60 @@ pub struct Built {
     pub last: [bool; 127],
 }
 
-fn both(a: bool, b: bool) -> bool
-    ensures { result ≡ (a && b) }
-{
-    if a { b } else { false }
-}
-
-// The letters of a, and also those of b if `on` is true.
-fn united(a: [bool; 127], on: bool, b: [bool; 127]) -> [bool; 127]
-    ensures { United a on b result }
-{
-    let mut r = a;
-    if on {
-        unite(&mut r, &b);
-        return r;
+impl Built {
+    // One part or the other.
+    #[tactic(auto, unfolding(crate::specs::Together::United))]
+    pub fn or(mut self, b: Built) -> Built
+        ensures { Chosen self b result }
+    {
+        unite(&mut self.first, &b.first);
+        unite(&mut self.last, &b.last);
+        Built {
+            nullable: self.nullable || b.nullable,
+            first: self.first,
+            last: self.last,
+            ..b
+        }
     }
-    r
-}
 
-// One part or the other.
-pub fn choice(a: Built, b: Built) -> Built
-    ensures { Chosen a b result }
-{
-    let a_first = a.first;
-    let b_first = b.first;
-    let first = united(a_first, true, b_first);
-    let a_last = a.last;
-    let b_last = b.last;
-    let last = united(a_last, true, b_last);
-    Built {
-        end: b.end,
-        letters: b.letters,
-        nullable: either(a.nullable, b.nullable),
-        first,
-        last,
+    // One part and then the other: an arc from each last letter of the one to each first of the other.
+    #[tactic(auto, unfolding(crate::specs::Together::United))]
+    pub fn then(mut self, mut b: Built, follow: &mut [[bool; 127]]) -> Built
+        requires { 127 ≤ length follow.old }
+        ensures { Joined self b result follow.old follow.new }
+    {
+        link(follow, &self.last, &b.first);
+        if self.nullable {
+            unite(&mut self.first, &b.first);
+        }
+        if b.nullable {
+            unite(&mut b.last, &self.last);
+        }
+        Built {
+            nullable: self.nullable && b.nullable,
+            first: self.first,
+            ..b
+        }
     }
-}
 
-// One part and then the other: an arc from each last letter of a to each first of b.
-pub fn joint(a: Built, b: Built, follow: &mut [[bool; 127]]) -> Built
-    requires { 127 ≤ length follow.old }
-    ensures { Joined a b result follow.old follow.new }
-{
-    let a_last = a.last;
-    let b_first = b.first;
-    link(follow, &a_last, &b_first);
-    let a_first = a.first;
-    let first = united(a_first, a.nullable, b_first);
-    let b_last = b.last;
-    let last = united(b_last, b.nullable, a_last);
-    Built {
-        end: b.end,
-        letters: b.letters,
-        nullable: both(a.nullable, b.nullable),
-        first,
-        last,
+    // Adds an arc from each last letter of the part to each first, if `onward` is true: the part may be repeated without limit.
+    pub fn again(&self, onward: bool, follow: &mut [[bool; 127]])
+        requires { 127 ≤ length follow.old }
+        ensures { Looped onward self.now.last self.now.first follow.old follow.new }
+    {
+        if onward {
+            link(follow, &self.last, &self.first);
+        }
     }
-}
 
-// Adds an arc from each last letter of the part to each first, if `onward` is true: the part may be repeated without limit.
-pub fn again(a: Built, onward: bool, follow: &mut [[bool; 127]])
-    requires { 127 ≤ length follow.old }
-    ensures { Looped onward a.last a.first follow.old follow.new }
-{
-    if onward {
-        let last = a.last;
-        let first = a.first;
-        link(follow, &last, &first);
-    }
-}
-
-// The part, or also nothing if `spare` is true; it ends at `end`.
-pub fn perhaps(a: Built, spare: bool, end: usize) -> Built
-    ensures { Spared a spare end result }
-{
-    let first = a.first;
-    let last = a.last;
-    Built {
-        end,
-        letters: a.letters,
-        nullable: either(spare, a.nullable),
-        first,
-        last,
-    }
-}
-
-// The part itself; it ends at `end`.
-pub fn ended(a: Built, end: usize) -> Built
-    ensures { Ended a end result }
-{
-    let first = a.first;
-    let last = a.last;
-    Built {
-        end,
-        letters: a.letters,
-        nullable: a.nullable,
-        first,
-        last,
+    // The part, or also nothing if `spare` is true; it ends at `end`.
+    pub fn perhaps(self, spare: bool, end: usize) -> Built
+        ensures { Spared self spare end result }
+    {
+        Built {
+            end,
+            nullable: spare || self.nullable,
+            ..self
+        }
     }
 }

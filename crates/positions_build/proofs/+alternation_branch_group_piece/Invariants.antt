@@ -5,13 +5,13 @@ use lib.ListN.{length}
 use Rattle.positions_build.proofs.+alternation_branch_group_piece.Given as goal
 
 abbrev pub decreases-alternation : goal.decreases-alternation
-decreases-alternation l = 512 * (length l.text.now - l.at) + 258
+decreases-alternation l = 512 * (length l.source.now.text.now - l.at) + 258
 
 abbrev pub decreases-branch : goal.decreases-branch
-decreases-branch l = 512 * (length l.text.now - l.at) + 257
+decreases-branch l = 512 * (length l.source.now.text.now - l.at) + 257
 
 abbrev pub decreases-piece : goal.decreases-piece
-decreases-piece l = 512 * (length l.text.now - l.at) + (256 - l.copies)
+decreases-piece l = 512 * (length l.source.now.text.now - l.at) + (256 - l.copies)
 
 abbrev pub decreases-group : goal.decreases-group
-decreases-group l = 512 * (length l.text.now - l.at)
+decreases-group l = 512 * (length l.source.now.text.now - l.at)

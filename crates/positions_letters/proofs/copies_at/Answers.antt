@@ -1,31 +1,59 @@
 -- `positions_letters::copies_at` meets its contract.
-use mathlib.Core.Path.{sym, ◌∙◌}
-use Rattle.positions_letters.specs.SetLaws.{copies_one, copies_between, copies_onward, copies_refused}
+use Rattle.std.specs.Prelude.{ℕ, ◌≡◌, List, Bool, true, false, not, drop, Some, None, Ok}
+use Rattle.std.specs.Option.{is_some, unwrap_or}
+use Rattle.std.proofs.Common.{sym, ap, ◌∙◌, refl, subst, arith}
+use Rattle.regex_tree.specs.Tree.{Count, between, onward}
+use Rattle.regex_tree.specs.Parsing.{Parsing, found, fault}
+use Rattle.regex_tree.specs.Letters.{copies_of}
+use Rattle.regex_tree.specs.Repetition.{repetition}
+use Rattle.regex_repetition.specs.declared.Repeats.{Repeats}
+use Rattle.regex_repetition.specs.Answers.{several, repeats_of}
+use Rattle.text.specs.Places.{place}
+use Rattle.positions_letters.specs.FoundLaws.{counted_repeated}
+use Rattle.positions_letters.specs.Copies.{copies_by}
+use Rattle.positions_letters.specs.SetLaws.{copied, copies_one, copies_refused}
 use Rattle.positions_letters.proofs.copies_at.Goals as goal
 
-pub returns-in-Between : goal.returns-in-Between
-returns-in-Between c =
-    let text = c.args.text.now in
-    let at = c.args.at in
-    let k = sym c.is_repeated.ensures ∙ c.if-is_repeated.true in
-    copies_between text at k _ _ _ (sym c.in-Between.is ∙ c.repetition.ensures)
+limited : (o : Bool) → true ≡ not o → o ≡ false
+limited false h = refl
+limited true h = let z : ◌≡◌ {A = ℕ} 0 1 = cc in absurd (omega arith)
 
-pub returns-in-Onward : goal.returns-in-Onward
-returns-in-Onward c =
-    let text = c.args.text.now in
-    let at = c.args.at in
-    let k = sym c.is_repeated.ensures ∙ c.if-is_repeated.true in
-    copies_onward text at k _ _ _ (sym c.in-Onward.is ∙ c.repetition.ensures) c.copies.ensures
+unlimited : (o : Bool) → false ≡ not o → o ≡ true
+unlimited true h = refl
+unlimited false h = let z : ◌≡◌ {A = ℕ} 0 1 = cc in absurd (omega arith)
 
-pub returns-in-Refused : goal.returns-in-Refused
-returns-in-Refused c =
-    let text = c.args.text.now in
-    let at = c.args.at in
-    let k = sym c.is_repeated.ensures ∙ c.if-is_repeated.true in
-    copies_refused text at k _ _ (sym c.in-Refused.is ∙ c.repetition.ensures) c.requires.1
+-- the copies of a repetition that was found
+module _ (text : List ℕ) (r : Repeats) (m : ℕ) (o : Bool) where
+  copies_found :
+      (x : Parsing Count) → Ok r ≡ repeats_of text x → m ≡ unwrap_or r.most (copies_of (onward r.least)) → is_some r.most ≡ not o
+      → copied r.least m o r.end ≡ copies_by text x
+  copies_found (found (between a b) s) h =
+      let e : r ≡ several a (Some b) (place text s) = cc in
+      subst
+      (λ (y : Repeats). m ≡ unwrap_or y.most (copies_of (onward y.least)) → is_some y.most ≡ not o
+      → copied y.least m o y.end ≡ copies_by text (found (between a b) s))
+      (sym e) (λ p q. rw (p, limited o q) refl)
+  copies_found (found (onward a) s) h =
+      let e : r ≡ several a None (place text s) = cc in
+      subst
+      (λ (y : Repeats). m ≡ unwrap_or y.most (copies_of (onward y.least)) → is_some y.most ≡ not o
+      → copied y.least m o y.end ≡ copies_by text (found (onward a) s))
+      (sym e) (λ p q. rw (p, unlimited o q) refl)
+  copies_found (fault x s) h = let z : ◌≡◌ {A = ℕ} 0 1 = cc in absurd (omega arith)
 
-pub returns-else-is_repeated : goal.returns-else-is_repeated
-returns-else-is_repeated c =
+pub returns-then-not-is_repeated : goal.returns-then-not-is_repeated
+returns-then-not-is_repeated c = copies_one c.args.text.now c.args.at c.requires.0 (sym c.is_repeated.ensures ∙ c.if-not-is_repeated.true)
+
+pub returns-in-Ok : goal.returns-in-Ok
+returns-in-Ok c =
     let text = c.args.text.now in
     let at = c.args.at in
-    copies_one text at c.requires.0 (sym c.is_repeated.ensures ∙ c.if-is_repeated.false)
+    let r = c.in-Ok.r in
+    copies_found text r c.unwrap_or.result c.is_none.result (repetition (drop at text)) (sym c.in-Ok.is ∙ c.repetition.ensures)
+    (c.unwrap_or.ensures ∙ ap (unwrap_or r.most) c.copies.ensures) c.is_none.ensures
+    ∙ ap (copies_by text) (sym (counted_repeated (drop at text) (sym c.is_repeated.ensures ∙ c.if-not-is_repeated.false)))
+
+pub returns-in-Err : goal.returns-in-Err
+returns-in-Err c =
+    copies_refused c.args.text.now c.args.at (sym c.is_repeated.ensures ∙ c.if-not-is_repeated.false) _ _ (sym c.in-Err.is ∙ c.repetition.ensures)
+    c.requires.1
