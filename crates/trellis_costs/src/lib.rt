@@ -3,10 +3,9 @@
 
 ghost use Rattle.std.specs.Prelude.{◌≡◌, ◌+◌, ◌*◌, ◌/◌, ◌<◌, ◌≤◌};
 ghost use Rattle.automaton.specs.Form.{letters_of, ends_of};
-ghost use Rattle.automaton.specs.Valid.{Valid};
 ghost use Rattle.trellis.specs.Cells.{ending};
 
-use form_words::may_end;
+use form_words::Form;
 
 // The value that means 'impossible': no path of usable costs reaches this price.
 pub const TOP: u32 = 1000000000;
@@ -19,9 +18,9 @@ pub fn sum(c: u32, v: u32) -> usize
 }
 
 // What there is to pay in state s where no column is left: 0 if a path may end there, else TOP.
-pub fn last_cost(form: &[u32], s: usize) -> u32
-    requires { Valid form.now × (s ≤ 2 * letters_of form.now) }
-    ensures { result ≡ ending (ends_of form.now ((s + 1) / 2)) }
+pub fn last_cost(form: Form, s: usize) -> u32
+    requires { s ≤ 2 * letters_of form.words.now }
+    ensures { result ≡ ending (ends_of form.entry.words.now ((s + 1) / 2)) }
 {
-    if may_end(form, (s + 1) / 2) { 0 } else { TOP }
+    if form.may_end((s + 1) / 2) { 0 } else { TOP }
 }

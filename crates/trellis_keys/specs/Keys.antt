@@ -3,11 +3,9 @@
 use Rattle.std.specs.Prelude.{ℕ, ◌+◌, ◌*◌, ◌-◌, ◌%◌, ◌<◌, ◌≤◌, ◌≡◌, List, length, get_or}
 use Rattle.lists.specs.Stored.{Outside}
 use Rattle.automaton.specs.Form.{letters_of, alphabet_of, label_of}
-use Rattle.automaton.specs.Valid.{Valid}
 
--- what the keys of a column are computed from: its costs, and the row of the next column, at `next`
+-- what the keys of a column of a valid form are computed from: its costs, and the row of the next column, at `next`
 pub record Ahead (f column work : List ℕ) (next : ℕ) : Type 0 where
-  pub valid : Valid f
   pub wide : alphabet_of f < length column
   pub room : next + 2 * letters_of f < length work
 
@@ -30,5 +28,4 @@ KeysFilled f column work next before after = KeysBelow f column work next before
 
 -- keys for the letters 1 to 127; those of the form's letters have their labels as low bytes
 pub record Keys (f ks : List ℕ) : Type 0 where
-  pub size : length ks ≡ 128
   pub label : (j : ℕ) → 1 ≤ j → j ≤ letters_of f → get_or ks j 0 % 256 ≡ label_of f j

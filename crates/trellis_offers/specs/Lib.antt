@@ -1,3 +1,4 @@
 pub mod Offers
 pub mod OffersLoops
 pub mod OffersLaws
+pub mod LookupsLaws

@@ -1,23 +1,18 @@
 -- The costs to go of a letter's two states in a row, by the keys and the row of the next column; and those of all letters.
-use Rattle.std.specs.Prelude.{ℕ, ◌+◌, ◌*◌, ◌-◌, ◌/◌, ◌<◌, ◌≤◌, min, ◌≡◌, Bool, List, length, get_or}
+use Rattle.std.specs.Prelude.{ℕ, ◌+◌, ◌*◌, ◌-◌, ◌/◌, ◌<◌, ◌≤◌, min, ◌≡◌, List, length, get_or}
 use Rattle.lists.specs.Stored.{Outside}
 use Rattle.automaton.specs.Form.{letters_of, label_of}
-use Rattle.automaton.specs.Valid.{Valid}
-use Rattle.form_starts.specs.Starts.{ArcStarts}
-use Rattle.form_arcs.specs.Equal.{EqualArcs}
-use Rattle.form_arcs.specs.Targets.{Targets}
-use Rattle.trellis_keys.specs.Keys.{Keys}
-use Rattle.trellis_offers.specs.Offers.{key_of, Known, LeastKey, LeastOther}
+use Rattle.trellis_offers.specs.Offers.{key_of, LeastKey, LeastOther}
 
 -- the number of states, 0 to 2L
 abbrev pub states : List ℕ → ℕ
 states f = 2 * letters_of f + 1
 
--- what the states of letter i are computed from: its arcs, the keys, the least key of the letter before, and the row of the next column;
--- p is the place of its blanks, and that row is `stride` further on
-pub record LetterReady (f ts s : List ℕ) (same : List Bool) (ks work : List ℕ) (p stride i least : ℕ) : Type 0 where
-  pub known : Known f ts s ks i
-  pub equal : EqualArcs f s same
+-- what the states of letter i are computed from, beside its arcs and the keys: the least key of the letter before, and the row of the next
+-- column; p is the place of its blanks, and that row is `stride` further on
+pub record LetterReady (f ks work : List ℕ) (p stride i least : ℕ) : Type 0 where
+  pub first : 1 ≤ i
+  pub last : i ≤ letters_of f
   pub before : LeastKey f ks (i - 1) least
   pub low : 1 ≤ p
   pub room : p + stride < length work
@@ -36,12 +31,7 @@ pub record LetterFilled (f ks : List ℕ) (blank : ℕ) (before after : List ℕ
   pub outside : Outside (p - 1) (p + 1) before after
 
 -- what the states of all letters are computed from; the row to be written is at `here`, that of the next column `stride` further on
-pub record LettersReady (f ts s : List ℕ) (same : List Bool) (ks work : List ℕ) (here stride first : ℕ) : Type 0 where
-  pub valid : Valid f
-  pub targets : Targets f ts
-  pub starts : ArcStarts f s
-  pub equal : EqualArcs f s same
-  pub keys : Keys f ks
+pub record LettersReady (f ks work : List ℕ) (here stride first : ℕ) : Type 0 where
   pub apart : 2 * letters_of f < stride
   pub room : here + stride + 2 * letters_of f < length work
   pub least : LeastKey f ks 0 first

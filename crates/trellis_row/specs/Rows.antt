@@ -1,17 +1,15 @@
 -- A row of the table, at `here`, from the row of the next column, which is `stride` further on; what is promised calls that place `next`.
-use Rattle.std.specs.Prelude.{ℕ, ◌+◌, ◌*◌, ◌-◌, ◌<◌, ◌≤◌, min, ◌≡◌, Bool, List, get_or}
+use Rattle.std.specs.Prelude.{ℕ, ◌+◌, ◌*◌, ◌-◌, ◌<◌, ◌≤◌, min, ◌≡◌, List, get_or}
 use Rattle.lists.specs.Least.{Least}
 use Rattle.lists.specs.Stored.{Outside}
 use Rattle.automaton.specs.Form.{letters_of, label_of, view}
-use Rattle.form_arcs.specs.LookedUp.{LookedUp}
 use Rattle.trellis.specs.Impossible.{TOP, plus}
 use Rattle.trellis.specs.Cells.{ByArc}
 use Rattle.trellis_keys.specs.Keys.{Ahead, total}
 use Rattle.trellis_row.specs.Letters.{states}
 
--- what a row is computed from
-pub record RowReady (f ts s : List ℕ) (same : List Bool) (list : List ℕ) (n : ℕ) (column work : List ℕ) (here stride : ℕ) : Type 0 where
-  pub looked_up : LookedUp f ts s same list n
+-- what a row is computed from, beside what is looked up in the form
+pub record RowReady (f column work : List ℕ) (here stride : ℕ) : Type 0 where
   pub ahead : Ahead f column work (here + stride)
   pub apart : 2 * letters_of f < stride
 

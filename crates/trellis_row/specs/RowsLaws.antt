@@ -4,7 +4,7 @@ use Rattle.std.proofs.Common.{sym, ap, ap₂, subst, ◌∙◌, inl, inr, arith,
 use Rattle.lists.proofs.OrderLaws.{eq_or_ne}
 use Rattle.lists.specs.Least.{Least}
 use Rattle.lists.proofs.OutsideLaws.{outside_set, outside_then, outside_wider}
-use Rattle.matrix.specs.Matrix.{Matrix, cost}
+use Rattle.matrix.specs.Matrix.{Matrix, ColumnOf, cost}
 use Rattle.automaton.specs.Form.{letters_of, alphabet_of, label_of, view}
 use Rattle.automaton.specs.Valid.{Valid}
 use Rattle.automaton.proofs.ValidLaws.{valid_proper}
@@ -21,13 +21,9 @@ use Rattle.trellis_offers.specs.OffersLaws.{least_price}
 use Rattle.trellis_row.specs.Letters.{states, LettersFilled}
 use Rattle.trellis_row.specs.Rows.{onward, BlanksCell, LetterCell, RowFilled}
 
--- the list has the costs of column t
-abbrev pub ColumnOf : (f : List ℕ) → Matrix → ℕ → List ℕ → Type 0
-ColumnOf f M t column = (x : ℕ) → x ≤ alphabet_of f → cost M t x ≡ get_or column x 0
-
 -- if the row of the next column is at `next`, the row at `here` is that of column t
 module _ {f : List ℕ} (valid : Valid f) {column before after : List ℕ} {here next : ℕ} (filled : RowFilled f column before after here next)
-    (M : Matrix) (t n : ℕ) (costs : ColumnOf f M t column) (beyond : Row (view f) M before next (t + 1) n) where
+    (M : Matrix) (t n : ℕ) (costs : ColumnOf (alphabet_of f) M t column) (beyond : Row (view f) M before next (t + 1) n) where
   paid : (j : ℕ) → 1 ≤ j → j ≤ letters_of f → onward f column before next j ≡ plus (cost M t (label_of f j)) (get_or before (next + (2 * j - 1)) 0)
   paid j l h = ap (λ c. plus c (get_or before (next + (2 * j - 1)) 0)) (sym (costs (label_of f j) (valid.letter j l h).high))
 

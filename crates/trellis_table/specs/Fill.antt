@@ -3,7 +3,6 @@ use Rattle.std.specs.Prelude.{ℕ, ◌+◌, ◌*◌, ◌≤◌, ◌≡◌, List,
 use Rattle.lists.specs.Stored.{Outside}
 use Rattle.matrix.specs.Matrix.{Matrix}
 use Rattle.automaton.specs.Form.{alphabet_of, view}
-use Rattle.automaton.specs.Valid.{Valid}
 use Rattle.trellis.specs.CostToGo.{CostToGo}
 use Rattle.trellis.specs.Extended.{extended}
 use Rattle.trellis.specs.Table.{Row, Table}
@@ -11,7 +10,6 @@ pub use Rattle.trellis_row.specs.Letters.{states}
 
 -- the matrix has the form's width and all its costs, and the memory has room for a table whose rows are `stride` apart
 pub record Sized (f : List ℕ) (M : Matrix) (work : List ℕ) (stride : ℕ) : Type 0 where
-  pub valid : Valid f
   pub width : M.width ≡ alphabet_of f + 1
   pub size : length M.costs ≡ M.count * M.width
   pub row : states f ≤ stride

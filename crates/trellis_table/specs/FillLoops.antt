@@ -1,15 +1,15 @@
 -- The table, one iteration of the loop over rows at a time.
-use Rattle.std.specs.Prelude.{ℕ, ◌+◌, ◌*◌, ◌-◌, ◌<◌, ◌≤◌, ◌≡◌, ◌⊎◌, List, length, get_or, take, drop}
-use Rattle.std.proofs.Common.{sym, ap, subst, ◌∙◌, inl, inr, arith, mul-le-mul_right}
+use Rattle.std.specs.Prelude.{ℕ, ◌+◌, ◌*◌, ◌-◌, ◌<◌, ◌≤◌, ◌≡◌, ◌⊎◌, List, length, get_or}
+use Rattle.std.proofs.Common.{subst, ◌∙◌, inl, inr, arith, mul-le-mul_right}
 use Rattle.lists.proofs.OrderLaws.{eq_or_ne}
-use Rattle.lists.proofs.PartLaws.{part_at, part_length}
 use Rattle.lists.proofs.OutsideLaws.{outside_none, outside_then, outside_wider, beyond_at}
-use Rattle.matrix.specs.Matrix.{Matrix}
+use Rattle.matrix.specs.Matrix.{Matrix, ColumnOf}
 use Rattle.automaton.specs.Form.{alphabet_of, view}
+use Rattle.automaton.specs.Valid.{Valid}
 use Rattle.trellis.specs.Table.{Row}
 use Rattle.trellis_row.specs.Letters.{states}
 use Rattle.trellis_row.specs.Rows.{RowFilled}
-use Rattle.trellis_row.specs.RowsLaws.{ColumnOf, row_next}
+use Rattle.trellis_row.specs.RowsLaws.{row_next}
 use Rattle.trellis_table.specs.Last.{LastFilled}
 use Rattle.trellis_table.specs.Fill.{Sized, RowsFilled, Filled}
 
@@ -22,24 +22,10 @@ module _ {f : List ℕ} (M : Matrix) (before : List ℕ) (stride : ℕ) where
         outside = outside_none 0 ((M.count + 1) * stride) before;
       }
 
-  module _ (sized : Sized f M before stride) (t : ℕ) (few : t < M.count) where
-    -- the costs of column t, and its row and the next, are inside their lists
-    pub column_inside : t * M.width + M.width ≤ length M.costs
-    column_inside = let a = mul-le-mul_right {m = t + 1} {n = M.count} M.width (omega arith) in let s = sized.size in omega arith
-
+  module _ (valid : Valid f) (sized : Sized f M before stride) (t : ℕ) (few : t < M.count) where
+    -- its row and the next are inside the memory
     pub row_inside : t * stride + stride + stride ≤ length before
     row_inside = let a = mul-le-mul_right {m = t + 2} {n = M.count + 1} stride (omega arith) in let r = sized.room in omega arith
-
-    -- column t as a list of its own
-    module _ (a e : ℕ) (at : a ≡ t * M.width) (end : e ≡ a + M.width) where
-      abbrev column : List ℕ
-      column = take (e - a) (drop a M.costs)
-
-      pub column_wide : alphabet_of f < length column
-      column_wide = let c = column_inside in let w = sized.width in let l = part_length M.costs a e (omega arith) in omega arith
-
-      pub column_of : ColumnOf f M t column
-      column_of x h = let w = sized.width in sym (part_at M.costs a e 0 x (omega arith) ∙ ap (λ n. get_or M.costs (n + x) 0) at)
 
     module _ (work : List ℕ) (done : RowsFilled f M before work stride (t + 1)) where
       next_row : (n : ℕ) → t + (n + 1) ≡ M.count → Row (view f) M work (t * stride + stride) (t + 1) n
@@ -47,7 +33,7 @@ module _ {f : List ℕ} (M : Matrix) (before : List ℕ) (stride : ℕ) where
 
       -- one more row
       pub rows_more :
-          (column after : List ℕ) → ColumnOf f M t column → RowFilled f column work after (t * stride) (t * stride + stride)
+          (column after : List ℕ) → ColumnOf (alphabet_of f) M t column → RowFilled f column work after (t * stride) (t * stride + stride)
           → RowsFilled f M before after stride t
       rows_more column after costs r =
           record {
@@ -64,7 +50,7 @@ module _ {f : List ℕ} (M : Matrix) (before : List ℕ) (stride : ℕ) where
           by : (u n : ℕ) → t ≤ u → u + n ≡ M.count → (u ≡ t) ⊎ (u ≡ t → ⊥) → Row (view f) M after (u * stride) u n
           by u n h e (inl q) =
               let m : n - 1 + 1 ≡ n = omega arith in
-              rw q (subst (Row (view f) M after (t * stride) t) m (row_next sized.valid r M t (n - 1) costs (next_row (n - 1) (omega arith))))
+              rw q (subst (Row (view f) M after (t * stride) t) m (row_next valid r M t (n - 1) costs (next_row (n - 1) (omega arith))))
           by u n h e (inr d) =
               let a = mul-le-mul_right {m = t + 1} {n = u} stride (omega arith) in
               λ s k. rw (beyond_at 0 (u * stride + s) r.outside (omega arith)) (done.rows u n (omega arith) e s k)

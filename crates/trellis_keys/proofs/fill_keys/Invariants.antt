@@ -3,4 +3,4 @@ use Rattle.trellis_keys.specs.Keys.{KeysBelow}
 use Rattle.trellis_keys.proofs.fill_keys.Given as goal
 
 abbrev pub invariant-loop-j : goal.invariant-loop-j
-invariant-loop-j l = KeysBelow l.form l.column l.work l.next l.initial.keys l.keys l.j
+invariant-loop-j l = KeysBelow l.form.words.now l.column l.work l.next l.initial.keys l.keys l.j
