@@ -13,105 +13,91 @@ use regex_signs::{begins_class, class_name, closes, sign_end};
 use text::{one_of, peek};
 
 // Does `[.` or `[=` begin here?
+#[tactic(auto, using(crate::specs::ReservedLaws::reserves_not, crate::specs::ReservedLaws::reserves_by))]
 fn reserves(inside: &[u8], i: usize) -> bool
     requires { i < length inside.now }
     ensures { result ≡ reserves_of (drop i inside.now) }
 {
-    if inside[i] != b'[' {
-        return false;
-    }
-    one_of(b".=", peek(inside, i + 1))
+    inside[i] == b'[' && one_of(b".=", peek(inside, i + 1))
 }
 
 // Is `[.` or `[=` anywhere inside?
+#[tactic(auto, using(crate::specs::ReservedLaws::reserved_here, crate::specs::ReservedLaws::reserved_more, crate::specs::ReservedLaws::reserved_end))]
 pub fn is_reserved(inside: &[u8]) -> bool
     ensures { result ≡ reserved inside.now }
 {
-    let mut i = 0;
-    while i < inside.len() {
+    for i in 0..inside.len() {
         if reserves(inside, i) {
             return true;
         }
-        i += 1;
     }
     false
 }
 
 // Is the item here a range?
+#[tactic(auto, using(crate::specs::ItemAtLaws::ranges_not, crate::specs::ItemAtLaws::ranges_by))]
 fn is_range(text: &[u8], at: usize) -> bool
     requires { at < length text.now }
     ensures { result ≡ ranges (drop at text.now) }
 {
-    if peek(text, at + 1) != b'-' {
-        return false;
-    }
-    peek(text, at + 2) != b']'
+    peek(text, at + 1) == b'-' && peek(text, at + 2) != b']'
 }
 
 // The last byte of the item here, if it is no class.
+#[tactic(auto, using(crate::specs::ItemAtLaws::upto_range_at, crate::specs::ItemAtLaws::upto_one_at))]
 fn upto(text: &[u8], at: usize) -> u8
     requires { at < length text.now }
     ensures { result ≡ upto_of (drop at text.now) }
 {
     if is_range(text, at) {
-        return peek(text, at + 2);
+        peek(text, at + 2)
+    } else {
+        text[at]
     }
-    text[at]
 }
 
 // Where the item here ends.
+#[tactic(auto, using(crate::specs::ItemsLaws::width_range, crate::specs::ItemsLaws::width_sign))]
 fn item_end(text: &[u8], at: usize) -> usize
     requires { at < length text.now }
     ensures { result ≡ at + width (drop at text.now) }
 {
     if is_range(text, at) {
-        return at + 3;
+        at + 3
+    } else {
+        sign_end(text, at)
     }
-    sign_end(text, at)
 }
 
 // Is the item here no range, or one that ends in no class and does not descend?
+#[tactic(auto, using(crate::specs::ItemsLaws::range_fits_one, crate::specs::ItemAtLaws::range_fits_class_at, crate::specs::ItemAtLaws::range_fits_by_at))]
 fn range_fits(text: &[u8], at: usize) -> bool
     requires { at < length text.now }
     ensures { result ≡ range_fits (drop at text.now) }
 {
-    if !is_range(text, at) {
-        return true;
-    }
-    if begins_class(text, at + 2) {
-        return false;
-    }
-    text[at] <= peek(text, at + 2)
+    !is_range(text, at) || (!begins_class(text, at + 2) && text[at] <= peek(text, at + 2))
 }
 
 // May an item that is not just before the closing `]` begin with this byte?
 fn may_begin(first: bool, c: u8) -> bool
     ensures { result ≡ begins first c }
 {
-    if first {
-        return true;
-    }
-    c != b'-'
+    first || c != b'-'
 }
 
 // Is the item allowed here?
+#[tactic(auto, using(crate::specs::ItemsLaws::fits_class, crate::specs::ItemAtLaws::fits_last_at, crate::specs::ItemAtLaws::fits_not_at, crate::specs::ItemAtLaws::fits_by_at))]
 fn item_fits(text: &[u8], first: usize, at: usize) -> bool
     requires { at < length text.now }
     ensures { result ≡ fits (eqb at first) (drop at text.now) }
 {
-    if begins_class(text, at) {
-        return true;
-    }
-    if peek(text, at + 1) == b']' {
-        return true;
-    }
-    if !may_begin(at == first, text[at]) {
-        return false;
-    }
-    range_fits(text, at)
+    begins_class(text, at)
+        || peek(text, at + 1) == b']'
+        || (may_begin(at == first, text[at]) && range_fits(text, at))
 }
 
-// Are all items well formed? The bracket is closed, so the loop ends at its `]`, here and in the functions below.
+// Are all items well formed? The bracket is closed, so the loop ends at its `]`, here and in the functions below. The three stay `while`
+// loops: where the next item begins is known only from this one, and an iterator over places would be this same loop in its `next`.
 pub fn are_items(text: &[u8], first: usize) -> bool
     requires { Closing text.now first first }
     ensures { result ≡ is_some (left text.now first first) }
@@ -130,14 +116,12 @@ pub fn are_items(text: &[u8], first: usize) -> bool
 }
 
 // Is the item here no class of an unknown name?
+#[tactic(auto, using(crate::specs::ItemAtLaws::known_class, crate::specs::ItemAtLaws::known_range))]
 fn item_known(text: &[u8], at: usize) -> bool
     requires { at < length text.now }
     ensures { result ≡ is_some (item_ranges (item (drop at text.now))) }
 {
-    if begins_class(text, at) {
-        return is_class(class_name(text, at));
-    }
-    true
+    !begins_class(text, at) || is_class(class_name(text, at))
 }
 
 // Has each class a known name?
@@ -163,13 +147,11 @@ fn range_has(text: &[u8], at: usize, b: u8) -> bool
     requires { at < length text.now }
     ensures { result ≡ within (range (get_or text.now at 0) (upto_of (drop at text.now))) b }
 {
-    if b < text[at] {
-        return false;
-    }
-    b <= upto(text, at)
+    text[at] <= b && b <= upto(text, at)
 }
 
 // Is the byte in the item here?
+#[tactic(auto, using(crate::specs::ItemAtLaws::has_class, crate::specs::ItemAtLaws::has_range))]
 fn item_has(text: &[u8], at: usize, b: u8) -> bool
     requires { at < length text.now }
     ensures { result ≡ among (listed (item_ranges (item (drop at text.now)))) b }
