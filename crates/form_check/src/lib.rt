@@ -13,10 +13,8 @@ fn is_head(w: u32) -> bool
     let l = w % 0x100;
     let k = w / 0x10000 % 0x100;
     w == 0x10000000 + k * 0x10000 + w / 0x100 % 2 * 0x100 + l
-        && 1 <= l
-        && l <= 127
-        && 1 <= k
-        && k <= 95
+        && (1..=127).contains(&l)
+        && (1..=95).contains(&k)
 }
 
 // Is the word a letter over an alphabet of k characters?
@@ -24,7 +22,7 @@ fn is_letter(k: u32, w: u32) -> bool
     ensures { result ≡ is_letter k w }
 {
     let x = w % 0x100;
-    w == 0x20000000 + w / 0x200 % 2 * 0x200 + w / 0x100 % 2 * 0x100 + x && 1 <= x && x <= k
+    w == 0x20000000 + w / 0x200 % 2 * 0x200 + w / 0x100 % 2 * 0x100 + x && (1..=k).contains(&x)
 }
 
 fn are_letters(k: u32, words: &[u32]) -> bool

@@ -1,5 +1,5 @@
 -- `form_check::valid` meets its contract: the five tests in their order, the last two in one loop.
-use Rattle.std.proofs.Common.{◌≡◌, refl, sym, ap, ◌∙◌, ◌&&◌, arith}
+use Rattle.std.proofs.Common.{refl, sym, ap, ◌∙◌, ◌&&◌, arith}
 use Rattle.lists.specs.Each.{all}
 use Rattle.automaton.specs.Form.{is_letter, is_arc, ordered, letters_of, alphabet_of}
 use Rattle.form_check.specs.ChecksLaws.{valid_letters, valid_arcs, letters_part, arcs_part}

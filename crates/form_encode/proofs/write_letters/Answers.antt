@@ -4,7 +4,7 @@ use mathlib.Core.Path.{◌≡◌, subst}
 use mathlib.Core.List.{[], ◌∷◌, ◌++◌, map}
 use native.Mathlib.Omega.{arith}
 use lib.ListN.{take}
-use Rattle.lists.proofs.FillingLoops.{Filling, filling_from, filling_more, filling_room, filling_length, filling_stored_all}
+use Rattle.lists.proofs.FillingLoops.{Filling, filling_from, filling_more, filling_room, filling_stored_all}
 use Rattle.form_encode.specs.Parts.{letter_by, letters_by}
 use Rattle.form_encode.specs.PartsLaws.{letters_first}
 use Rattle.lists.proofs.RemainingLoops.{from, map_here, map_past}
@@ -41,14 +41,6 @@ loop-letter-preserved c =
     rw w.ensures
     (filling_more (take 1 f ++ whole) f l.form (map word (from s.a.letters (l.letter + 1))) l.letter (word l.letter)
     (rw (map_here s.a.letters word l.letter (omega arith)) at l.invariant))
-
-pub shape_of-form : goal.shape_of-form
-shape_of-form c =
-    let s = c.args in
-    let l = c.loop-letter in
-    let whole = letters_by s.a.letters s.a.labels.now s.a.first.now s.a.last.now in
-    let word = letter_by s.a.labels.now s.a.first.now s.a.last.now in
-    filling_length (take 1 s.form.now ++ whole) s.form.now l.form (map word (from s.a.letters l.letter)) l.letter l.invariant
 
 pub returns : goal.returns
 returns c =

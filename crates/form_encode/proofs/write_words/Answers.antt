@@ -4,7 +4,6 @@ use mathlib.Core.List.{List, ◌∷◌, ◌++◌}
 use mathlib.Core.Bool.{Bool}
 use Prim.Native.Nat.{ℕ}
 use native.Mathlib.Omega.{arith}
-use lib.ListN.{length-set}
 use Rattle.automaton.specs.Form.{encode, head_word}
 use Rattle.form_encode_arcs.specs.Arcs.{arcs_by}
 use Rattle.automaton.specs.Arrays.{arrayed}
@@ -49,12 +48,6 @@ write_arcs-requires c =
       arcs_room whole c.head_word.result letters (arcs_by s.a.letters s.a.follow.now) s.form.now (words s.a.alphabet s.a.letters s.a.empty s.a.labels.now s.a.first.now s.a.last.now s.a.follow.now c.head_word.result c.head_word.ensures) c.requires
           w.new.form w.result w.ensures,
     )
-
-pub shape_of-form : goal.shape_of-form
-shape_of-form c =
-    c.write_arcs.auto.form
-    ∙ c.write_letters-n.auto.form
-    ∙ length-set c.args.form.now 0 c.head_word.result
 
 pub returns : goal.returns
 returns c =

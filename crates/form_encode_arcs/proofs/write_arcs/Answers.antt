@@ -4,7 +4,7 @@ use mathlib.Core.Path.{subst}
 use mathlib.Core.List.{◌++◌, flat_map}
 use native.Mathlib.Omega.{arith}
 use lib.ListN.{take}
-use Rattle.lists.proofs.FillingLoops.{Filling, filling_from, filling_stored, filling_room, filling_length, filling_stored_all}
+use Rattle.lists.proofs.FillingLoops.{Filling, filling_from, filling_stored, filling_room, filling_stored_all}
 use Rattle.form_encode_arcs.specs.Arcs.{letter_arcs_at, arcs_by}
 use Rattle.lists.proofs.RemainingLoops.{from, flat_here, flat_past}
 use Rattle.form_encode_arcs.specs.Loops.{arcs_first}
@@ -38,12 +38,6 @@ loop-source-preserved c =
     filling_stored (take s.n s.form.now ++ arcs_by s.letters s.follow.now) s.form.now (arcs l.source) l.form wrote.new.form
     (flat_map arcs (from s.letters (l.source + 1))) l.m wrote.result
     (rw (flat_here s.letters arcs l.source (omega arith)) at l.invariant) wrote.ensures
-
-pub shape_of-form : goal.shape_of-form
-shape_of-form c =
-    let s = c.args in
-    let l = c.loop-source in
-    filling_length (take s.n s.form.now ++ arcs_by s.letters s.follow.now) s.form.now l.form (flat_map (letter_arcs_at s.letters s.follow.now) (from s.letters l.source)) l.m l.invariant
 
 pub returns : goal.returns
 returns c =

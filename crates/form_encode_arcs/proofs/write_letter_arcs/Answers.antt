@@ -5,7 +5,7 @@ use mathlib.Core.List.{[], ◌∷◌, ◌++◌, map}
 use native.Mathlib.Omega.{arith}
 use lib.ListN.{take}
 use Rattle.lists.specs.Lists.{keep}
-use Rattle.lists.proofs.FillingLoops.{Filling, filling_from, filling_more, filling_room, filling_length, filling_stored_all}
+use Rattle.lists.proofs.FillingLoops.{Filling, filling_from, filling_more, filling_room, filling_stored_all}
 use Rattle.automaton.specs.Form.{arc_word}
 use Rattle.form_encode_arcs.specs.Arcs.{letter_arcs}
 use Rattle.automaton.specs.Arrays.{has}
@@ -53,14 +53,6 @@ loop-target-preserved c =
           rw (w.form-is, w.m-is)
           (rw (letter_here s.letters r s.source l.target (omega arith), w.if-targets-target.false) at l.invariant)
     ]
-
-pub shape_of-form : goal.shape_of-form
-shape_of-form c =
-    let s = c.args in
-    let l = c.loop-target in
-    let r = s.targets.now in
-    let f = s.form.now in
-    filling_length (take s.n f ++ letter_arcs s.letters r s.source) f l.form (map (arc_word s.source) (keep (has r) (from s.letters l.target))) l.m l.invariant
 
 pub returns : goal.returns
 returns c =

@@ -13,7 +13,10 @@ mark_targets-requires c =
     let p = c.requires in
     let first = arcs.placed.starts a.i (omega arith) in
     let next = arcs.placed.starts (a.i + 1) (omega arith) in
-    (p.0, first.past, range_rises arcs.form.words.now a.i _ _ first next, next.inside)
+    let past = first.past in
+    let rises = range_rises arcs.form.words.now a.i _ _ first next in
+    let inside = next.inside in
+    (p.0, omega arith, omega arith, omega arith)
 
 pub returns-else-i-eq0 : goal.returns-else-i-eq0
 returns-else-i-eq0 c =
