@@ -6,8 +6,6 @@ ghost use Rattle.automaton.specs.Form.{source as source_of, target as target_of,
 ghost use Rattle.automaton.specs.Valid.{Valid};
 ghost use Rattle.form_words.specs.Unique.{valid-prop};
 
-use numbers::wide_word;
-
 // The words of a valid form.
 #[derive(Clone, Copy)]
 pub struct Form<'a> {
@@ -94,7 +92,7 @@ pub fn letters(form: &[u32]) -> usize
     requires { 0 < length form.now }
     ensures { result ≡ letters_of form.now }
 {
-    wide_word(form[0] % 0x100)
+    (form[0] % 0x100) as usize
 }
 
 // K, the size of the alphabet.
@@ -102,7 +100,7 @@ pub fn alphabet(form: &[u32]) -> usize
     requires { 0 < length form.now }
     ensures { result ≡ alphabet_of form.now }
 {
-    wide_word(form[0] / 0x10000 % 0x100)
+    (form[0] / 0x10000 % 0x100) as usize
 }
 
 // The label of letter j.
@@ -110,7 +108,7 @@ pub fn label(form: &[u32], j: usize) -> usize
     requires { j < length form.now }
     ensures { result ≡ label_of form.now j }
 {
-    wide_word(form[j] % 0x100)
+    (form[j] % 0x100) as usize
 }
 
 // May letter j be first?
@@ -137,7 +135,7 @@ pub fn source(form: &[u32], n: usize) -> usize
     requires { n < length form.now }
     ensures { result ≡ source_of (get_or form.now n 0) }
 {
-    wide_word(form[n] / 0x100 % 0x100)
+    (form[n] / 0x100 % 0x100) as usize
 }
 
 // The target of the arc word at n.
@@ -145,5 +143,5 @@ pub fn target(form: &[u32], n: usize) -> usize
     requires { n < length form.now }
     ensures { result ≡ target_of (get_or form.now n 0) }
 {
-    wide_word(form[n] % 0x100)
+    (form[n] % 0x100) as usize
 }
