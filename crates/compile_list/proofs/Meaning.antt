@@ -1,6 +1,6 @@
 -- Demand 2, stated of CompileList: the form that it writes is valid, and accepts a list of labels exactly if their characters spell a listed
 -- word; and the other way, what no refusal turns away compiles.
-use Rattle.std.specs.Prelude.{ℕ, ◌≤◌, ◌↔◌, List, [], ◌∷◌, length, get_or, ltb}
+use Rattle.std.specs.Prelude.{ℕ, ◌≤◌, ◌↔◌, List, [], ◌∷◌, length, get_or, ltb, Ok}
 use Rattle.std.proofs.Math.Path.{◌≡◌, refl, ap}
 use Rattle.std.proofs.Common.{sym, subst, ◌∙◌, inl, arith, ltb-false, le-ltb}
 use Rattle.std.proofs.Math.Option.{some}
@@ -9,7 +9,6 @@ use Rattle.lists.specs.Each.{Each}
 use Rattle.lists.specs.Lists.{Among}
 use Rattle.lists.proofs.AmongLaws.{among_at, among_index, each_among}
 use Rattle.refusal.specs.declared.Refusal.TheVariants.{Letters, FormMemory}
-use Rattle.refusal.specs.declared.Checked.TheVariants.{Passed}
 use Rattle.refusal.specs.Verdict.{Verdict, passed, refused, check, unless, if_passed, first_refusal}
 use Rattle.refusal.proofs.VerdictLaws.{unless_neither, unless_passed, unless_same, unless_all}
 use Rattle.alphabet.specs.Labels.{characters, labels_of_character}
@@ -55,13 +54,13 @@ module _ (A s : List ℕ) where
 
   module _ (room : ℕ) (f : List ℕ) where
     -- what is passed on past the checks
-    checked : compile_list_call A s room ≡ passed f → (first_refusal (list_checks A s) ≡ Passed) × (formed A room (words s) ≡ passed f)
+    checked : compile_list_call A s room ≡ passed f → (first_refusal (list_checks A s) ≡ Ok tt) × (formed A room (words s) ≡ passed f)
     unfolding compile_list_call if_passed
     checked e = by (unless (list_checks A s) (words s)) refl e
       where
         by :
             (v : Verdict (List (List ℕ))) → unless (list_checks A s) (words s) ≡ v → if_passed v (formed A room) ≡ passed f
-            → (first_refusal (list_checks A s) ≡ Passed) × (formed A room (words s) ≡ passed f)
+            → (first_refusal (list_checks A s) ≡ Ok tt) × (formed A room (words s) ≡ passed f)
         by (refused n) h g = let z : ◌≡◌ {A = ℕ} 0 1 = cc in absurd (omega arith)
         by (passed ws) h g = let r = unless_all (words s) ws (list_checks A s) h in (r.0, ap (formed A room) r.1 ∙ g)
 
@@ -100,7 +99,7 @@ module _ (A s : List ℕ) where
 
   -- The other way: what no refusal turns away compiles.
   pub list_compiles :
-      (room : ℕ) → first_refusal (list_checks A s) ≡ Passed → length (letters_in A (words s)) ≤ 127 → length (list_form A (words s)) ≤ room
+      (room : ℕ) → first_refusal (list_checks A s) ≡ Ok tt → length (letters_in A (words s)) ≤ 127 → length (list_form A (words s)) ≤ room
       → compile_list_call A s room ≡ passed (list_form A (words s))
   list_compiles room e few fits =
       let f = list_form A (words s) in

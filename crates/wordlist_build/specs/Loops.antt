@@ -1,5 +1,5 @@
 -- What one iteration of each loop of this crate does, and what the whole loop gives.
-use Rattle.std.specs.Prelude.{ℕ, ◌+◌, ◌<◌, ◌≤◌, ◌≡◌, Bool, cond, ◌&&◌, ◌||◌, List, [], ◌∷◌, length, get_or, eqb}
+use Rattle.std.specs.Prelude.{ℕ, ◌+◌, ◌-◌, ◌<◌, ◌≤◌, ◌≡◌, Bool, cond, ◌&&◌, ◌||◌, List, [], ◌∷◌, length, get_or, eqb}
 use Rattle.std.proofs.Math.Path.{refl, sym}
 use Rattle.std.proofs.Common.{ap, subst, ◌∙◌, arith, eq-eqb, ne_eqb}
 use Rattle.std.proofs.Math.Bool.{true, false}
@@ -8,7 +8,7 @@ use Rattle.lists.proofs.AmongLaws.{keeping_length}
 use Rattle.alphabet.specs.Labels.{character, labels_of_character}
 use Rattle.alphabet.proofs.LabelsLaws.{labels_from, labels_first, labels_here, labels_past}
 use Rattle.wordlist_build.specs.declared.Trie.{Trie}
-use Rattle.wordlist_build.specs.Arrays.{Roomy, pushed, pushes, if_label}
+use Rattle.wordlist_build.specs.Arrays.{Roomy, leads_on, pushed, pushes, if_label}
 use Rattle.wordlist_build.specs.ArraysLaws.{roomy_pushes, letters_pushes}
 
 -- the two tests of `same_pair`
@@ -78,3 +78,50 @@ module _ (A : List ℕ) (c : ℕ) where
 -- The loop of `mark_ends`: what it stores at each index.
 abbrev pub Mark : (heads : List ℕ) (last : List Bool) (head i : ℕ) → Bool → Type 0
 Mark heads last head i v = v ≡ (get_or last i false || eqb (get_or heads i 0) head)
+
+-- the arrays with other marks
+abbrev pub marked_with : Trie → List Bool → Trie
+marked_with t marks = record {
+  letters = t.letters;
+  at = t.at;
+  labels = t.labels;
+  characters = t.characters;
+  parents = t.parents;
+  heads = t.heads;
+  last = marks;
+}
+
+-- The two tests of `next_letter` at the index of a letter.
+module _ (t : Trie) (c i : ℕ) where
+  index : i + 1 - 1 ≡ i
+  index = omega arith
+
+  leads_at : leads_on t c (i + 1) ≡ (eqb (get_or t.parents i 0) t.at && eqb (get_or t.characters i 0) c)
+  leads_at = ap (λ k. eqb (get_or t.parents k 0) t.at && eqb (get_or t.characters k 0) c) index
+
+  pub leads_here : get_or t.parents i 0 ≡ t.at → get_or t.characters i 0 ≡ c → leads_on t c (i + 1) ≡ true
+  leads_here p q = leads_at ∙ rw (eq-eqb (get_or t.parents i 0) t.at p, eq-eqb (get_or t.characters i 0) c q)
+
+  pub leads_elsewhere : (get_or t.parents i 0 ≡ t.at → ⊥) → leads_on t c (i + 1) ≡ false
+  leads_elsewhere n = leads_at ∙ rw (ne_eqb (get_or t.parents i 0) t.at n)
+
+  pub leads_otherwise : get_or t.parents i 0 ≡ t.at → (get_or t.characters i 0 ≡ c → ⊥) → leads_on t c (i + 1) ≡ false
+  leads_otherwise p n = leads_at ∙ rw (eq-eqb (get_or t.parents i 0) t.at p, ne_eqb (get_or t.characters i 0) c n)
+
+-- The steps of `push_all`: a letter more if the character at the index is this one.
+module _ (A : List ℕ) (c : ℕ) (t : Trie) (head i : ℕ) (r : Trie) (inside : i < length A) (p : Pushing A c t head (i + 1) r) where
+  label_at : get_or A (i + 1 - 1) 0 ≡ get_or A i 0
+  label_at = let k : i + 1 - 1 ≡ i = omega arith in ap (λ j. get_or A j 0) k
+
+  pub pushing_fits : get_or A i 0 ≡ c → r.letters < 127
+  pushing_fits e =
+      let m = pushing_room A c t head (i + 1) r (omega arith) p in
+      let n = ap length (is_label A c (i + 1) (label_at ∙ e)) in
+      omega arith
+
+  pub pushing_label : (next : Trie) → get_or A i 0 ≡ c → next ≡ pushed r c head (i + 1) → Pushing A c t head (i + 1 + 1) next
+  pushing_label next e q =
+      pushing_more A c t head (i + 1) r (omega arith) p next (q ∙ pushed_label A c r head (i + 1) (label_at ∙ e))
+
+  pub pushing_other : (get_or A i 0 ≡ c → ⊥) → Pushing A c t head (i + 1 + 1) r
+  pushing_other n = pushing_more A c t head (i + 1) r (omega arith) p r (pushed_none A c r head (i + 1) (λ e. n (sym label_at ∙ e)))

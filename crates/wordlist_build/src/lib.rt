@@ -1,20 +1,19 @@
 // The prefix tree of a word list (document 02, T-05 and T-07), built in arrays as the list is read byte by byte.
 #![tactic(auto)]
 
-ghost use Rattle.std.specs.Prelude.{◌≡◌, ◌&&◌, false, ◌+◌, ◌<◌, ◌≤◌, length, eqb};
+ghost use Rattle.std.specs.Prelude.{◌≡◌, false, ◌+◌, ◌<◌, ◌≤◌, length, MatchOption};
 ghost use Rattle.lists.specs.Lists.{lowest};
 ghost use Rattle.alphabet.specs.Labels.{labels_of_character};
 ghost use Rattle.wordlist.specs.Words.{strange};
-ghost use Rattle.wordlist_build.specs.Arrays.{Roomy, leads_on, pushed, pushes, if_label, moved, MarksEnds};
+ghost use Rattle.wordlist_build.specs.Arrays.{Roomy, leads_on, pushed, pushes, moved};
 ghost use Rattle.wordlist_build.specs.State.{ReadsCharacter, EndsLine, ReadsByte, Readable, Builds};
 
 use alphabet::count_labels;
-use numbers::{either, narrow_byte};
 
 // The prefix tree in arrays: for each letter its label, the character that the label means, its parent, which is the head of what is before
 // it, the head of its own prefix, and whether a word ends with it. The head of a prefix is the number of its first letter, 0 for the empty
 // prefix. `at` is the head of what has been read of the line. If there are more than 127 letters, so says `letters`, and the arrays mean
-// nothing.
+// nothing. (Arrays beside one another, not an array of letters: `form_encode` is lent the labels and the marks each as a list of its own.)
 #[derive(Clone, Copy)]
 pub struct Trie {
     pub letters: usize,
@@ -26,157 +25,110 @@ pub struct Trie {
     pub last: [bool; 127],
 }
 
-// Nothing has been read.
-fn nothing() -> Trie
-    ensures { Roomy result × (result.letters ≡ 0) × (result.at ≡ 0) }
-{
-    Trie {
-        letters: 0,
-        at: 0,
-        labels: [0; 127],
-        characters: [0; 127],
-        parents: [0; 127],
-        heads: [0; 127],
-        last: [false; 127],
-    }
-}
-
-// Is the first pair of bytes the second?
-fn same_pair(a: u8, b: u8, c: u8, d: u8) -> bool
-    ensures { result ≡ (eqb a c && eqb b d) }
-{
-    if a != c {
-        return false;
-    }
-    b == d
-}
-
-// The first letter that goes on from what has been read with this character, or 0.
-fn next_letter(t: Trie, character: u8) -> usize
-    requires { Roomy t × (t.letters ≤ 127) }
-    ensures { result ≡ lowest (leads_on t character) t.letters }
-{
-    let at = t.at;
-    let letters = t.letters;
-    let mut j = 1;
-    while j <= letters {
-        let i = j - 1;
-        if same_pair(t.parents[i], t.characters[i], at, character) {
-            return j;
+impl Trie {
+    // Nothing has been read.
+    fn new() -> Trie
+        ensures { (result.letters ≡ 0) × (result.at ≡ 0) }
+    {
+        Trie {
+            letters: 0,
+            at: 0,
+            labels: [0; 127],
+            characters: [0; 127],
+            parents: [0; 127],
+            heads: [0; 127],
+            last: [false; 127],
         }
-        j += 1;
     }
-    0
-}
 
-// One letter more, after what has been read.
-fn push(t: Trie, label: u8, character: u8, head: u8) -> Trie
-    requires { Roomy t × (t.letters < 127) }
-    ensures { result ≡ pushed t character head label }
-{
-    let mut r = t;
-    let n = t.letters;
-    r.labels[n] = label;
-    r.characters[n] = character;
-    r.parents[n] = t.at;
-    r.heads[n] = head;
-    r.last[n] = false;
-    r.letters = n + 1;
-    r
-}
+    // The first letter that goes on from what has been read with this character.
+    fn next_letter(&self, character: u8) -> Option<usize>
+        requires { self.now.letters ≤ 127 }
+        ensures { MatchOption result (lowest (leads_on self.now character) self.now.letters ≡ 0)
+            (λ j. (j ≡ lowest (leads_on self.now character) self.now.letters) × (0 < j)) }
+    {
+        for i in 0..self.letters {
+            if self.parents[i] == self.at && self.characters[i] == character {
+                return Some(i + 1);
+            }
+        }
+        None
+    }
 
-// One letter more if x is a label of the character.
-fn push_if(alphabet: &[u8], t: Trie, x: usize, character: u8, head: u8) -> Trie
-    requires roomy { Roomy t × (1 ≤ x) × (x ≤ length alphabet.now) × (length alphabet.now ≤ 95) }
-    requires x_bound { t.letters + length (if_label alphabet.now character x) ≤ 127 }
-    ensures { result ≡ pushes t character head (if_label alphabet.now character x) }
-{
-    if alphabet[x - 1] == character {
-        return push(t, narrow_byte(x), character, head);
+    // One letter more, after what has been read.
+    fn push(&mut self, label: u8, character: u8, head: u8)
+        requires { self.old.letters < 127 }
+        ensures { self.new ≡ pushed self.old character head label }
+    {
+        let n = self.letters;
+        self.labels[n] = label;
+        self.characters[n] = character;
+        self.parents[n] = self.at;
+        self.heads[n] = head;
+        self.last[n] = false;
+        self.letters = n + 1;
     }
-    t
-}
 
-// A letter for each label of the character; their prefix is then what has been read.
-fn push_all(alphabet: &[u8], t: Trie, character: u8) -> Trie
-    requires { Roomy t × (length alphabet.now ≤ 95) × (t.letters + length (labels_of_character alphabet.now character) ≤ 127) }
-    ensures { result ≡ moved (pushes t character (t.letters + 1) (labels_of_character alphabet.now character)) (t.letters + 1) }
-{
-    let head = narrow_byte(t.letters + 1);
-    let k = alphabet.len();
-    let mut r = t;
-    let mut x = 1;
-    while x <= k {
-        let next = push_if(alphabet, r, x, character, head);
-        r = next;
-        x += 1;
+    // A letter for each label of the character; their prefix is then what has been read.
+    fn push_all(&mut self, alphabet: &[u8], character: u8)
+        requires { (length alphabet.now ≤ 95) × (self.old.letters + length (labels_of_character alphabet.now character) ≤ 127) }
+        ensures { self.new ≡ moved (pushes self.old character (self.old.letters + 1) (labels_of_character alphabet.now character)) (self.old.letters + 1) }
+    {
+        let head = (self.letters + 1) as u8;
+        for (i, &c) in alphabet.iter().enumerate() {
+            if c == character {
+                self.push((i + 1) as u8, character, head);
+            }
+        }
+        self.at = head;
     }
-    r.at = head;
-    r
-}
 
-// One character more of the line. Over 127 letters nothing is stored.
-fn read_character(alphabet: &[u8], t: Trie, character: u8) -> Trie
-    requires { Roomy t × (length alphabet.now ≤ 95) × (1 ≤ length (labels_of_character alphabet.now character)) }
-    ensures { Roomy result × ReadsCharacter alphabet.now character t result }
-{
-    if 127 < t.letters {
-        return t;
+    // One character more of the line. Over 127 letters nothing is stored.
+    fn read_character(&mut self, alphabet: &[u8], character: u8)
+        requires { (length alphabet.now ≤ 95) × (1 ≤ length (labels_of_character alphabet.now character)) }
+        ensures roomy { Roomy self.new }
+        ensures reads { ReadsCharacter alphabet.now character self.old self.new }
+    {
+        if 127 < self.letters {
+            return;
+        }
+        if let Some(letter) = self.next_letter(character) {
+            self.at = letter as u8;
+            return;
+        }
+        if 127 < self.letters + count_labels(alphabet, character) {
+            self.letters = 128;
+            return;
+        }
+        self.push_all(alphabet, character);
     }
-    let j = next_letter(t, character);
-    let mut r = t;
-    if 0 < j {
-        r.at = narrow_byte(j);
-        return r;
-    }
-    let n = count_labels(alphabet, character);
-    if 127 < t.letters + n {
-        r.letters = 128;
-        return r;
-    }
-    push_all(alphabet, t, character)
-}
 
-// The marks of letters with which a word ends, with those of the letters of this head.
-fn mark_ends(letters: usize, heads: [u8; 127], last: [bool; 127], head: u8) -> [bool; 127]
-    requires { letters ≤ 127 }
-    ensures { MarksEnds letters heads last head result }
-{
-    let mut r = last;
-    let mut i = 0;
-    while i < letters {
-        r[i] = either(last[i], heads[i] == head);
-        i += 1;
+    // The line ends here: a word ends with each letter of what has been read.
+    fn end_line(&mut self)
+        ensures roomy { Roomy self.new }
+        ensures ends { EndsLine self.old self.new }
+    {
+        if 127 < self.letters {
+            return;
+        }
+        for i in 0..self.letters {
+            self.last[i] = self.last[i] || self.heads[i] == self.at;
+        }
+        self.at = 0;
     }
-    r
-}
 
-// The line ends here.
-fn end_line(t: Trie) -> Trie
-    requires { Roomy t }
-    ensures { Roomy result × EndsLine t result }
-{
-    if 127 < t.letters {
-        return t;
+    // The next byte of the list.
+    fn read_byte(&mut self, alphabet: &[u8], b: u8)
+        requires { (length alphabet.now ≤ 95) × (strange alphabet.now b ≡ false) }
+        ensures roomy { Roomy self.new }
+        ensures reads { ReadsByte alphabet.now b self.old self.new }
+    {
+        if b == b'\n' {
+            self.end_line();
+        } else {
+            self.read_character(alphabet, b);
+        }
     }
-    let heads = t.heads;
-    let last = t.last;
-    let marked = mark_ends(t.letters, heads, last, t.at);
-    let mut r = t;
-    r.last = marked;
-    r.at = 0;
-    r
-}
-
-// The next byte of the list.
-fn read_byte(alphabet: &[u8], t: Trie, b: u8) -> Trie
-    requires { Roomy t × (length alphabet.now ≤ 95) × (strange alphabet.now b ≡ false) }
-    ensures { Roomy result × ReadsByte alphabet.now b t result }
-{
-    if b == b'\n' {
-        return end_line(t);
-    }
-    read_character(alphabet, t, b)
 }
 
 // The letters of a list that refusals 21 and 8 do not turn away.
@@ -184,12 +136,9 @@ pub fn build(alphabet: &[u8], list: &[u8]) -> Trie
     requires { (length alphabet.now ≤ 95) × Readable alphabet.now list.now }
     ensures { Builds alphabet.now list.now result }
 {
-    let mut t = nothing();
-    let mut i = 0;
-    while i < list.len() {
-        let next = read_byte(alphabet, t, list[i]);
-        t = next;
-        i += 1;
+    let mut trie = Trie::new();
+    for &b in list {
+        trie.read_byte(alphabet, b);
     }
-    t
+    trie
 }
