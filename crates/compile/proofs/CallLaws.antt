@@ -1,5 +1,5 @@
 -- Compile, where refusals 1 to 3 do not apply: what the checking parser's answer says of the text, and what is then filled.
-use Rattle.std.specs.Prelude.{ℕ, ◌≤◌, ◌<◌, Bool, false, List, [], ◌∷◌, length, replicate, ltb}
+use Rattle.std.specs.Prelude.{ℕ, ◌≤◌, ◌<◌, Bool, false, List, [], ◌∷◌, length, replicate, ltb, Ok, Err}
 use Rattle.std.proofs.Math.Path.{◌≡◌, refl, sym, ap}
 use Rattle.std.proofs.Common.{◌∙◌, lt-ltb, le-ltb}
 use Rattle.std.proofs.Math.Bool.{true}
@@ -9,7 +9,6 @@ use Rattle.refusal.specs.declared.Refusal.{Refusal}
 use Rattle.refusal.specs.declared.Refusal.TheVariants as refusal
 use Rattle.refusal.specs.Verdict.{refused, check, unless, if_passed, first_refusal}
 use Rattle.refusal.proofs.VerdictLaws.{unless_holds, unless_fails, first_refused, first_all}
-use Rattle.refusal.specs.declared.Checked.TheVariants as checks
 use Rattle.regex_tree.specs.Tree.{Tree}
 use Rattle.regex_tree.specs.Parsing.{Parsing, found, fault}
 use Rattle.regex_tree.specs.Letters.{letter_count}
@@ -22,7 +21,6 @@ use Rattle.automaton.specs.Form.{encode}
 use Rattle.positions.specs.Compiled.{form_of}
 use Rattle.positions.proofs.CompiledLaws.{automaton_letters}
 use Rattle.regex_bracket.specs.Answers.{is_found}
-use Rattle.regex_parse.specs.declared.Parsed.TheVariants.{Letters, Refused}
 use Rattle.regex_parse.specs.Parsed.{parsed_of, parsed}
 use Rattle.form_encode.specs.Call.{form_call}
 use Rattle.automaton.specs.Arrays.{arrayed}
@@ -37,31 +35,31 @@ use Rattle.compile.specs.Compilable.{Compilable}
 
 module _ (A s : List ℕ) (room : ℕ) where
   -- the leftmost fault
-  pub text_refused : (x : Refusal) → Refused x ≡ parsed A s → parsed_form A room (expression_of A s) ≡ refused x
+  pub text_refused : (x : Refusal) → Err x ≡ parsed A s → parsed_form A room (expression_of A s) ≡ refused x
   unfolding parsed
   text_refused x e = by (expression_of A s) e
     where
-      by : (y : Parsing Tree) → Refused x ≡ parsed_of A y → parsed_form A room y ≡ refused x
+      by : (y : Parsing Tree) → Err x ≡ parsed_of A y → parsed_form A room y ≡ refused x
       by (found t r) e = let z : ◌≡◌ {A = ℕ} 0 1 = cc in absurd (omega arith)
       by (fault n r) e = let q : n ≡ x = cc in ap refused q
 
   -- too many letters
-  pub text_many : (n : ℕ) → Letters n ≡ parsed A s → 127 < n → parsed_form A room (expression_of A s) ≡ refused refusal.Letters
+  pub text_many : (n : ℕ) → Ok n ≡ parsed A s → 127 < n → parsed_form A room (expression_of A s) ≡ refused refusal.Letters
   unfolding parsed
   text_many n e h = by (expression_of A s) e
     where
-      by : (y : Parsing Tree) → Letters n ≡ parsed_of A y → parsed_form A room y ≡ refused refusal.Letters
+      by : (y : Parsing Tree) → Ok n ≡ parsed_of A y → parsed_form A room y ≡ refused refusal.Letters
       by (fault m r) e = let z : ◌≡◌ {A = ℕ} 0 1 = cc in absurd (omega arith)
       by (found t r) e =
           let q : n ≡ few (letter_count A t) = cc in
           unless_holds (form_of A t) (ltb 127 (letter_count A t)) refusal.Letters (check (ltb room (length (form_of A t))) refusal.FormMemory ∷ []) (lt-ltb 127 (letter_count A t) (omega arith))
 
   -- few enough
-  pub text_compilable : (n : ℕ) → Letters n ≡ parsed A s → n ≤ 127 → Compilable A s
+  pub text_compilable : (n : ℕ) → Ok n ≡ parsed A s → n ≤ 127 → Compilable A s
   unfolding parsed
   text_compilable n e h = by (expression_of A s) refl e
     where
-      by : (y : Parsing Tree) → expression_of A s ≡ y → Letters n ≡ parsed_of A y → Compilable A s
+      by : (y : Parsing Tree) → expression_of A s ≡ y → Ok n ≡ parsed_of A y → Compilable A s
       by (fault m r) g e = let z : ◌≡◌ {A = ℕ} 0 1 = cc in absurd (omega arith)
       by (found t r) g e =
           let q : n ≡ few (letter_count A t) = cc in
@@ -79,11 +77,11 @@ module _ (A s : List ℕ) (room : ℕ) where
           unless_fails (form_of A t) (ltb 127 (letter_count A t)) refusal.Letters (check (ltb room (length (form_of A t))) refusal.FormMemory ∷ []) (le-ltb 127 (letter_count A t) h)
 
   -- refusals 1 to 3
-  pub call_refused : (n : Refusal) → checks.Refused n ≡ first_refusal (text_checks A s) → compile_call A s room ≡ refused n
+  pub call_refused : (n : Refusal) → Err n ≡ first_refusal (text_checks A s) → compile_call A s room ≡ refused n
   unfolding compile_call if_passed
   call_refused n e = ap (λ v. if_passed v (λ s. parsed_form A room (expression_of A s))) (first_refused s n (text_checks A s) (sym e))
 
-  pub call_passed : checks.Passed ≡ first_refusal (text_checks A s) → compile_call A s room ≡ parsed_form A room (expression_of A s)
+  pub call_passed : Ok tt ≡ first_refusal (text_checks A s) → compile_call A s room ≡ parsed_form A room (expression_of A s)
   unfolding compile_call if_passed
   call_passed e = ap (λ v. if_passed v (λ s. parsed_form A room (expression_of A s))) (first_all s (text_checks A s) (sym e))
 

@@ -1,6 +1,6 @@
 -- Demand 2, stated of Compile: the form that it writes is valid, and accepts a word exactly if the expression's set of words, which goes by
 -- its text, has it.
-use Rattle.std.specs.Prelude.{ℕ, ◌≤◌, not, ◌↔◌, length, ltb}
+use Rattle.std.specs.Prelude.{ℕ, ◌≤◌, not, ◌↔◌, length, ltb, Ok}
 use Rattle.std.proofs.Math.Path.{◌≡◌, refl, ap}
 use Rattle.std.proofs.Common.{sym, ◌∙◌, subst, arith, ltb-false, le-ltb}
 use mathlib.Core.Logic.Iff.{trans as iff_trans, symm as iff_symm}
@@ -11,7 +11,6 @@ use Rattle.lists.specs.Each.{all}
 use Rattle.refusal.specs.declared.Refusal.TheVariants.{Alphabet, TextLength, TextByte, Letters, FormMemory}
 use Rattle.refusal.specs.Verdict.{Verdict, passed, refused, check, unless, if_passed, first_refusal}
 use Rattle.refusal.proofs.VerdictLaws.{unless_neither, unless_passed, unless_same, first_all}
-use Rattle.refusal.specs.declared.Checked.TheVariants.{Passed}
 use Rattle.alphabet.specs.Labels.{characters}
 use Rattle.automaton.specs.Automaton.{Accepts}
 use Rattle.automaton.specs.Form.{view}
@@ -80,7 +79,7 @@ module _ (A s : List ℕ) (room : ℕ) (f : List ℕ) where
 
   -- The other way: what no refusal turns away compiles.
   pub compiles :
-      (t : Tree) → first_refusal (text_checks A s) ≡ Passed → TextOf A 16 t s → letter_count A t ≤ 127 → length (form_of A t) ≤ room
+      (t : Tree) → first_refusal (text_checks A s) ≡ Ok tt → TextOf A 16 t s → letter_count A t ≤ 127 → length (form_of A t) ≤ room
       → compile_call A s room ≡ passed (form_of A t)
   unfolding compile_call if_passed
   compiles t e x h l =
