@@ -2,6 +2,8 @@
 use Rattle.std.specs.Prelude.{ℕ, zero, suc, ◌+◌, ◌/◌, ◌%◌, ◌^◌, ◌<◌, ◌≤◌, ◌≡◌, refl, true, [], ◌∷◌, ◌++◌, leb, length, get_or}
 use Rattle.std.proofs.Common.{sym, ap, ◌∙◌, ⊎_elim, pow-suc, arith, lt-ltb, le-ltb, le-leb, length-append}
 use Rattle.std.proofs.Math.ListN.{get_or-append}
+use Rattle.std.specs.Fmt.{decimal as numeral}
+use Rattle.std.proofs.lemmas.Fmt.{decimal_from_appends, length-decimal-le_succ}
 use Rattle.lists.proofs.OrderLaws.{lt_or_le, and_both}
 use Rattle.text.specs.Digits.{value, digit as a_digit, digits as all_digits}
 use Rattle.text.proofs.DigitsLaws.{digits_append, value_append}
@@ -91,3 +93,8 @@ decimal_lead n l = by (n + 1) n (omega arith) l
         let i = by k (n / 10) (omega arith) (omega arith) in
         omega arith)
         (lt_or_le n 10)
+
+-- it is the library's numeral
+pub decimal_text : (n : ℕ) → n < 2 ^ 64 → decimal n ≡ numeral n
+unfolding decimal
+decimal_text n h = decimal_from_appends digits (record { one = digits_one; more = digits_more }) (n + 1) n h (length-decimal-le_succ n h)

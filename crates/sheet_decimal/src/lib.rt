@@ -1,49 +1,44 @@
 // Bytes, and numbers in decimal, into lent memory (document 01, "Output in full").
 #![tactic(auto)]
 
-ghost use Rattle.std.specs.Prelude.{◌≡◌, [], ◌∷◌, ◌+◌, ◌<◌, ◌≤◌, length};
+ghost use Rattle.std.specs.Prelude.{◌≡◌, ◌+◌, ◌≤◌, length};
 ghost use Rattle.lists.specs.Stored.{Stored};
-ghost use Rattle.sheet_decimal.specs.Numerals.{digit, decimal};
+ghost use Rattle.sheet_decimal.specs.Numerals.{decimal};
 
-// The digit of a number below 10.
-fn digit_of(n: u32) -> u8
-    requires { n < 10 }
-    ensures { result ≡ digit n }
-{
-    (48 + n) as u8
+// Lent memory that is written from the front on, and how many bytes of it are written.
+#[derive(Drop)]
+pub struct Output<'a> {
+    pub memory: &'a mut [u8],
+    pub len: usize,
 }
 
-// Writes one byte at place n and returns the next place.
-pub fn put(b: u8, out: &mut [u8], n: usize) -> usize
-    requires { n < length out.old }
-    ensures { Stored (b ∷ []) n out.old out.new result }
-{
-    out[n] = b;
-    n + 1
-}
-
-// Writes bytes as they are from place n on and returns the next place.
-pub fn put_bytes(bytes: &[u8], out: &mut [u8], n: usize) -> usize
-    requires { n + length bytes.now ≤ length out.old }
-    ensures { Stored bytes.now n out.old out.new result }
-{
-    let mut m = n;
-    let mut i: usize = 0;
-    while i < bytes.len() {
-        m = put(bytes[i], out, m);
-        i += 1;
+impl<'a> Output<'a> {
+    // Nothing is written yet.
+    pub fn new(memory: &'a mut [u8]) -> Output<'a>
+        ensures same_memory { result.memory.ghost_name ≡ memory.entry.ghost_name }
+        ensures unchanged { result.memory.now ≡ memory.old }
+        ensures empty { result.len ≡ 0 }
+    {
+        Output { memory, len: 0 }
     }
-    m
-}
 
-// Writes a number in decimal from place n on and returns the next place.
-pub fn put_decimal(x: u32, out: &mut [u8], n: usize) -> usize
-    requires { n + length (decimal x) ≤ length out.old }
-    ensures { Stored (decimal x) n out.old out.new result }
-{
-    if x < 10 {
-        return put(digit_of(x), out, n);
+    // Writes bytes as they are.
+    pub fn put_bytes(&mut self, bytes: &[u8])
+        requires { self.old.len + length bytes.now ≤ length self.old.memory.now }
+        ensures same_memory { self.new.memory.ghost_name ≡ self.old.memory.ghost_name }
+        ensures stored { Stored bytes.now self.old.len self.old.memory.now self.new.memory.now self.new.len }
+    {
+        let end = self.len + bytes.len();
+        self.memory[self.len..end].copy_from_slice(bytes);
+        self.len = end;
     }
-    let m = put_decimal(x / 10, out, n);
-    put(digit_of(x % 10), out, m)
+
+    // Writes a number in decimal.
+    pub fn put_decimal(&mut self, x: u32)
+        requires { self.old.len + length (decimal x) ≤ length self.old.memory.now }
+        ensures same_memory { self.new.memory.ghost_name ≡ self.old.memory.ghost_name }
+        ensures stored { Stored (decimal x) self.old.len self.old.memory.now self.new.memory.now self.new.len }
+    {
+        self.put_bytes(itoa::Buffer::new().format(x).as_bytes())
+    }
 }

@@ -27,6 +27,10 @@ unfolding spaced
 spaced_some [] h = absurd (omega arith)
 spaced_some (x ∷ p) h = refl
 
+pub spaced_parts : (p q : List ℕ) (x : ℕ) → p ≡ x ∷ q → spaced p ≡ decimal x ++ following q
+unfolding spaced
+spaced_parts p q x e = ap spaced e
+
 -- How long they can be where each label has at most 2 digits.
 
 following_short : (p : List ℕ) → Each (λ x. x < 100) p → length (following p) ≤ 3 * length p

@@ -1,56 +1,75 @@
--- `sheet_lines::print_reading` meets its contract: the lines of the price, the word and the path.
-use Rattle.std.proofs.Common.{◌+◌, ◌≤◌, ℕ, List, ◌++◌, length, refl, arith}
-use Rattle.lists.specs.Stored.{Stored}
-use Rattle.sheet_decimal.specs.Numerals.{decimal}
-use Rattle.sheet_decimal.specs.PiecesLaws.{front_room, back_room, both_stored}
+-- `sheet_lines::print_reading` meets its contract: the price, the word and the path, each before a newline.
+use Rattle.std.proofs.Common.{[], ◌∷◌, ◌++◌, rules}
 use Rattle.sheet_path.specs.Labels.{spaced}
-use Rattle.sheet_lines.specs.Lines.{line, reading_lines}
-use Rattle.sheet_lines.specs.LengthsLaws.{stored_wrote}
+use Rattle.sheet_lines.specs.Lines.{reading_lines}
+use Rattle.sheet_lines.proofs.PiecesLaws.{reading_none, piece_room, piece_stored, all_wrote}
 use Rattle.sheet_lines.proofs.print_reading.Goals as goal
 
--- the lines after the price
-abbrev after_price : List ℕ → List ℕ → List ℕ
-after_price word path = line word ++ line (spaced path)
-
--- the room after the price
-beyond :
-    (price : ℕ) (word path out middle : List ℕ) (n : ℕ) → length (reading_lines price word path) ≤ length out
-    → Stored (line (decimal price)) 0 out middle n → n + length (after_price word path) ≤ length middle
-beyond price word path out middle n fits s =
-    back_room (reading_lines price word path) (line (decimal price)) (after_price word path) out 0 refl (omega arith) middle n s
-
-pub put_number_line-n-requires : goal.put_number_line-n-requires
-put_number_line-n-requires c =
+pub put_bytes-requires : goal.put_bytes-requires
+put_bytes-requires c =
     let s = c.args in
-    let fits = c.requires in
-    let whole = reading_lines s.price s.word.now s.path.now in
-    front_room whole (line (decimal s.price)) (after_price s.word.now s.path.now) s.out.now 0 refl (omega arith)
+    let o = s.out.now in
+    let w = reading_lines s.price s.word.now s.path.now in
+    let a = rw (c.new-lines.ensures.unchanged, c.new-lines.ensures.empty) at c.put_decimal.ensures.stored in
+    let f = piece_stored w o (reading_none s.price s.word.now s.path.now o c.requires) a in
+    piece_room w o (10 ∷ []) c.put_decimal.new.self.memory.now (s.word.now ++ (10 ∷ (spaced s.path.now ++ (10 ∷ [])))) c.put_decimal.new.self.len f
 
-pub put_word_line-m-requires : goal.put_word_line-m-requires
-put_word_line-m-requires c =
+pub put_bytes-requires-2 : goal.put_bytes-requires-2
+put_bytes-requires-2 c =
     let s = c.args in
-    let a = c.put_number_line-n in
-    front_room (after_price s.word.now s.path.now) (line s.word.now) (line (spaced s.path.now)) a.new.out a.result refl
-    (beyond s.price s.word.now s.path.now s.out.now a.new.out a.result c.requires a.ensures)
+    let o = s.out.now in
+    let w = reading_lines s.price s.word.now s.path.now in
+    let a = rw (c.new-lines.ensures.unchanged, c.new-lines.ensures.empty) at c.put_decimal.ensures.stored in
+    let f = piece_stored w o (reading_none s.price s.word.now s.path.now o c.requires) a in
+    let f = piece_stored w o f c.put_bytes.ensures.stored in
+    piece_room w o s.word.now c.put_bytes.new.self.memory.now (10 ∷ (spaced s.path.now ++ (10 ∷ []))) c.put_bytes.new.self.len f
 
-pub put_path_line-requires : goal.put_path_line-requires
-put_path_line-requires c =
+pub put_bytes-requires-3 : goal.put_bytes-requires-3
+put_bytes-requires-3 c =
     let s = c.args in
-    let a = c.put_number_line-n in
-    let b = c.put_word_line-m in
-    back_room (after_price s.word.now s.path.now) (line s.word.now) (line (spaced s.path.now)) a.new.out a.result refl
-    (beyond s.price s.word.now s.path.now s.out.now a.new.out a.result c.requires a.ensures) b.new.out b.result b.ensures
+    let o = s.out.now in
+    let w = reading_lines s.price s.word.now s.path.now in
+    let a = rw (c.new-lines.ensures.unchanged, c.new-lines.ensures.empty) at c.put_decimal.ensures.stored in
+    let f = piece_stored w o (reading_none s.price s.word.now s.path.now o c.requires) a in
+    let f = piece_stored w o f c.put_bytes.ensures.stored in
+    let f = piece_stored w o f c.put_bytes-2.ensures.stored in
+    piece_room w o (10 ∷ []) c.put_bytes-2.new.self.memory.now (spaced s.path.now ++ (10 ∷ [])) c.put_bytes-2.new.self.len f
+
+pub put_labels-requires : goal.put_labels-requires
+put_labels-requires c =
+    let s = c.args in
+    let o = s.out.now in
+    let w = reading_lines s.price s.word.now s.path.now in
+    let a = rw (c.new-lines.ensures.unchanged, c.new-lines.ensures.empty) at c.put_decimal.ensures.stored in
+    let f = piece_stored w o (reading_none s.price s.word.now s.path.now o c.requires) a in
+    let f = piece_stored w o f c.put_bytes.ensures.stored in
+    let f = piece_stored w o f c.put_bytes-2.ensures.stored in
+    let f = piece_stored w o f c.put_bytes-3.ensures.stored in
+    piece_room w o (spaced s.path.now) c.put_bytes-3.new.self.memory.now (10 ∷ []) c.put_bytes-3.new.self.len f
+
+pub put_bytes-requires-4 : goal.put_bytes-requires-4
+put_bytes-requires-4 c =
+    let s = c.args in
+    let o = s.out.now in
+    let w = reading_lines s.price s.word.now s.path.now in
+    let a = rw (c.new-lines.ensures.unchanged, c.new-lines.ensures.empty) at c.put_decimal.ensures.stored in
+    let f = piece_stored w o (reading_none s.price s.word.now s.path.now o c.requires) a in
+    let f = piece_stored w o f c.put_bytes.ensures.stored in
+    let f = piece_stored w o f c.put_bytes-2.ensures.stored in
+    let f = piece_stored w o f c.put_bytes-3.ensures.stored in
+    let f = piece_stored w o f c.put_labels.ensures.stored in
+    piece_room w o (10 ∷ []) c.put_labels.new.out.memory.now ([]) c.put_labels.new.out.len f
 
 pub returns : goal.returns
 returns c =
     let s = c.args in
-    let a = c.put_number_line-n in
-    let b = c.put_word_line-m in
-    let p = c.put_path_line in
-    let fits = c.requires in
-    let whole = reading_lines s.price s.word.now s.path.now in
-    let rest = after_price s.word.now s.path.now in
-    stored_wrote whole s.out.now p.new.out p.result (omega arith)
-    (both_stored whole (line (decimal s.price)) rest s.out.now 0 refl (omega arith) a.new.out a.result a.ensures p.new.out p.result
-    (both_stored rest (line s.word.now) (line (spaced s.path.now)) a.new.out a.result refl
-    (beyond s.price s.word.now s.path.now s.out.now a.new.out a.result c.requires a.ensures) b.new.out b.result b.ensures p.new.out p.result p.ensures))
+    let o = s.out.now in
+    let w = reading_lines s.price s.word.now s.path.now in
+    let a = rw (c.new-lines.ensures.unchanged, c.new-lines.ensures.empty) at c.put_decimal.ensures.stored in
+    let f = piece_stored w o (reading_none s.price s.word.now s.path.now o c.requires) a in
+    let f = piece_stored w o f c.put_bytes.ensures.stored in
+    let f = piece_stored w o f c.put_bytes-2.ensures.stored in
+    let f = piece_stored w o f c.put_bytes-3.ensures.stored in
+    let f = piece_stored w o f c.put_labels.ensures.stored in
+    let f = piece_stored w o f c.put_bytes-4.ensures.stored in
+    all_wrote w o f (search rules)

@@ -1,30 +1,24 @@
--- `sheet_lines::print_refusal` meets its contract: the word and the line of the number.
-use Rattle.std.proofs.Common.{ℕ, List, sym, ap, arith}
-use Rattle.text.specs.Bytes.{bytes}
+-- `sheet_lines::print_refusal` meets its contract: the word, the number and the newline.
+use Rattle.std.proofs.Common.{[], ◌∷◌, rules}
+use Rattle.lists.proofs.FillingLoops.{filling_none}
 use Rattle.refusal.specs.Number.{number_of}
-use Rattle.sheet_decimal.specs.Numerals.{decimal}
-use Rattle.sheet_decimal.specs.PiecesLaws.{back_room, both_stored}
-use Rattle.sheet_lines.specs.Lines.{line, refusal_line}
-use Rattle.sheet_lines.specs.LengthsLaws.{stored_wrote}
+use Rattle.sheet_lines.specs.Lines.{refusal_line}
+use Rattle.sheet_lines.proofs.PiecesLaws.{piece_room, piece_stored, all_wrote}
 use Rattle.sheet_lines.proofs.print_refusal.Goals as goal
 
-abbrev refused : List ℕ
-refused = bytes "refused "
-
-pub put_number_line-requires : goal.put_number_line-requires
-put_number_line-requires c =
-    let a = c.put_bytes-n in
-    let fits = c.requires in
-    back_room (refusal_line (number_of c.args.r)) refused (line (decimal c.number.result)) c.args.out.now 0 (ap refusal_line (sym c.number.ensures))
-    (omega arith) a.new.out a.result a.ensures
+pub put_bytes-requires-2 : goal.put_bytes-requires-2
+put_bytes-requires-2 c =
+    let w = refusal_line (number_of c.args.r) in
+    let o = c.args.out.now in
+    let a = rw (c.new-lines.ensures.unchanged, c.new-lines.ensures.empty) at c.put_bytes.ensures.stored in
+    let b = rw c.into.ensures at c.put_decimal.ensures.stored in
+    let d = c.put_decimal.new.self in
+    piece_room w o (10 ∷ []) d.memory.now [] d.len (piece_stored w o (piece_stored w o (filling_none w o c.requires) a) b)
 
 pub returns : goal.returns
 returns c =
-    let a = c.put_bytes-n in
-    let b = c.put_number_line in
-    let all = refusal_line (number_of c.args.r) in
-    let out = c.args.out.now in
-    let fits = c.requires in
-    stored_wrote all out b.new.out b.result (omega arith)
-    (both_stored all refused (line (decimal c.number.result)) out 0 (ap refusal_line (sym c.number.ensures)) (omega arith) a.new.out a.result a.ensures
-    b.new.out b.result b.ensures)
+    let w = refusal_line (number_of c.args.r) in
+    let o = c.args.out.now in
+    let a = rw (c.new-lines.ensures.unchanged, c.new-lines.ensures.empty) at c.put_bytes.ensures.stored in
+    let b = rw c.into.ensures at c.put_decimal.ensures.stored in
+    all_wrote w o (piece_stored w o (piece_stored w o (piece_stored w o (filling_none w o c.requires) a) b) c.put_bytes-2.ensures.stored) (search rules)
