@@ -7,10 +7,11 @@ ghost use Rattle.lists.specs.Memory.{Wrote};
 ghost use Rattle.sheet_print.specs.Printed.{Shown, answer_lines};
 
 use answers::Reading;
+use refusal::Refusal;
 
 // Prints what Read answered for `count` columns, with path and word memory as it left them, and returns the number of bytes.
 pub fn print_answer(
-    answer: Reading,
+    answer: Result<Reading, Refusal>,
     count: usize,
     path: &[u8],
     word: &[u8],
@@ -21,11 +22,7 @@ pub fn print_answer(
     ensures { Wrote (answer_lines answer count path.now word.now) out.old out.new result }
 {
     match answer {
-        Reading::Refused(r) => sheet_lines::print_refusal(r, out),
-        Reading::Path {
-            price,
-            length,
-            form: _,
-        } => sheet_lines::print_reading(price, &word[..length], &path[..count], out),
+        Ok(r) => sheet_lines::print_reading(r.price, &word[..r.length], &path[..count], out),
+        Err(r) => sheet_lines::print_refusal(r, out),
     }
 }
