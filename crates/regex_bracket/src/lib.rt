@@ -13,6 +13,7 @@ use regex_signs::{closes, sign_end};
 use text::peek;
 
 // Where the first sign inside a bracket is: after `[` or `[^`.
+#[tactic(auto, using(crate::specs::BracketLaws::opened_except, crate::specs::BracketLaws::opened_only))]
 fn opening(text: &[u8], at: usize) -> usize
     requires { at < length text.now }
     ensures { result ≡ opened text.now at }
@@ -23,7 +24,9 @@ fn opening(text: &[u8], at: usize) -> usize
     at + 1
 }
 
-// Where the bracket is closed; past the end if it is not.
+// Where the bracket is closed; past the end if it is not. The loop stays a `while`: where the next sign begins is known only from this one,
+// and an iterator over places would be this same loop in its `next`.
+#[tactic(auto, using(crate::specs::ClosingLaws::after_first, crate::specs::ClosingLaws::after_here, crate::specs::ClosingLaws::after_past, crate::specs::ClosingLaws::after_end, regex_signs::specs::SignsLaws::sign_width_some))]
 fn closing(text: &[u8], first: usize) -> usize
     ensures { (first ≤ result) × (beyond text.now result ≡ after (closed true (drop first text.now))) }
 {
@@ -38,20 +41,16 @@ fn closing(text: &[u8], first: usize) -> usize
 }
 
 // Is the bracket closed, with well-formed items inside and without `[.` and `[=`? Its closing `]` is at e, or e is past the end.
+#[tactic(auto, using(crate::specs::ClosingLaws::formed_open, crate::specs::ClosingLaws::formed_reserved, crate::specs::ClosingLaws::formed_closing, crate::specs::ClosingLaws::formed_left))]
 fn is_well_formed(text: &[u8], first: usize, e: usize) -> bool
     requires { (first ≤ e) × (beyond text.now e ≡ after (closed true (drop first text.now))) }
     ensures { result ≡ is_some (formed (closed true (drop first text.now))) }
 {
-    if text.len() <= e {
-        return false;
-    }
-    if is_reserved(&text[first..e]) {
-        return false;
-    }
-    are_items(text, first)
+    e < text.len() && !is_reserved(&text[first..e]) && are_items(text, first)
 }
 
 // Where the bracket that begins here ends, or why it is turned away.
+#[tactic(auto, using(crate::specs::BracketLaws::bracket_spoilt, crate::specs::BracketLaws::bracket_left, crate::specs::BracketLaws::bracket_closing, crate::specs::BracketLaws::bracket_end, crate::specs::BracketLaws::bracket_unknown, crate::specs::BracketLaws::bracket_ends))]
 pub fn bracket_end(text: &[u8], at: usize) -> Result<usize, Refusal>
     requires { at < length text.now }
     ensures { result ≡ end_of text.now (bracket_at text.now at) }
@@ -68,6 +67,7 @@ pub fn bracket_end(text: &[u8], at: usize) -> Result<usize, Refusal>
 }
 
 // Is the byte a member of the bracket that begins here?
+#[tactic(auto, using(crate::specs::BracketLaws::bracket_closing, crate::specs::BracketLaws::good_formed, crate::specs::BracketLaws::good_known, crate::specs::BracketLaws::bracket_only, crate::specs::BracketLaws::bracket_except))]
 pub fn bracket_has(text: &[u8], at: usize, b: u8) -> bool
     requires { (at < length text.now) × (is_found (bracket_at text.now at) ≡ true) }
     ensures { result ≡ member_of (set_of (bracket_at text.now at)) b }

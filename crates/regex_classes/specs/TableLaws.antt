@@ -28,7 +28,7 @@ same_bytes [] (y ∷ q) = refl
 same_bytes (x ∷ p) [] = refl
 same_bytes (x ∷ p) (y ∷ q) = rw (same_bytes p q)
 
-row_tested : (d : List ℕ × List Range) (c : Class) → is_row d c ≡ true → Row d.0 d.1 c
+pub row_tested : (d : List ℕ × List Range) (c : Class) → is_row d c ≡ true → Row d.0 d.1 c
 unfolding is_row
 row_tested d c e =
     let spelt = same_list c.name.now d.0 in
