@@ -1,5 +1,5 @@
 -- The lengths that the calls report fit in 32 bits.
-use Rattle.std.specs.Prelude.{ℕ, ◌*◌, ◌^◌, ◌<◌, ◌≤◌, ◌≡◌, Bool, not, ◌||◌, length, ltb}
+use Rattle.std.specs.Prelude.{ℕ, ◌*◌, ◌^◌, ◌<◌, ◌≤◌, ◌≡◌, Bool, not, ◌||◌, length, ltb, Result, Ok, Err}
 use Rattle.std.proofs.Math.Path.{refl}
 use Rattle.std.proofs.Common.{ap, mul-le-mul, length-append, ltb-false}
 use Rattle.std.proofs.Math.Bool.{true, false}
@@ -14,8 +14,6 @@ use Rattle.lists.proofs.AmongLaws.{keep_shorter, flat_length}
 use Rattle.lists.proofs.AscendingLaws.{length_numbers}
 use Rattle.refusal.specs.declared.Refusal.{Refusal}
 use Rattle.refusal.specs.declared.Refusal.TheVariants.{BadForm, OutputMemory, Label}
-use Rattle.refusal.specs.declared.Checked.{Checked}
-use Rattle.refusal.specs.declared.Checked.TheVariants.{Passed, Refused}
 use Rattle.refusal.specs.Verdict.{Verdict, passed, refused, check, unless, first_refusal}
 use Rattle.refusal.proofs.VerdictLaws.{first_passed}
 use Rattle.refusal.specs.Checks.{Checks}
@@ -115,10 +113,10 @@ module _ (Word : List ℕ → Type 0) (spelt : List ℕ → List ℕ) (form : �
   outcome_few few (some p) h = let e = h.qualifies.path.one_each in (omega (arith, collapse_shorter p), omega arith)
 
   answers_few :
-      (need : ℕ) (before after : Lent) (answer : Report) (c : Checked) → (c ≡ Passed → M.count ≤ 255)
+      (need : ℕ) (before after : Lent) (answer : Report) (c : Result (Unit {0}) Refusal) → (c ≡ Ok tt → M.count ≤ 255)
       → Checks turned_away c (Answers Word spelt form M need) before after answer → (answer.filled ≤ 255) × (answer.form ≤ form)
-  answers_few need before after answer (Refused n) few h = rw h.0 (omega arith, omega arith)
-  answers_few need before after answer Passed few h = rw h.answered (outcome_few (few refl) h.outcome h.is)
+  answers_few need before after answer (Err n) few h = rw h.0 (omega arith, omega arith)
+  answers_few need before after answer (Ok _) few h = rw h.answered (outcome_few (few refl) h.outcome h.is)
 
 pub decode_fits : (f : List ℕ) (M : Matrix) (before after : Lent) (answer : Report) → Decodes f M before after answer → answer.filled < 2 ^ 32
 decode_fits f M before after answer h =

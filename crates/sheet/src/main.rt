@@ -9,40 +9,34 @@ ghost use Rattle.sheet_read.specs.Answer.{longest};
 ghost use Rattle.sheet_read.specs.Promise.{Answers};
 ghost use Rattle.sheet.specs.Inputs.{Arrived, PrintsInput};
 
+use std::io;
 use std::io::{Read, Write};
 
-// How many bytes were read until the input ended or the buffer was full; or a read failed.
-#[derive(Drop)]
-enum Input {
-    Whole(usize),
-    Failed,
-}
-
-// Reads to the end of the input. There is room for one byte more than a sheet may have, so that a byte too many is seen.
-fn read_input<R: Read>(stdin: &mut R, buffer: &mut [u8]) -> Input
+// Reads to the end of the input and returns how many bytes came. There is room for one byte more than a sheet may have, so that a byte too
+// many is seen.
+fn read_input<R: Read>(stdin: &mut R, buffer: &mut [u8]) -> io::Result<usize>
     requires { most_bytes < length buffer.old }
     ensures { Arrived result buffer.new }
 {
     let mut done = 0;
     while done < buffer.len() {
-        match stdin.read(&mut buffer[done..]) {
-            Ok(0) => return Input::Whole(done),
-            Ok(got) => done += got,
-            Err(_) => return Input::Failed,
+        match stdin.read(&mut buffer[done..])? {
+            0 => break,
+            got => done += got,
         }
     }
-    Input::Whole(done)
+    Ok(done)
 }
 
 // Prints the answer to the input, nothing after a read that failed, and returns the number of bytes.
-fn answer_input(input: Input, buffer: &[u8], out: &mut [u8]) -> usize
+fn answer_input(input: io::Result<usize>, buffer: &[u8], out: &mut [u8]) -> usize
     requires arrived { Arrived input buffer.now }
     requires longest_in_bounds { longest ≤ length out.old }
     ensures { Answers (PrintsInput input buffer.now) out.old out.new result }
 {
     match input {
-        Input::Whole(n) => sheet_answer::answer(&buffer[..n], out),
-        Input::Failed => 0,
+        Ok(n) => sheet_answer::answer(&buffer[..n], out),
+        Err(_) => 0,
     }
 }
 

@@ -1,12 +1,10 @@
 -- What is printed is the line of a refusal, or the lines of a path. No path uses a barred label, so a printed price is a sum of usable costs:
 -- there is no cost of a barred label to print.
-use Rattle.std.specs.Prelude.{ℕ, ◌≤◌, ◌≡◌, refl, ◌⊎◌, List, length}
+use Rattle.std.specs.Prelude.{ℕ, ◌≤◌, ◌≡◌, refl, ◌⊎◌, List, length, Result, Ok, Err}
 use Rattle.std.proofs.Math.Option.{Option, some, none}
 use Rattle.std.proofs.Common.{inl, inr, arith}
 use Rattle.refusal.specs.declared.Refusal.{Refusal}
 use Rattle.refusal.specs.declared.Refusal.TheVariants.{NoReading}
-use Rattle.refusal.specs.declared.Checked.{Checked}
-use Rattle.refusal.specs.declared.Checked.TheVariants.{Passed, Refused}
 use Rattle.refusal.specs.Number.{number_of}
 use Rattle.refusal.specs.Verdict.{Verdict, passed, refused, first_refusal}
 use Rattle.ctc.specs.Collapse.{collapse}
@@ -50,9 +48,9 @@ module _ (A s : List ℕ) (M : Matrix) (output : List ℕ) where
       by none g e = inl (record { refusal = NoReading; line = e })
       by (some p) g e = inr (record { few = c; narrow = w; path = p; is = g.qualifies.path; lines = e })
 
-  checked_printed : (k : Checked) → (k ≡ Passed → (M.count ≤ 255) × (M.width ≤ 96)) → PrintsChecked k A s M output → Printed
-  checked_printed (Refused n) f h = inl (record { refusal = n; line = h })
-  checked_printed Passed f h = outcome_printed (f refl).0 (f refl).1 h
+  checked_printed : (k : Result (Unit {0}) Refusal) → (k ≡ Ok tt → (M.count ≤ 255) × (M.width ≤ 96)) → PrintsChecked k A s M output → Printed
+  checked_printed (Err n) f h = inl (record { refusal = n; line = h })
+  checked_printed (Ok _) f h = outcome_printed (f refl).0 (f refl).1 h
 
   compiled_printed : (v : Verdict (List ℕ)) → compile_call A s form_room ≡ v → PrintsCompiled v A s M output → Printed
   compiled_printed (refused n) e h = inl (record { refusal = n; line = h })

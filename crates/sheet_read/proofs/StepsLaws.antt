@@ -1,5 +1,5 @@
 -- From what Read promises to what is printed.
-use Rattle.std.specs.Prelude.{ℕ, ◌≤◌, ◌≡◌, refl, List, length, take}
+use Rattle.std.specs.Prelude.{ℕ, ◌≤◌, ◌≡◌, refl, List, length, take, Result, Ok, Err}
 use Rattle.std.proofs.Common.{sym, ap, ◌∙◌, subst, arith}
 use Rattle.std.proofs.Math.Option.{Option, some, none}
 use Rattle.std.proofs.lemmas.List.{length-map}
@@ -7,8 +7,6 @@ use Rattle.lists.proofs.WrittenLaws.{take_written, written_fits}
 use Rattle.lists.specs.Memory.{written}
 use Rattle.refusal.specs.declared.Refusal.{Refusal}
 use Rattle.refusal.specs.declared.Refusal.TheVariants.{NoReading}
-use Rattle.refusal.specs.declared.Checked.{Checked}
-use Rattle.refusal.specs.declared.Checked.TheVariants.{Passed, Refused}
 use Rattle.refusal.specs.Number.{number_of}
 use Rattle.refusal.proofs.NumberLaws.{number_between}
 use Rattle.refusal.specs.Verdict.{Verdict, passed, refused, first_refusal}
@@ -17,7 +15,6 @@ use Rattle.refusal.specs.Report.{Report, turned_away}
 use Rattle.answers.specs.Decoded.{read}
 use Rattle.answers.specs.Reading.{reported}
 use Rattle.answers.specs.declared.Reading.{Reading}
-use Rattle.answers.specs.declared.Reading.TheVariants as answer
 use Rattle.ctc.specs.Collapse.{collapse}
 use Rattle.automaton.specs.Form.{letters_of}
 use Rattle.matrix.specs.Matrix.{Matrix, price}
@@ -70,10 +67,10 @@ module _ (A s : List ℕ) (M : Matrix) (before after : Lent) (answer : Report) w
       by (some b) h e u v = best b k h.qualifies.path.one_each e u v (record { outcome = some b; is = h; lines = refl })
 
   said_checked :
-      (c : Checked) (k need : ℕ) → Checks turned_away c (Answers (WordsOf A s) (characters A) k M need) before after answer
+      (c : Result (Unit {0}) Refusal) (k need : ℕ) → Checks turned_away c (Answers (WordsOf A s) (characters A) k M need) before after answer
       → Said (PrintsChecked c A s M) A M before after answer
-  said_checked (Refused n) k need h = away n h.0 refl
-  said_checked Passed k need h = said_outcome k need h
+  said_checked (Err n) k need h = away n h.0 refl
+  said_checked (Ok _) k need h = said_outcome k need h
 
   said_compiled : rooms before ≡ lent_rooms → (v : Verdict (List ℕ)) → ReadsBy v A s M before after answer → Said (PrintsCompiled v A s M) A M before after answer
   said_compiled e (refused n) h = away n h.0 refl
@@ -113,10 +110,10 @@ module _ (Printed : List ℕ → Type 0) (A : List ℕ) (M : Matrix) (before aft
       }
 
   -- Read's answer can be printed, and its lines are those that are to be printed
-  pub said_shown : (r : Reading) → Said Printed A M before after (reported r) → Shown r M.count after.path after.word
-  said_shown (answer.Path p n k) s = let b = said_best p n k s in (b.word_fits, b.path_fits)
-  said_shown (answer.Refused n) s = tt
+  pub said_shown : (r : Result Reading Refusal) → Said Printed A M before after (reported r) → Shown r M.count after.path after.word
+  said_shown (Ok r) s = let b = said_best r.price r.length r.form s in (b.word_fits, b.path_fits)
+  said_shown (Err n) s = tt
 
-  pub said_lines : (r : Reading) → Said Printed A M before after (reported r) → Printed (answer_lines r M.count after.path after.word)
-  said_lines (answer.Path p n k) s = (said_best p n k s).prints
-  said_lines (answer.Refused n) s = said_away n s
+  pub said_lines : (r : Result Reading Refusal) → Said Printed A M before after (reported r) → Printed (answer_lines r M.count after.path after.word)
+  said_lines (Ok r) s = (said_best r.price r.length r.form s).prints
+  said_lines (Err n) s = said_away n s

@@ -1,10 +1,9 @@
 -- What the sheet program prints for an alphabet, a text and a matrix (document 01, "Confidences and the sheet program" and "What is turned
 -- away"): "the lowest number", and past the checks the best reading, or 16 if there is none. Of memory only lengths occur.
-use Rattle.std.specs.Prelude.{ℕ, ◌≡◌, List, length}
+use Rattle.std.specs.Prelude.{ℕ, ◌≡◌, List, length, Result, Ok, Err}
+use Rattle.refusal.specs.declared.Refusal.{Refusal}
 use Rattle.std.proofs.Math.Option.{Option, some, none}
 use Rattle.refusal.specs.declared.Refusal.TheVariants as refusal
-use Rattle.refusal.specs.declared.Checked.{Checked}
-use Rattle.refusal.specs.declared.Checked.TheVariants.{Passed, Refused}
 use Rattle.refusal.specs.Number.{number_of}
 use Rattle.refusal.specs.Verdict.{Verdict, passed, refused, first_refusal}
 use Rattle.ctc.specs.Collapse.{collapse}
@@ -40,9 +39,9 @@ pub record PrintsOutcome (A s : List ℕ) (M : Matrix) (output : List ℕ) : Typ
   pub lines : output ≡ outcome_lines A M outcome
 
 -- refusals 12 to 15
-abbrev pub PrintsChecked : Checked → (A s : List ℕ) (M : Matrix) (output : List ℕ) → Type 0
-PrintsChecked (Refused n) A s M output = output ≡ refusal_line (number_of n)
-PrintsChecked Passed A s M output = PrintsOutcome A s M output
+abbrev pub PrintsChecked : Result (Unit {0}) Refusal → (A s : List ℕ) (M : Matrix) (output : List ℕ) → Type 0
+PrintsChecked (Err n) A s M output = output ≡ refusal_line (number_of n)
+PrintsChecked (Ok _) A s M output = PrintsOutcome A s M output
 
 -- refusals 1 to 10 and 19
 abbrev pub PrintsCompiled : Verdict (List ℕ) → (A s : List ℕ) (M : Matrix) (output : List ℕ) → Type 0
