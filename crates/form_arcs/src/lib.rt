@@ -48,7 +48,7 @@ pub fn equal_arcs(arcs: &Arcs) -> [bool; 128]
     same
 }
 
-// Writes the letters that may be first to the front of the list, and returns their number.
+// Writes the letters that may be first to the front of the list, and returns their number. The list is lent and of fixed size: no heap.
 pub fn list_firsts(form: Form, list: &mut [u8; 128]) -> usize
     requires { length list.old ≡ 128 }
     ensures { Firsts form.entry.words.now list.new result }
@@ -63,7 +63,7 @@ pub fn list_firsts(form: Form, list: &mut [u8; 128]) -> usize
     n
 }
 
-// Memory for the targets of a form, which has at most 16,257 words. What it holds is not promised.
+// Memory for the targets of a form, which has at most 16,257 words: fixed memory, no heap. What it holds is not promised.
 pub fn no_targets() -> [u8; 16384]
     ensures { length result ≡ 16384 }
 {

@@ -54,7 +54,7 @@ fn are_arcs(l: u32, words: &[u32]) -> bool
     pass
 }
 
-// Is the list a valid form?
+// Is the list a valid form? (Public and named in docs/TRACE.md, so it stays a test; `checked` gives the form.)
 #[tactic(auto, using(crate::specs::ChecksLaws::valid_empty, crate::specs::ChecksLaws::valid_head, crate::specs::ChecksLaws::valid_short))]
 pub fn valid(form: &[u32]) -> bool
     ensures { result ≡ valid_form form.now }

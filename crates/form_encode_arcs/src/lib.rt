@@ -31,7 +31,8 @@ fn count_letter_arcs(letters: usize, targets: &[bool]) -> usize
     n
 }
 
-// How many arcs there are.
+// How many arcs there are. Letters and followers stay two parameters: a struct of all arrays would ask for labels too, which these calls
+// do without.
 pub fn count_arcs(letters: usize, follow: &[[bool; 127]]) -> usize
     requires { (letters ≤ 127) × (letters ≤ length follow.now) }
     ensures { (result ≡ length (arcs_by letters follow.now)) × (result ≤ 16129) }

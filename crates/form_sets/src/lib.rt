@@ -1,4 +1,5 @@
-// Sets of letters, with 0 for 'no letter yet': the set after one more label, and whether a word may end there.
+// Sets of letters, with 0 for 'no letter yet': the set after one more label, and whether a word may end there. A set is an array of fixed
+// size: no heap.
 #![tactic(auto)]
 
 ghost use Rattle.std.specs.Prelude.{◌≡◌, ◌↔◌, true, ◌<◌, ◌≤◌, length};
