@@ -25,6 +25,7 @@ fn same_targets(form: Form, a: usize, b: usize, n: usize) -> bool
 }
 
 // Has letter i the arcs of the letter before it?
+#[tactic(auto, using(crate::specs::EqualLaws::starts_rise))]
 fn as_before(arcs: &Arcs, i: usize) -> bool
     requires { (2 ≤ i) × (i ≤ letters_of arcs.now.form.words.now) }
     ensures { Decides (SameArcs arcs.now.form.words.now arcs.now.starts i) result }

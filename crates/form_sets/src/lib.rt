@@ -68,6 +68,7 @@ pub fn advance(arcs: &Arcs, set: [bool; 128], x: usize) -> [bool; 128]
 }
 
 // May a word end after one of the set?
+#[tactic(auto, using(automaton::proofs::ValidLaws::ends_letter))]
 pub fn some_may_end(form: Form, set: [bool; 128]) -> bool
     ensures { (result ≡ true) ↔ EndsIn (view form.entry.words.now) set }
 {
