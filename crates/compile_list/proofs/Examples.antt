@@ -2,8 +2,7 @@
 use Rattle.std.specs.Prelude.{ℕ, ◌≡◌, refl, Bool, true, false, ◌&&◌, length, replicate, eqb}
 use Prim.Native.String.{String}
 use mathlib.Core.List.{List, [], ◌∷◌, map, flat_map}
-use Rattle.lists.specs.Lists.{any, keep, numbers}
-use Rattle.lists.specs.Each.{all}
+use Rattle.lists.specs.Lists.{keep, numbers}
 use Rattle.refusal.specs.Number.{number_of}
 use Rattle.refusal.specs.Verdict.{Verdict, passed, refused, unless, if_passed}
 use Rattle.automaton.specs.Form.{encode}

@@ -1,14 +1,8 @@
 -- `compile_list::rows_after` meets its contract: the letters before i have their rows.
-use Prim.Native.Nat.{◌≤◌, ◌-◌}
-use mathlib.Core.Path.{◌≡◌}
-use mathlib.Core.List.{[]}
-use lib.ListN.{length}
+use Rattle.std.proofs.Common.{[], false, replicate}
 use Rattle.lists.proofs.UptoLoops.{Upto}
 use Rattle.compile_list.specs.FollowRows.{Followers}
 use Rattle.compile_list.proofs.rows_after.Given as goal
 
 abbrev pub invariant-loop-i : goal.invariant-loop-i
-invariant-loop-i l = (l.i ≤ l.letters) × (length l.initial.r ≡ 127) × Upto [] (Followers l.letters l.parents l.heads) l.initial.r l.i l.r
-
-abbrev pub decreases-loop-i : goal.decreases-loop-i
-decreases-loop-i l = l.letters - l.i
+invariant-loop-i l = Upto [] (Followers 127 l.parents l.heads) (replicate 127 (replicate 127 false)) l.i l.rows
