@@ -52,6 +52,7 @@ impl<'a> Form<'a> {
     }
 
     // May letter j be first?
+    #[tactic(auto, using(automaton::proofs::ValidLaws::may_be_first))]
     pub fn may_be_first(self, j: usize) -> bool
         requires { (1 ≤ j) × (j ≤ letters_of self.words.now) }
         ensures { result ≡ follow_of self.entry.words.now 0 j }
@@ -60,6 +61,7 @@ impl<'a> Form<'a> {
     }
 
     // May a word end after letter i, or be empty if i is 0?
+    #[tactic(auto, using(automaton::proofs::ValidLaws::may_be_last, automaton::proofs::ValidLaws::accepts_empty))]
     pub fn may_end(self, i: usize) -> bool
         requires { i ≤ letters_of self.words.now }
         ensures { result ≡ ends_of self.entry.words.now i }
@@ -85,63 +87,4 @@ impl<'a> Form<'a> {
     {
         (self.words[n] % 0x100) as usize
     }
-}
-
-// L, the number of letters.
-pub fn letters(form: &[u32]) -> usize
-    requires { 0 < length form.now }
-    ensures { result ≡ letters_of form.now }
-{
-    (form[0] % 0x100) as usize
-}
-
-// K, the size of the alphabet.
-pub fn alphabet(form: &[u32]) -> usize
-    requires { 0 < length form.now }
-    ensures { result ≡ alphabet_of form.now }
-{
-    (form[0] / 0x10000 % 0x100) as usize
-}
-
-// The label of letter j.
-pub fn label(form: &[u32], j: usize) -> usize
-    requires { j < length form.now }
-    ensures { result ≡ label_of form.now j }
-{
-    (form[j] % 0x100) as usize
-}
-
-// May letter j be first?
-pub fn may_be_first(form: &[u32], j: usize) -> bool
-    requires { (1 ≤ j) × (j ≤ letters_of form.now) × (letters_of form.now < length form.now) }
-    ensures { result ≡ follow_of form.now 0 j }
-{
-    form[j] / 0x100 % 2 == 1
-}
-
-// May a word end after letter i, or be empty if i is 0?
-pub fn may_end(form: &[u32], i: usize) -> bool
-    requires { (i ≤ letters_of form.now) × (letters_of form.now < length form.now) }
-    ensures { result ≡ ends_of form.now i }
-{
-    if i == 0 {
-        return form[0] / 0x100 % 2 == 1;
-    }
-    form[i] / 0x200 % 2 == 1
-}
-
-// The source of the arc word at n.
-pub fn source(form: &[u32], n: usize) -> usize
-    requires { n < length form.now }
-    ensures { result ≡ source_of (get_or form.now n 0) }
-{
-    (form[n] / 0x100 % 0x100) as usize
-}
-
-// The target of the arc word at n.
-pub fn target(form: &[u32], n: usize) -> usize
-    requires { n < length form.now }
-    ensures { result ≡ target_of (get_or form.now n 0) }
-{
-    (form[n] % 0x100) as usize
 }
