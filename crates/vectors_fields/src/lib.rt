@@ -7,21 +7,18 @@ ghost use Rattle.lists.specs.Stored.{Stored};
 ghost use Rattle.vectors_fields.specs.Fields.{field_of, numbers_of, size_of, low, labels_of, Counts, ended, onward};
 
 use matrix::BARRED;
-use numbers::wide_word;
 
 // Where field k begins: after the k-th tab, or at the end.
 fn start(line: &[u8], k: usize) -> usize
     ensures { (result ≤ length line.now) × (field_of (drop result line.now) 0 ≡ field_of line.now k) }
 {
     let mut at = 0;
-    let mut i = 0;
-    while i < k {
+    for i in 0..k {
         at = text::find(line, at, b'\t');
         if at == line.len() {
             return at;
         }
         at += 1;
-        i += 1;
     }
     at
 }
@@ -40,20 +37,14 @@ fn longer(v: u32, hexadecimal: bool, b: u8) -> u32
     ensures { result ≡ onward hexadecimal v b }
 {
     let w = v % 268435456;
-    let d = (b % 16) as u32;
-    if b == b' ' {
-        return 0;
+    let d = u32::from(b % 16);
+    match b {
+        b' ' => 0,
+        b'-' => BARRED,
+        _ if !hexadecimal => 10 * w + d,
+        65.. => 16 * w + (d + 9) % 16,
+        _ => 16 * w + d,
     }
-    if b == b'-' {
-        return BARRED;
-    }
-    if !hexadecimal {
-        return 10 * w + d;
-    }
-    if 64 < b {
-        return 16 * w + (d + 9) % 16;
-    }
-    16 * w + d
 }
 
 // Appends the number v to the list if the byte b ends it and there is room, and returns how many the list has.
@@ -62,10 +53,7 @@ fn push(list: &mut [u32], n: usize, v: u32, b: u8) -> usize
     ensures stored { Stored (take (length list.old - n) (ended b v)) n list.old list.new result }
     ensures upper_bound { result ≤ length list.new }
 {
-    if b != b' ' {
-        return n;
-    }
-    if n == list.len() {
+    if b != b' ' || n == list.len() {
         return n;
     }
     list[n] = v;
@@ -80,13 +68,11 @@ pub fn numbers(field: &[u8], hexadecimal: bool, list: &mut [u32]) -> usize
     if field.len() == 0 {
         return 0;
     }
-    let mut i = 0;
     let mut n = 0;
     let mut v = 0;
-    while i < field.len() {
-        n = push(list, n, v, field[i]);
-        v = longer(v, hexadecimal, field[i]);
-        i += 1;
+    for b in field {
+        n = push(list, n, v, *b);
+        v = longer(v, hexadecimal, *b);
     }
     push(list, n, v, b' ')
 }
@@ -96,22 +82,18 @@ pub fn size(field: &[u8]) -> usize
     ensures { result ≡ size_of field.now }
 {
     if text::peek(field, 0) == b'-' {
-        return 18446744073709551615;
+        return usize::MAX;
     }
     let mut list = [0u32; 1];
     numbers(field, false, &mut list);
-    wide_word(list[0])
+    list[0] as usize
 }
 
 // The first number of a field, at most `most`: a length of memory.
 pub fn room(field: &[u8], most: usize) -> usize
     ensures { (result ≡ min (size_of field.now) most) × (result ≤ most) }
 {
-    let n = size(field);
-    if n < most {
-        return n;
-    }
-    most
+    size(field).min(most)
 }
 
 // Writes the first n numbers as bytes, as many as there is room for, and returns how many.
@@ -120,15 +102,11 @@ fn narrow(list: &[u32], n: usize, bytes: &mut [u8]) -> usize
     ensures wrote { Wrote (take (length bytes.old) (map low (take n list.now))) bytes.old bytes.new result }
     ensures upper_bound { result ≤ length bytes.new }
 {
-    let mut i = 0;
-    while i < n {
-        if i == bytes.len() {
-            return i;
-        }
+    let count = n.min(bytes.len());
+    for i in 0..count {
         bytes[i] = (list[i] % 256) as u8;
-        i += 1;
     }
-    i
+    count
 }
 
 // Writes the first 256 numbers of a field as bytes, as many as there is room for, and returns how many.

@@ -1,11 +1,6 @@
 -- `vectors_fields::narrow` meets its contract: as many numbers as the loop has passed are written as bytes.
-use Prim.Native.Nat.{◌-◌, ◌≤◌}
-use lib.ListN.{length}
 use Rattle.vectors_fields.specs.NarrowLoops.{Narrowed}
 use Rattle.vectors_fields.proofs.narrow.Given as goal
 
 abbrev pub invariant-loop-i : goal.invariant-loop-i
-invariant-loop-i l = (l.i ≤ l.n) × (l.i ≤ length l.bytes) × Narrowed l.list l.n l.initial.bytes l.bytes l.i
-
-abbrev pub decreases-loop-i : goal.decreases-loop-i
-decreases-loop-i l = l.n - l.i
+invariant-loop-i l = Narrowed l.list l.n l.initial.bytes l.bytes l.i

@@ -9,4 +9,4 @@ returns c =
     let numbers = c.numbers in
     let f = c.args.field.now in
     let other = ne_eqb (get_or f 0 0) 45 (λ e. c.if-peek-eq45.false (c.peek.ensures ∙ e)) in
-    rw other (c.wide_word.ensures ∙ ap (λ l. get_or l 0 0) numbers.ensures.wrote.memory ∙ first_number (numbers_of false f))
+    rw other (ap (λ l. get_or l 0 0) numbers.ensures.wrote.memory ∙ first_number (numbers_of false f))

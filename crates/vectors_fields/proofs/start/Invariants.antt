@@ -7,6 +7,3 @@ use Rattle.vectors_fields.proofs.start.Given as goal
 
 abbrev pub invariant-loop-i : goal.invariant-loop-i
 invariant-loop-i l = (l.at ≤ length l.line) × (l.i ≤ l.k) × (field_of (drop l.at l.line) (l.k - l.i) ≡ field_of l.line l.k)
-
-abbrev pub decreases-loop-i : goal.decreases-loop-i
-decreases-loop-i l = l.k - l.i
