@@ -13,13 +13,21 @@ pub fn hand<C: Copy>(answer: Result<C, Refusal>, none: C, handed: &mut C) -> u32
     ensures number { result ≡ number_or_zero answer }
     ensures counts { handed.new ≡ counts_or none answer }
 {
-    *handed = answer.unwrap_or(none);
-    hand_number(answer)
+    match answer {
+        Ok(counts) => {
+            *handed = counts;
+            0
+        }
+        Err(r) => {
+            *handed = none;
+            r.into()
+        }
+    }
 }
 
-// The number of an answer alone, where the caller knows its counts.
-pub fn hand_number<C: Copy>(answer: Result<C, Refusal>) -> u32
-    ensures { result ≡ number_or_zero answer }
+// The number of a call that fills one list, where the caller knows the length.
+pub fn hand_number(answer: Result<usize, Refusal>) -> u32
+    ensures { result ≡ (reported answer).number }
 {
     match answer {
         Ok(_) => 0,
