@@ -24,7 +24,8 @@ fn count_letter_arcs(letters: usize, targets: &[bool]) -> usize
 {
     let mut n = 0;
     for j in 1..letters + 1 {
-        if targets[j - 1] {
+        let there = targets[j - 1];
+        if there {
             n += 1;
         }
     }

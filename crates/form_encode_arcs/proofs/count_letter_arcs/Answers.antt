@@ -2,16 +2,16 @@
 use Rattle.std.proofs.Common.{arith}
 use Rattle.form_encode_arcs.specs.Loops.{count_here, count_past}
 use Rattle.form_encode_arcs.proofs.count_letter_arcs.Goals as goal
-use Rattle.form_encode_arcs.proofs.count_letter_arcs.Goals.{then-targets-j, else-targets-j}
+use Rattle.form_encode_arcs.proofs.count_letter_arcs.Goals.{then-there, else-there}
 
 pub loop-j-preserved : goal.loop-j-preserved
 loop-j-preserved c =
     let s = c.args in
     let l = c.loop-j in
     let t = count_here s.letters s.targets.now l.j (omega arith) in
-    elim c.if-targets-j.branch [
-      | then-targets-j w ↦ let u = rw w.if-targets-j.true at t in let e = w.n-is in (omega arith, omega arith)
-      | else-targets-j w ↦ let u = rw w.if-targets-j.false at t in let e = w.n-is in (omega arith, omega arith)
+    elim c.if-there.branch [
+      | then-there w ↦ let u = rw w.if-there.true at t in let e = w.n-is in (omega arith, omega arith)
+      | else-there w ↦ let u = rw w.if-there.false at t in let e = w.n-is in (omega arith, omega arith)
     ]
 
 pub returns : goal.returns
