@@ -10,56 +10,10 @@ ghost use Rattle.comparison.specs.Comparison.{reported};
 ghost use Rattle.comparison.specs.Promise.{Compares};
 
 use compare_valid::compare_valid;
-use comparison::Compared;
 use decode_checks::check_matrix;
-use form_check::valid;
-use form_words::{alphabet, letters};
+use form_check::checked;
 use matrix::{Matrix, matrix_of};
-use numbers::greatest_size;
-use refusal::{Checked, Refusal};
-
-// The first of refusals 11, 12, 13 and 15 that applies to two forms and a matrix; `room` is the length of the work memory. No path and no
-// word memory is lent: `check_matrix` gets T as both lengths, so 14 never applies.
-fn check_both(
-    first: &[u32],
-    second: &[u32],
-    costs: &[u32],
-    width: usize,
-    count: usize,
-    room: usize,
-) -> Checked
-    ensures { result ≡ first_refusal (compare_checks first.now second.now (matrix costs.now width count) room) }
-{
-    if !valid(first) {
-        return Checked::Refused(Refusal::BadForm);
-    }
-    if !valid(second) {
-        return Checked::Refused(Refusal::BadForm);
-    }
-    let k = alphabet(first);
-    if alphabet(second) != k {
-        return Checked::Refused(Refusal::Matrix);
-    }
-    let l = greatest_size(letters(first), letters(second));
-    check_matrix(k, l, costs, width, count, count, count, room)
-}
-
-// The work of Compare: the first refusal that applies, or the answer past the checks.
-fn compare_parts(
-    first: &[u32],
-    second: &[u32],
-    costs: &[u32],
-    width: usize,
-    count: usize,
-    work: &mut [u32],
-) -> Compared
-    ensures { Compares first.now second.now (matrix costs.now width count) work.old work.new (reported result) }
-{
-    match check_both(first, second, costs, width, count, work.len()) {
-        Checked::Refused(r) => Compared::Refused(r),
-        Checked::Passed => compare_valid(first, second, costs, width, count, work),
-    }
-}
+use refusal::Refusal;
 
 // Document 02's Compare. Each form is asked for its cheapest path over the matrix, as Decode says; no path or word is written.
 // - On success it returns the first form's price less the second's: negative where the first is cheaper.
@@ -71,17 +25,29 @@ fn compare_parts(
 //
 // `Compares` is this promise. Where the forms are exchanged, the difference changes its sign, and no refusal changes (`exchange` in
 // comparison/ExchangeLaws).
-pub fn compare_matrix(first: &[u32], second: &[u32], matrix: Matrix, work: &mut [u32]) -> Compared
+#[tactic(auto, unfolding(refusal::specs::Verdict::first_refusal))]
+pub fn compare_matrix(
+    first: &[u32],
+    second: &[u32],
+    matrix: Matrix,
+    work: &mut [u32],
+) -> Result<i32, Refusal>
     ensures { Compares first.now second.now (value matrix.entry) work.old work.new (reported result) }
 {
-    compare_parts(
-        first,
-        second,
-        matrix.costs,
-        matrix.width,
-        matrix.count,
-        work,
-    )
+    let Some(first) = checked(first) else {
+        return Err(Refusal::BadForm);
+    };
+    let Some(second) = checked(second) else {
+        return Err(Refusal::BadForm);
+    };
+    let k = first.alphabet();
+    if second.alphabet() != k {
+        return Err(Refusal::Matrix);
+    }
+    // No path and no word memory is lent: T is given as both lengths, so 14 never applies.
+    let l = first.letters().max(second.letters());
+    check_matrix(k, l, matrix, matrix.count, matrix.count, work.len())?;
+    compare_valid(first, second, matrix, work)
 }
 
 // Compare, as `compare_matrix` says, for a caller that has the matrix by its parts: its costs, one column after another, its column width
@@ -93,7 +59,7 @@ pub fn compare(
     width: usize,
     count: usize,
     work: &mut [u32],
-) -> Compared
+) -> Result<i32, Refusal>
     ensures { Compares first.now second.now (matrix costs.now width count) work.old work.new (reported result) }
 {
     compare_matrix(first, second, matrix_of(costs, width, count), work)

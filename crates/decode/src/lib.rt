@@ -11,43 +11,9 @@ ghost use Rattle.decode.specs.Promise.{Decodes};
 use answers::Decoded;
 use decode_checks::check_matrix;
 use decode_valid::decode_valid;
-use form_check::valid;
-use form_words::{alphabet, letters};
+use form_check::checked;
 use matrix::{Matrix, matrix_of};
-use refusal::{Checked, Refusal};
-
-// The work of Decode: the first refusal that applies, or the answer past the checks.
-fn decode_parts(
-    form: &[u32],
-    costs: &[u32],
-    width: usize,
-    count: usize,
-    path: &mut [u8],
-    word: &mut [u8],
-    work: &mut [u32],
-) -> Decoded
-    ensures { Decodes form.now (matrix costs.now width count) (lent path.old word.old work.old)
-        (lent path.new word.new work.new) (reported result) }
-{
-    if !valid(form) {
-        return Decoded::Refused(Refusal::BadForm);
-    }
-    let k = alphabet(form);
-    let l = letters(form);
-    match check_matrix(
-        k,
-        l,
-        costs,
-        width,
-        count,
-        path.len(),
-        word.len(),
-        work.len(),
-    ) {
-        Checked::Refused(r) => Decoded::Refused(r),
-        Checked::Passed => decode_valid(form, costs, width, count, path, word, work),
-    }
-}
+use refusal::Refusal;
 
 // Document 01's Decode, for a form of L letters over K characters and a matrix of T columns. Of all paths, lists of T labels 0 to K that use
 // no barred label, whose CTC collapse the form accepts, it finds the cheapest, and among equals the first by labels.
@@ -66,19 +32,22 @@ pub fn decode_matrix(
     path: &mut [u8],
     word: &mut [u8],
     work: &mut [u32],
-) -> Decoded
+) -> Result<Decoded, Refusal>
     ensures { Decodes form.now (value matrix.entry) (lent path.old word.old work.old)
         (lent path.new word.new work.new) (reported result) }
 {
-    decode_parts(
-        form,
-        matrix.costs,
-        matrix.width,
-        matrix.count,
-        path,
-        word,
-        work,
-    )
+    let Some(form) = checked(form) else {
+        return Err(Refusal::BadForm);
+    };
+    check_matrix(
+        form.alphabet(),
+        form.letters(),
+        matrix,
+        path.len(),
+        word.len(),
+        work.len(),
+    )?;
+    decode_valid(form, matrix, path, word, work)
 }
 
 // Decode, as `decode_matrix` says, for a caller that has the matrix by its parts: its costs, one column after another, its column width
@@ -91,7 +60,7 @@ pub fn decode(
     path: &mut [u8],
     word: &mut [u8],
     work: &mut [u32],
-) -> Decoded
+) -> Result<Decoded, Refusal>
     ensures { Decodes form.now (matrix costs.now width count) (lent path.old word.old work.old)
         (lent path.new word.new work.new) (reported result) }
 {

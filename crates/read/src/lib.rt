@@ -11,6 +11,7 @@ ghost use Rattle.read_text.specs.Promise.{Reads};
 use answers::Reading;
 use matrix::{Matrix, matrix_of};
 use read_text::read_parts;
+use refusal::Refusal;
 
 // Document 01's Read, for an alphabet of K characters, the text of an expression and a matrix of T columns; the compiled form of the
 // expression has L letters. Of all paths, lists of T labels 0 to K that use no barred label, whose CTC collapse is a word of the expression,
@@ -43,16 +44,14 @@ pub fn read_matrix(
     path: &mut [u8],
     word: &mut [u8],
     work: &mut [u32],
-) -> Reading
+) -> Result<Reading, Refusal>
     ensures { Reads alphabet.now text.now (value matrix.entry) form.old form.new (lent path.old word.old work.old)
         (lent path.new word.new work.new) (reported result) }
 {
     read_parts(
         alphabet,
         text,
-        matrix.costs,
-        matrix.width,
-        matrix.count,
+        matrix,
         form,
         path,
         word,
@@ -72,7 +71,7 @@ pub fn read(
     path: &mut [u8],
     word: &mut [u8],
     work: &mut [u32],
-) -> Reading
+) -> Result<Reading, Refusal>
     ensures { Reads alphabet.now text.now (matrix costs.now width count) form.old form.new
         (lent path.old word.old work.old) (lent path.new word.new work.new) (reported result) }
 {

@@ -1,8 +1,5 @@
 -- `compare_valid::compare_valid` meets its contract: one table, then the other in its place, and the difference of their answers.
-use mathlib.Core.Path.{◌∙◌}
-use mir.Syntax.{w32}
-use mir.ValLaws.{to_z-of_z}
-use borrow.Author.Rules.{sfits_of}
+use Rattle.std.proofs.Common.{rules}
 use Rattle.compare_valid.specs.TablesLaws.{sized_first, sized_second, nothing_first, nothing_second, both}
 use Rattle.compare_valid.proofs.compare_valid.Goals as goal
 
@@ -29,5 +26,4 @@ returns c =
     let two = c.fill-q in
     let p = c.if-p-ge-TOP.false in
     let q = c.if-q-ge-TOP.false in
-    both c.args.work.now c.requires one.ensures one.auto.work two.ensures two.auto.work p q
-    (to_z-of_z w32 c.difference.result (sfits_of c.difference.type_inv) ∙ c.difference.ensures)
+    both c.args.work.now c.requires one.ensures one.auto.work two.ensures two.auto.work p q (search rules)
