@@ -24,11 +24,11 @@ pub fn compare_valid(
     ensures { CompareAnswers first.entry.words.now second.entry.words.now (value matrix.entry) work.old work.new
         (reported result) }
 {
-    let p = fill(first.words, matrix.costs, matrix.width, matrix.count, work);
+    let p = fill(first, matrix, work);
     if trellis_table::TOP <= p {
         return Err(Refusal::NoReading);
     }
-    let q = fill(second.words, matrix.costs, matrix.width, matrix.count, work);
+    let q = fill(second, matrix, work);
     if trellis_table::TOP <= q {
         return Err(Refusal::NoReading);
     }

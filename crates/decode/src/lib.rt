@@ -26,6 +26,7 @@ use refusal::Refusal;
 // Success and refusal 16 may change these (T + 1) × (2L + 1) words. Memory after them, and after what is written, is as it was.
 //
 // `Decodes` is this promise; specs/Demands.antt has what it means for a caller, as theorems.
+#[tactic(auto, unfolding(refusal::specs::Verdict::first_refusal))]
 pub fn decode_matrix(
     form: &[u32],
     matrix: Matrix,

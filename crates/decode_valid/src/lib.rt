@@ -27,11 +27,11 @@ pub fn decode_valid(
         (lent path.new word.new work.new) (reported result) }
 {
     let stride = 2 * form.letters() + 1;
-    let price = trellis_table::fill(form.words, matrix.costs, matrix.width, matrix.count, work);
+    let price = trellis_table::fill(form, matrix, work);
     if trellis_table::TOP <= price {
         return Err(Refusal::NoReading);
     }
-    trellis_trace::trace(form.words, matrix.costs, matrix.width, matrix.count, work, 0, stride, path);
+    trellis_trace::trace(form, matrix, work, 0, stride, path);
     let length = ctc_collapse::write_collapse(&path[..matrix.count], word);
     Ok(Decoded { price, length })
 }

@@ -2,7 +2,7 @@
 use Rattle.std.proofs.Common.{length, sym, ap, ◌∙◌, subst}
 use Rattle.refusal.specs.Verdict.{first_refusal}
 use Rattle.automaton.specs.Form.{letters_of}
-use Rattle.matrix.specs.Matrix.{matrix}
+use Rattle.matrix.specs.View.{value}
 use Rattle.decode_checks.specs.Checks.{matrix_checks}
 use Rattle.decode_checks.specs.Passing.{Fits}
 use Rattle.decode_checks.proofs.PassingLaws.{fits}
@@ -12,12 +12,10 @@ use Rattle.read_text.proofs.read_form.Goals as goal
 pub read_valid-requires : goal.read_valid-requires
 read_valid-requires c =
     let a = c.args in
-    let f = a.form.now in
-    let m = matrix a.costs.now a.width a.count in
+    let f = a.form.words.now in
+    let M = value a.matrix in
     let r = rooms (lent a.path.now a.word.now a.work.now) in
-    let told = c.check_matrix.ensures ∙ ap (λ l. first_refusal (matrix_checks (length a.alphabet.now) l m r)) c.letters-l.ensures in
-    let e = c.requires.1 in (
-      c.requires.0,
-      subst (λ k. Fits k (letters_of f) m r) (sym e) (fits (length a.alphabet.now) (letters_of f) m r (sym told ∙ c.in-Passed.is)),
-      e,
-    )
+    let passed =
+        ap (λ l. first_refusal (matrix_checks (length a.alphabet.now) l M r)) (sym c.letters.ensures) ∙ sym c.check_matrix.ensures
+        ∙ c.in_ok-check_matrix.was in
+    (subst (λ k. Fits k (letters_of f) M r) (sym c.requires) (fits (length a.alphabet.now) (letters_of f) M r passed), c.requires)
