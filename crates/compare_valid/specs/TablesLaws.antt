@@ -7,7 +7,7 @@ use Rattle.lists.proofs.OutsideLaws.{outside_then, outside_wider}
 use Rattle.refusal.specs.declared.Refusal.TheVariants.{NoReading}
 use Rattle.automaton.specs.Automaton.{Accepts}
 use Rattle.automaton.specs.Form.{letters_of, view}
-use Rattle.automaton.proofs.ValidLaws.{valid_at, view_proper}
+use Rattle.automaton.proofs.ValidLaws.{view_proper}
 use Rattle.matrix.specs.Matrix.{Matrix}
 use Rattle.outcome.specs.Outcome.{Outcome}
 use Rattle.trellis.specs.Impossible.{TOP}
@@ -47,12 +47,12 @@ module _ {f g : List ℕ} {M : Matrix} (before : List ℕ) (fits : FitsBoth f g 
 
   -- there is room for each table
   pub sized_first : Sized f M before (states f)
-  sized_first = record { valid = valid_at f fits.first; width = fits.wide_first; size = fits.full; row = omega arith; room = room_for (letters_of f) (omega arith) }
+  sized_first = record { width = fits.wide_first; size = fits.full; row = omega arith; room = room_for (letters_of f) (omega arith) }
 
   pub sized_second : {work : List ℕ} → length work ≡ length before → Sized g M work (states g)
   sized_second e =
       let r = room_for (letters_of g) (omega arith) in
-      record { valid = valid_at g fits.second; width = fits.wide_second; size = fits.full; row = omega arith; room = omega arith }
+      record { width = fits.wide_second; size = fits.full; row = omega arith; room = omega arith }
 
   one : (o : Option (List ℕ)) × Outcome (Accepts (view f)) M o
   one = outcome_exists (view_proper f fits.first) M

@@ -25,7 +25,7 @@ use Rattle.decode_valid.specs.Lent.{Lent, rooms}
 
 module _ {f : List ℕ} (valid : Valid f) {M : Matrix} (before : Lent) (fits : Fits (alphabet_of f) (letters_of f) M (rooms before)) where
   pub sized : Sized f M before.work (states f)
-  sized = record { valid = valid; width = fits.wide; size = fits.full; row = omega arith; room = fits.work }
+  sized = record { width = fits.wide; size = fits.full; row = omega arith; room = fits.work }
 
   module _ {work : List ℕ} {v : ℕ} (filled : Filled f M before.work work v) where
     -- there is nothing to read
