@@ -34,50 +34,6 @@ pub fn is_reserved(inside: &[u8]) -> bool
     false
 }
 
-// Is the item here a range?
-#[tactic(auto, using(crate::specs::ItemAtLaws::ranges_not, crate::specs::ItemAtLaws::ranges_by))]
-fn is_range(text: &[u8], at: usize) -> bool
-    requires { at < length text.now }
-    ensures { result ≡ ranges (drop at text.now) }
-{
-    peek(text, at + 1) == b'-' && peek(text, at + 2) != b']'
-}
-
-// The last byte of the item here, if it is no class.
-#[tactic(auto, using(crate::specs::ItemAtLaws::upto_range_at, crate::specs::ItemAtLaws::upto_one_at))]
-fn upto(text: &[u8], at: usize) -> u8
-    requires { at < length text.now }
-    ensures { result ≡ upto_of (drop at text.now) }
-{
-    if is_range(text, at) {
-        peek(text, at + 2)
-    } else {
-        text[at]
-    }
-}
-
-// Where the item here ends.
-#[tactic(auto, using(crate::specs::ItemsLaws::width_range, crate::specs::ItemsLaws::width_sign))]
-fn item_end(text: &[u8], at: usize) -> usize
-    requires { at < length text.now }
-    ensures { result ≡ at + width (drop at text.now) }
-{
-    if is_range(text, at) {
-        at + 3
-    } else {
-        sign_end(text, at)
-    }
-}
-
-// Is the item here no range, or one that ends in no class and does not descend?
-#[tactic(auto, using(crate::specs::ItemsLaws::range_fits_one, crate::specs::ItemAtLaws::range_fits_class_at, crate::specs::ItemAtLaws::range_fits_by_at))]
-fn range_fits(text: &[u8], at: usize) -> bool
-    requires { at < length text.now }
-    ensures { result ≡ range_fits (drop at text.now) }
-{
-    !is_range(text, at) || (!begins_class(text, at + 2) && text[at] <= peek(text, at + 2))
-}
-
 // May an item that is not just before the closing `]` begin with this byte?
 fn may_begin(first: bool, c: u8) -> bool
     ensures { result ≡ begins first c }
@@ -85,15 +41,92 @@ fn may_begin(first: bool, c: u8) -> bool
     first || c != b'-'
 }
 
-// Is the item allowed here?
-#[tactic(auto, using(crate::specs::ItemsLaws::fits_class, crate::specs::ItemAtLaws::fits_last_at, crate::specs::ItemAtLaws::fits_not_at, crate::specs::ItemAtLaws::fits_by_at))]
-fn item_fits(text: &[u8], first: usize, at: usize) -> bool
-    requires { at < length text.now }
-    ensures { result ≡ fits (eqb at first) (drop at text.now) }
-{
-    begins_class(text, at)
-        || peek(text, at + 1) == b']'
-        || (may_begin(at == first, text[at]) && range_fits(text, at))
+// A place in a text, before its end: where an item begins.
+#[derive(Clone, Copy)]
+struct Place<'a> {
+    text: &'a [u8],
+    at: usize,
+    ghost within: { at < length text.now },
+}
+
+impl<'a> Place<'a> {
+    // Is the item here a range?
+    #[tactic(auto, using(crate::specs::ItemAtLaws::ranges_not, crate::specs::ItemAtLaws::ranges_by))]
+    fn is_range(self) -> bool
+        ensures { result ≡ ranges (drop self.entry.at self.entry.text.now) }
+    {
+        peek(self.text, self.at + 1) == b'-' && peek(self.text, self.at + 2) != b']'
+    }
+
+    // The last byte of the item here, if it is no class.
+    #[tactic(auto, using(crate::specs::ItemAtLaws::upto_range_at, crate::specs::ItemAtLaws::upto_one_at))]
+    fn upto(self) -> u8
+        ensures { result ≡ upto_of (drop self.entry.at self.entry.text.now) }
+    {
+        if self.is_range() {
+            peek(self.text, self.at + 2)
+        } else {
+            self.text[self.at]
+        }
+    }
+
+    // Where the item here ends.
+    #[tactic(auto, using(crate::specs::ItemsLaws::width_range, crate::specs::ItemsLaws::width_sign))]
+    fn item_end(self) -> usize
+        ensures { result ≡ self.entry.at + width (drop self.entry.at self.entry.text.now) }
+    {
+        if self.is_range() {
+            self.at + 3
+        } else {
+            sign_end(self.text, self.at)
+        }
+    }
+
+    // Is the item here no range, or one that ends in no class and does not descend?
+    #[tactic(auto, using(crate::specs::ItemsLaws::range_fits_one, crate::specs::ItemAtLaws::range_fits_class_at, crate::specs::ItemAtLaws::range_fits_by_at))]
+    fn range_fits(self) -> bool
+        ensures { result ≡ range_fits (drop self.entry.at self.entry.text.now) }
+    {
+        !self.is_range()
+            || (!begins_class(self.text, self.at + 2)
+                && self.text[self.at] <= peek(self.text, self.at + 2))
+    }
+
+    // Is the item allowed here?
+    #[tactic(auto, using(crate::specs::ItemsLaws::fits_class, crate::specs::ItemAtLaws::fits_last_at, crate::specs::ItemAtLaws::fits_not_at, crate::specs::ItemAtLaws::fits_by_at))]
+    fn item_fits(self, first: usize) -> bool
+        ensures { result ≡ fits (eqb self.entry.at first) (drop self.entry.at self.entry.text.now) }
+    {
+        begins_class(self.text, self.at)
+            || peek(self.text, self.at + 1) == b']'
+            || (may_begin(self.at == first, self.text[self.at]) && self.range_fits())
+    }
+
+    // Is the item here no class of an unknown name?
+    #[tactic(auto, using(crate::specs::ItemAtLaws::known_class, crate::specs::ItemAtLaws::known_range))]
+    fn item_known(self) -> bool
+        ensures { result ≡ is_some (item_ranges (item (drop self.entry.at self.entry.text.now))) }
+    {
+        !begins_class(self.text, self.at) || is_class(class_name(self.text, self.at))
+    }
+
+    // Is the byte in the range here?
+    fn range_has(self, b: u8) -> bool
+        ensures { result ≡ within (range (get_or self.entry.text.now self.entry.at 0) (upto_of (drop self.entry.at self.entry.text.now))) b }
+    {
+        self.text[self.at] <= b && b <= self.upto()
+    }
+
+    // Is the byte in the item here?
+    #[tactic(auto, using(crate::specs::ItemAtLaws::has_class, crate::specs::ItemAtLaws::has_range))]
+    fn item_has(self, b: u8) -> bool
+        ensures { result ≡ among (listed (item_ranges (item (drop self.entry.at self.entry.text.now)))) b }
+    {
+        if begins_class(self.text, self.at) {
+            return class_has(class_name(self.text, self.at), b);
+        }
+        self.range_has(b)
+    }
 }
 
 // Are all items well formed? The bracket is closed, so the loop ends at its `]`, here and in the functions below. The three stay `while`
@@ -107,21 +140,13 @@ pub fn are_items(text: &[u8], first: usize) -> bool
         if closes(text, first, i) {
             return true;
         }
-        if !item_fits(text, first, i) {
+        let place = Place { text, at: i };
+        if !place.item_fits(first) {
             return false;
         }
-        i = item_end(text, i);
+        i = place.item_end();
     }
     false
-}
-
-// Is the item here no class of an unknown name?
-#[tactic(auto, using(crate::specs::ItemAtLaws::known_class, crate::specs::ItemAtLaws::known_range))]
-fn item_known(text: &[u8], at: usize) -> bool
-    requires { at < length text.now }
-    ensures { result ≡ is_some (item_ranges (item (drop at text.now))) }
-{
-    !begins_class(text, at) || is_class(class_name(text, at))
 }
 
 // Has each class a known name?
@@ -134,32 +159,13 @@ pub fn are_known(text: &[u8], first: usize) -> bool
         if closes(text, first, i) {
             return true;
         }
-        if !item_known(text, i) {
+        let place = Place { text, at: i };
+        if !place.item_known() {
             return false;
         }
-        i = item_end(text, i);
+        i = place.item_end();
     }
     false
-}
-
-// Is the byte in the range here?
-fn range_has(text: &[u8], at: usize, b: u8) -> bool
-    requires { at < length text.now }
-    ensures { result ≡ within (range (get_or text.now at 0) (upto_of (drop at text.now))) b }
-{
-    text[at] <= b && b <= upto(text, at)
-}
-
-// Is the byte in the item here?
-#[tactic(auto, using(crate::specs::ItemAtLaws::has_class, crate::specs::ItemAtLaws::has_range))]
-fn item_has(text: &[u8], at: usize, b: u8) -> bool
-    requires { at < length text.now }
-    ensures { result ≡ among (listed (item_ranges (item (drop at text.now)))) b }
-{
-    if begins_class(text, at) {
-        return class_has(class_name(text, at), b);
-    }
-    range_has(text, at, b)
 }
 
 // Is the byte in some item?
@@ -172,10 +178,11 @@ pub fn has(text: &[u8], first: usize, b: u8) -> bool
         if closes(text, first, i) {
             return false;
         }
-        if item_has(text, i, b) {
+        let place = Place { text, at: i };
+        if place.item_has(b) {
             return true;
         }
-        i = item_end(text, i);
+        i = place.item_end();
     }
     false
 }

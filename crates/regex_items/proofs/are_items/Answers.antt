@@ -14,17 +14,11 @@ returns-then-closes c =
     let l = c.loop-i in
     sym (some_end l.invariant.0 (sym c.closes.ensures ∙ c.if-closes.true)) ∙ l.invariant.1
 
-pub item_fits-requires : goal.item_fits-requires
-item_fits-requires c = c.loop-i-test.true
-
 pub returns-then-not-item_fits : goal.returns-then-not-item_fits
 returns-then-not-item_fits c =
     let l = c.loop-i in
     let inside = sym c.closes.ensures ∙ c.if-closes.false in
     sym (left_spoilt l.invariant.0 inside (sym c.item_fits.ensures ∙ c.if-not-item_fits.true)) ∙ l.invariant.1
-
-pub item_end-i-requires : goal.item_end-i-requires
-item_end-i-requires c = c.loop-i-test.true
 
 pub loop-i-smaller : goal.loop-i-smaller
 loop-i-smaller c =

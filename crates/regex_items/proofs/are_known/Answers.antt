@@ -14,17 +14,11 @@ returns-then-closes c =
     let l = c.loop-i in
     sym (known_end l.invariant.0 (sym c.closes.ensures ∙ c.if-closes.true)) ∙ l.invariant.2
 
-pub item_known-requires : goal.item_known-requires
-item_known-requires c = c.loop-i-test.true
-
 pub returns-then-not-item_known : goal.returns-then-not-item_known
 returns-then-not-item_known c =
     let l = c.loop-i in
     let inside = sym c.closes.ensures ∙ c.if-closes.false in
     sym (unknown_here l.invariant.0 inside l.invariant.1 (sym c.item_known.ensures ∙ c.if-not-item_known.true)) ∙ l.invariant.2
-
-pub item_end-i-requires : goal.item_end-i-requires
-item_end-i-requires c = c.loop-i-test.true
 
 pub loop-i-smaller : goal.loop-i-smaller
 loop-i-smaller c =

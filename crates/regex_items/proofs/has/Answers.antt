@@ -14,17 +14,11 @@ returns-then-closes c =
     let l = c.loop-i in
     sym (among_end l.invariant.0 (sym c.closes.ensures ∙ c.if-closes.true) c.args.b) ∙ l.invariant.2
 
-pub item_has-requires : goal.item_has-requires
-item_has-requires c = c.loop-i-test.true
-
 pub returns-then-item_has : goal.returns-then-item_has
 returns-then-item_has c =
     let l = c.loop-i in
     let inside = sym c.closes.ensures ∙ c.if-closes.false in
     sym (among_here l.invariant.0 inside l.invariant.1 c.args.b (sym c.item_has.ensures ∙ c.if-item_has.true)) ∙ l.invariant.2
-
-pub item_end-i-requires : goal.item_end-i-requires
-item_end-i-requires c = c.loop-i-test.true
 
 pub loop-i-smaller : goal.loop-i-smaller
 loop-i-smaller c =
