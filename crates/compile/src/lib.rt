@@ -21,6 +21,7 @@ fn write(alphabet: &[u8], text: &[u8], form: &mut [u32]) -> Result<usize, Refusa
         (form_call (length alphabet.now) (automaton_of alphabet.now (tree_of_text alphabet.now text.now)) (length form.old))
         (reported result) form.old form.new }
 {
+    // Arrays of a fixed length, with the number of letters in `built`: no heap, and `BuildsWhole` says what is written into lent lists.
     let mut labels = [0u8; 127];
     let mut follow = [[false; 127]; 127];
     let built = positions_build::build(alphabet, text, &mut labels, &mut follow);

@@ -1,6 +1,8 @@
 // Builds the position automaton of a well-formed text as arrays (document 01, "Opening and the compiled form"): the label of each letter,
 // the letters that may follow it, and whether it may be first and last. Letter i is at index i - 1. Each call among alternation, branch,
 // piece and group is further on in the text, or asks for a smaller part or the next copy at the same place.
+// Labels and arcs stay two lent lists: `Buildable` takes any lists that are long enough, and a struct of two `&mut` would be no plainer,
+// since each contract would then have to say that it still lends the same two.
 #![tactic(auto)]
 
 ghost use Rattle.std.specs.Prelude.{◌<◌};
