@@ -1,4 +1,6 @@
 // Prints answers and lists. What is written is compared with the stored output; no contract can speak of it.
+ghost use Rattle.std.specs.Prelude.{◌≡◌, nat_abs};
+
 use std::fmt::Display;
 use std::io;
 use std::io::Write;
@@ -55,11 +57,18 @@ pub fn form(rt: &impl Print, refused: u32, length: u32) -> io::Result<()> {
     }
 }
 
+// A number without its sign, in a function so that a clause says what is printed.
+fn magnitude(d: i32) -> u32
+    ensures { result ≡ nat_abs d }
+{
+    d.unsigned_abs()
+}
+
 // The answer of Compare: the difference also at a refusal.
 pub fn difference(rt: &impl Print, refused: u32, d: i32) -> io::Result<()> {
     if refused != 0 {
         print!(rt; " refused {refused}")?;
     }
     let sign = if d < 0 { " minus" } else { "" };
-    print!(rt; " difference{sign} {}", d.unsigned_abs())
+    print!(rt; " difference{sign} {}", magnitude(d))
 }
