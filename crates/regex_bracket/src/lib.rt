@@ -1,4 +1,5 @@
 // The bracket at a place of a text (document 01, "Brackets"; document 02, T-01): where it ends, and whether a byte is a member.
+// A text and a place stay two parameters: docs/ names these functions at a place of the text, and the place may be the text's end or past it.
 #![tactic(auto)]
 
 ghost use Rattle.std.specs.Prelude.{◌≡◌, true, ◌<◌, ◌≤◌, length, drop};

@@ -1,5 +1,6 @@
 // The letters of a part of the text, counted up to 128: parts joined, repeated, in parentheses; and whether a branch ends, or a repetition
 // begins, at a place (document 01, "Expression text"). The text may have any bytes.
+// A text and a place stay two parameters: docs/ names these functions at a place of the text, and the place may be the text's end or past it.
 #![tactic(auto)]
 
 ghost use Rattle.std.specs.Prelude.{◌≡◌, ◌+◌, ◌*◌, drop};

@@ -131,6 +131,7 @@ impl<'a> Place<'a> {
 
 // Are all items well formed? The bracket is closed, so the loop ends at its `]`, here and in the functions below. The three stay `while`
 // loops: where the next item begins is known only from this one, and an iterator over places would be this same loop in its `next`.
+// They stay three: each stops at another answer, and one loop with a closure would have to say three meanings in one clause.
 pub fn are_items(text: &[u8], first: usize) -> bool
     requires { Closing text.now first first }
     ensures { result ≡ is_some (left text.now first first) }

@@ -1,6 +1,7 @@
 // The checking parser (document 01, "Expression text"): the leftmost of refusals 4 to 8 and 19, or how many letters the expression opens
 // into, counted up to 128. The text may have any bytes. Alternation, branch, piece and group call each other; each call has less text to
 // parse, or the same text and the next closer part.
+// A text and a place stay two parameters: docs/ names these functions at a place of the text, and the place may be the text's end or past it.
 #![tactic(auto)]
 
 ghost use Rattle.std.specs.Prelude.{◌≡◌, drop};

@@ -1,5 +1,6 @@
 // The signs inside a bracket (document 01, "Brackets"; document 02, T-01): a byte, or a class, `[:`, its name and the nearest `:]`. The
 // text may have any bytes.
+// A text and a place stay two parameters: a struct of them is no plainer, since most functions here take a place at the text's end or past it too.
 #![tactic(auto)]
 
 ghost use Rattle.std.specs.Prelude.{◌≡◌, true, ◌+◌, ◌<◌, length, get_or, drop, eqb};
