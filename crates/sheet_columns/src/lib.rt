@@ -22,6 +22,7 @@ pub struct Body {
 }
 
 // Stores the costs of the column line that begins at `at`, from place m of the memory on.
+// (No `for`: where the next cost begins is what `read_cost` answers for this one. The memory is lent, so `filled` says how much is stored.)
 fn store_column(input: &[u8], at: usize, costs: &mut [u32], m: usize) -> Option<Column>
     requires { (at ≤ length input.now) × (m ≤ 16384) × (16384 ≤ length costs.old) }
     ensures { StoredColumn input.now at m costs.old costs.new result }

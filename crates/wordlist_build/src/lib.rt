@@ -13,7 +13,8 @@ use alphabet::count_labels;
 // The prefix tree in arrays: for each letter its label, the character that the label means, its parent, which is the head of what is before
 // it, the head of its own prefix, and whether a word ends with it. The head of a prefix is the number of its first letter, 0 for the empty
 // prefix. `at` is the head of what has been read of the line. If there are more than 127 letters, so says `letters`, and the arrays mean
-// nothing. (Arrays beside one another, not an array of letters: `form_encode` is lent the labels and the marks each as a list of its own.)
+// nothing. (No Option in its place: the theorems `character_over`, `character_full` and `line_over` speak of a tree with so many letters.
+// Arrays beside one another, not an array of letters: `form_encode` is lent the labels and the marks each as a list of its own.)
 #[derive(Clone, Copy)]
 pub struct Trie {
     pub letters: usize,
