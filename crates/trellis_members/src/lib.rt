@@ -45,6 +45,7 @@ impl States {
     }
 
     // The members, each of them once.
+    #[tactic(auto, using(crate::specs::MembersLaws::members_most))]
     pub fn listed(&self) -> &[u8]
         ensures { Lists self.now result.now }
     {
@@ -52,6 +53,7 @@ impl States {
     }
 
     // Puts state u if it fits, unless it is there. There is no branch: the list is always written after its last member.
+    #[tactic(auto, using(crate::specs::MembersLaws::members_most))]
     pub fn put_if(&mut self, fits: bool, u: usize)
         requires { u < 255 }
         ensures { Marks (JustIf fits u) self.old self.new }
@@ -63,6 +65,7 @@ impl States {
     }
 
     // Takes all members out.
+    #[tactic(auto, using(crate::specs::MembersLaws::members_most))]
     pub fn clear(&mut self)
         ensures { IsEmpty self.new }
     {

@@ -64,6 +64,7 @@ impl<'a> Column<'a> {
     }
 
     // Puts the state on letter j if it is kept and may be first, unless its label is `own`.
+    #[tactic(auto, using(crate::specs::Loops::led_put, crate::specs::Loops::led_not))]
     fn put_first(&self, own: usize, j: usize, to: &mut States)
         requires { (1 ≤ j) × (j ≤ letters_of (words self.now)) }
         ensures { Marks (Kept self.now (Led (graph self.now) own 0 j)) to.old to.new }
@@ -74,6 +75,7 @@ impl<'a> Column<'a> {
     }
 
     // Puts the kept states on letters that may be first, unless their label is `own`.
+    #[tactic(auto, using(crate::specs::Loops::kept_iterations_none, crate::specs::Loops::kept_iterations_more))]
     fn put_firsts(&self, own: usize, to: &mut States)
         ensures { Marks (Kept self.now (Following (graph self.now) own 0)) to.old to.new }
     {
@@ -83,6 +85,7 @@ impl<'a> Column<'a> {
     }
 
     // Puts the kept states on the targets of the arcs from b up to e, unless their label is `own`.
+    #[tactic(auto, using(crate::specs::Loops::kept_iterations_none, crate::specs::Loops::kept_iterations_more))]
     fn put_targets(&self, own: usize, b: usize, e: usize, to: &mut States)
         requires { (letters_of (words self.now) < b) × (b ≤ e) × (e ≤ length (words self.now)) }
         ensures { Marks (Kept self.now (Iterations (TargetOf (words self.now) own) b e)) to.old to.new }
@@ -118,6 +121,7 @@ impl<'a> Column<'a> {
     }
 
     // Puts the kept states that a step from the states of `from` leads to.
+    #[tactic(auto, using(crate::specs::Loops::kept_iterations_none, crate::specs::Loops::kept_iterations_more))]
     pub fn put_kept(&self, from: &States, to: &mut States)
         requires { Within (words self.now) (Has from.now) }
         ensures { Marks (Kept self.now (Reached (graph self.now) (Has from.now))) to.old to.new }

@@ -4,12 +4,9 @@ use mathlib.Core.Path.{refl, sym, subst, ap}
 use native.Mathlib.Omega.{arith}
 use lib.ListN.{set as put, get_or, length, take}
 use mathlib.Core.Bool.{false}
-use Rattle.trellis_members.specs.MembersLaws.{has_inside, members_most, members_list, members_none_left}
+use Rattle.trellis_members.specs.MembersLaws.{has_inside, members_list, members_none_left}
 use Rattle.trellis_members.specs.Loops.{TakenOut, taken_none, taken_more, taken_members}
 use Rattle.trellis_members.proofs.States.clear.Goals as goal
-
-pub shared_ref_as_front-u-items : goal.shared_ref_as_front-u-items
-shared_ref_as_front-u-items c = let h = members_most c.self.invariant in omega arith
 
 pub loop-u-init : goal.loop-u-init
 loop-u-init c =

@@ -1,20 +1,11 @@
 -- `States::put_if` meets its contract: the list has room after its last member, and the state is put as the law says.
 use mathlib.Core.Path.{refl, sym, subst}
-use native.Mathlib.Omega.{arith}
 use Prim.Native.Nat.{◌+◌}
 use lib.ListN.{get_or, set as put}
 use mathlib.Core.Bool.{false, ◌&&◌, ◌||◌, not}
 use Rattle.trellis_members.specs.Members.{Members}
-use Rattle.trellis_members.specs.MembersLaws.{one_if, members_most, members_put}
+use Rattle.trellis_members.specs.MembersLaws.{one_if, members_put}
 use Rattle.trellis_members.proofs.States.put_if.Goals as goal
-
-pub bounds-self-inside-self-inside : goal.bounds-self-inside-self-inside
-bounds-self-inside-self-inside c = let h = members_most c.self.invariant in omega arith
-
-pub overflow_add-self : goal.overflow_add-self
-overflow_add-self c =
-    let h = members_most c.self.invariant in
-    grind arith
 
 pub invariant_of-self : goal.invariant_of-self
 invariant_of-self c =

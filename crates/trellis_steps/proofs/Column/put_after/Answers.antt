@@ -1,13 +1,10 @@
 -- `Column::put_after` meets its contract: the first letters, or the targets of the letter's arcs.
 use Prim.Native.Nat.{◌+◌}
-use mathlib.Core.Path.{sym, subst}
 use native.Mathlib.Omega.{arith}
 use lib.ListN.{get_or}
-use Rattle.lists.specs.Marks.{Marks}
 use Rattle.form_starts.specs.Loops.{range_rises}
-use Rattle.trellis_steps.specs.Steps.{Following}
 use Rattle.trellis_steps.specs.Loops.{targets_put}
-use Rattle.trellis_steps.specs.Kept.{words, graph, Kept}
+use Rattle.trellis_steps.specs.Kept.{words}
 use Rattle.trellis_steps.proofs.Column.put_after.Goals as goal
 
 pub put_targets-requires : goal.put_targets-requires
@@ -18,12 +15,6 @@ put_targets-requires c =
     let first = s.arcs.now.placed.starts i (omega arith) in
     let next = s.arcs.now.placed.starts (i + 1) (omega arith) in
     (first.past, range_rises (words s) i (get_or s.arcs.now.starts i 0) (get_or s.arcs.now.starts (i + 1) 0) first next, next.inside)
-
-pub returns-then-i-eq0 : goal.returns-then-i-eq0
-returns-then-i-eq0 c =
-    let a = c.args in
-    let s = a.self.now in
-    subst (λ i. Marks (Kept s (Following (graph s) a.own i)) a.to.now c.put_firsts.new.to) (sym c.if-i-eq0.true) c.put_firsts.ensures
 
 pub returns-else-i-eq0 : goal.returns-else-i-eq0
 returns-else-i-eq0 c =

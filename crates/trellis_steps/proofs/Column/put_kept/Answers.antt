@@ -1,25 +1,12 @@
 -- `Column::put_kept` meets its contract: the iterations so far have put what steps from their states lead to.
 use mathlib.Core.Path.{◌≡◌, subst}
 use native.Mathlib.Omega.{arith}
-use lib.ListN.{length, get_or}
+use lib.ListN.{length}
 use Rattle.lists.specs.Marks.{Marks, Iterations}
 use Rattle.trellis_steps.specs.Steps.{Onto, From}
-use Rattle.trellis_steps.specs.Loops.{kept_iterations_none, kept_iterations_more, all_put, members_put}
+use Rattle.trellis_steps.specs.Loops.{kept_iterations_more, all_put, members_put}
 use Rattle.trellis_steps.specs.Kept.{graph, Kept}
 use Rattle.trellis_steps.proofs.Column.put_kept.Goals as goal
-
-pub loop-s-init : goal.loop-s-init
-loop-s-init c =
-    let a = c.args in
-    let s = a.self.now in
-    kept_iterations_none (graph s) s.costs.now s.row.now s.left (From (graph s) c.listed-s-items.result.now) 0 a.to.now
-
-pub put_steps-requires : goal.put_steps-requires
-put_steps-requires c =
-    let items = c.listed-s-items in
-    let high = c.requires (get_or items.result.now c.loop-s.s-index 0) (items.ensures.has c.loop-s.s-index c.loop-s-test.true) in
-    let e = c.from.ensures in
-    omega arith
 
 pub loop-s-preserved : goal.loop-s-preserved
 loop-s-preserved c =
