@@ -19,7 +19,8 @@ pub struct Front {
     pub left: u32,
 }
 
-// Puts the blanks after the states of `from` that lie on a cheapest path.
+// Puts the blanks after the states of `from` that lie on a cheapest path. This loop, that of `put_of_label` and that of `Column::put_kept`
+// stay three: one function over closures for the test and for the state would be no plainer.
 fn put_blanks(column: &Column, from: &States, to: &mut States)
     requires { Within (words column.now) (Has from.now) }
     ensures { Marks (Blanks column.now.costs.now column.now.row.now column.now.left (Has from.now)) to.old to.new }

@@ -8,6 +8,7 @@ ghost use Rattle.trellis_members.specs.Members.{Members, Lists, IsEmpty, JustIf}
 
 use std::marker::Model;
 
+// Kept as two arrays and a count: no heap, and a state is put without a jump (docs/DECISIONS, the set of states in the trace).
 #[derive(Drop)]
 pub struct States {
     set: [bool; 255],

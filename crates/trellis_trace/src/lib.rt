@@ -15,7 +15,8 @@ use trellis_members::States;
 use trellis_steps::Column;
 
 // Writes the best path, one label for each column. The row of column t begins at base + t * stride of the work memory: rows of several
-// tables may be in one list, as request T-08 will need.
+// tables may be in one list, as request T-08 will need. `work`, `base` and `stride` stay three parameters: no second function takes them, so
+// a struct would be no plainer.
 pub fn trace(form: Form, matrix: Matrix, work: &[u32], base: usize, stride: usize, path: &mut [u8])
     requires { Ready form.words.now (value matrix) work.now base stride × (matrix.count ≤ length path.old) }
     ensures { Traced (view form.entry.words.now) (value matrix.entry) path.old path.new }
