@@ -7,7 +7,8 @@ ghost use Rattle.trellis.specs.Cells.{ending};
 
 use form_words::Form;
 
-// The value that means 'impossible': no path of usable costs reaches this price.
+// The value that means 'impossible': no path of usable costs reaches this price. It is a number and no Option, since the table is lent words
+// and the least of prices is found without a branch.
 pub const TOP: u32 = 1000000000;
 
 // The sum of a cost and the price of what comes after it. It may be above TOP.

