@@ -48,15 +48,7 @@ pub fn read_matrix(
     ensures { Reads alphabet.now text.now (value matrix.entry) form.old form.new (lent path.old word.old work.old)
         (lent path.new word.new work.new) (reported result) }
 {
-    read_parts(
-        alphabet,
-        text,
-        matrix,
-        form,
-        path,
-        word,
-        work,
-    )
+    read_parts(alphabet, text, matrix, form, path, word, work)
 }
 
 // Read, as `read_matrix` says, for a caller that has the matrix by its parts: its costs, one column after another, its column width and its

@@ -38,7 +38,7 @@ checked_words :
     (A s f : List ℕ) (M : Matrix) (c : Result (Unit {0}) Refusal) (before after : Lent) (answer : Report) → Means A s f → Checks turned_away c (ReadsAccepted A f M) before after answer
     → Checks turned_away c (Answers (WordsOf A s) (characters A) (length f) M (needed M.count (letters_of f))) before after answer
 checked_words A s f M (Err n) before after answer m h = h
-checked_words A s f M Ok tt before after answer m h = read_words A s f M before after answer m h
+checked_words A s f M (Ok _) before after answer m h = read_words A s f M before after answer m h
 
 -- the form that Compile wrote, from what it reports
 pub record Compiled (A s form after : List ℕ) (n : ℕ) : Type 0 where

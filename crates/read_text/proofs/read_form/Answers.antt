@@ -16,6 +16,6 @@ read_valid-requires c =
     let M = value a.matrix in
     let r = rooms (lent a.path.now a.word.now a.work.now) in
     let passed =
-        ap (λ l. first_refusal (matrix_checks (length a.alphabet.now) l M r)) (sym c.letters.ensures) ∙ sym c.check_matrix.ensures
-        ∙ c.in_ok-check_matrix.was in
+    ap (λ l. first_refusal (matrix_checks (length a.alphabet.now) l M r)) (sym c.letters.ensures) ∙ sym c.check_matrix.ensures
+    ∙ c.in_ok-check_matrix.was in
     (subst (λ k. Fits k (letters_of f) M r) (sym c.requires) (fits (length a.alphabet.now) (letters_of f) M r passed), c.requires)
