@@ -7,7 +7,8 @@ use Rattle.lists.proofs.OutsideLaws.{outside_then, outside_wider}
 use Rattle.refusal.specs.declared.Refusal.TheVariants.{NoReading}
 use Rattle.automaton.specs.Automaton.{Accepts}
 use Rattle.automaton.specs.Form.{letters_of, view}
-use Rattle.automaton.proofs.ValidLaws.{view_proper}
+use Rattle.automaton.specs.Valid.{Valid}
+use Rattle.automaton.proofs.ValidLaws.{view_proper, valid_at}
 use Rattle.matrix.specs.Matrix.{Matrix}
 use Rattle.outcome.specs.Outcome.{Outcome}
 use Rattle.trellis.specs.Impossible.{TOP}
@@ -44,6 +45,13 @@ module _ {f g : List ℕ} {M : Matrix} (before : List ℕ) (fits : FitsBoth f g 
       let w = fits.work in
       let k : 2 * l + 1 ≤ 2 * max (letters_of f) (letters_of g) + 1 = omega arith in
       omega (arith, mul-le-mul_left (M.count + 1) k)
+
+  -- both forms are valid
+  pub valid_first : Valid f
+  valid_first = valid_at f fits.first
+
+  pub valid_second : Valid g
+  valid_second = valid_at g fits.second
 
   -- there is room for each table
   pub sized_first : Sized f M before (states f)

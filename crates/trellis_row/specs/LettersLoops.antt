@@ -1,10 +1,45 @@
 -- The cells of a row, one iteration of the loop over letters at a time.
-use Rattle.std.specs.Prelude.{ℕ, ◌+◌, ◌*◌, ◌-◌, ◌<◌, ◌≤◌, ◌≡◌, ◌⊎◌, List, get_or}
-use Rattle.std.proofs.Common.{sym, ap, subst, ◌∙◌, inl, inr, arith}
+use Rattle.std.specs.Prelude.{ℕ, ◌+◌, ◌*◌, ◌-◌, ◌/◌, ◌<◌, ◌≤◌, min, ◌≡◌, ◌⊎◌, List, length, get_or, set}
+use Rattle.std.proofs.Common.{sym, ap, subst, ◌∙◌, inl, inr, arith, length-set, get_or-set_same, get_or-set_other}
 use Rattle.lists.proofs.OrderLaws.{eq_or_ne}
-use Rattle.lists.proofs.OutsideLaws.{outside_none, outside_then, outside_wider, front_at, beyond_at}
-use Rattle.automaton.specs.Form.{letters_of}
-use Rattle.trellis_row.specs.Letters.{states, LetterCells, LetterFilled, CellsAt, LettersFilled}
+use Rattle.lists.proofs.OutsideLaws.{outside_none, outside_set, outside_then, outside_wider, front_at, beyond_at}
+use Rattle.automaton.specs.Form.{letters_of, label_of}
+use Rattle.trellis_offers.specs.Offers.{key_of, LeastKey, LeastOther}
+use Rattle.trellis_row.specs.Letters.{states, LetterReady, LetterCells, LetterFilled, LettersReady, CellsAt, LettersFilled}
+
+pub letter_filled :
+    (f ks : List ℕ) (blank : ℕ) (work : List ℕ) (p q i least other : ℕ) → 1 ≤ p → p < length work → LeastKey f ks i least → LeastOther f ks i (label_of f i) other
+    → (on blanks rest : ℕ) → rest ≡ blank + get_or work q 0 → on ≡ min (min (key_of ks i) other / 256) rest → blanks ≡ min (least / 256) rest
+    → LetterFilled f ks blank work (set (set work (p - 1) on) p blanks) p q i least
+letter_filled f ks blank work p q i least other low room all others on blanks rest r o b =
+    record {
+      cells =
+          rw (on_at, blanks_at)
+          (record {
+            along_all = all;
+            other = other;
+            along_other = others;
+            on_is = o ∙ ap (min (min (key_of ks i) other / 256)) r;
+            blanks_is = b ∙ ap (min (least / 256)) r;
+          });
+      outside =
+          outside_then (outside_set (p - 1) (p + 1) work (p - 1) on (omega arith) (omega arith))
+          (outside_set (p - 1) (p + 1) (set work (p - 1) on) p blanks (omega arith) (omega arith));
+    }
+  where
+    on_at : get_or (set (set work (p - 1) on) p blanks) (p - 1) 0 ≡ on
+    on_at = get_or-set_other (set work (p - 1) on) p (p - 1) blanks 0 (λ e. omega arith) ∙ get_or-set_same work (p - 1) on 0 (omega arith)
+
+    blanks_at : get_or (set (set work (p - 1) on) p blanks) p 0 ≡ blanks
+    blanks_at = get_or-set_same (set work (p - 1) on) p blanks 0 (simp length-set room)
+
+-- what the states of letter i are computed from, if its blanks are at here + 2i
+pub letter_ready :
+    {f ks work : List ℕ} {here stride first : ℕ} → LettersReady f ks work here stride first
+    → (after : List ℕ) (p i least : ℕ) → length after ≡ length work → p ≡ here + 2 * i → 1 ≤ i → i ≤ letters_of f → LeastKey f ks (i - 1) least
+    → LetterReady f ks after p stride i least
+letter_ready r after p i least size at low high before =
+    record { first = low; last = high; before = before; low = omega arith; room = let m = r.room in omega arith }
 
 module _ (f ks : List ℕ) (blank : ℕ) (before : List ℕ) (here next : ℕ) (apart : here + 2 * letters_of f < next) where
   pub letters_none : LettersFilled f ks blank before before here next 1

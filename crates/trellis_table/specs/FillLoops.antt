@@ -1,7 +1,8 @@
 -- The table, one iteration of the loop over rows at a time.
-use Rattle.std.specs.Prelude.{ℕ, ◌+◌, ◌*◌, ◌-◌, ◌<◌, ◌≤◌, ◌≡◌, ◌⊎◌, List, length, get_or}
-use Rattle.std.proofs.Common.{subst, ◌∙◌, inl, inr, arith, mul-le-mul_right}
+use Rattle.std.specs.Prelude.{ℕ, ◌+◌, ◌*◌, ◌-◌, ◌<◌, ◌≤◌, ◌≡◌, ◌⊎◌, List, length, get_or, take, drop}
+use Rattle.std.proofs.Common.{sym, ap, subst, ◌∙◌, inl, inr, arith, mul-le-mul_right}
 use Rattle.lists.proofs.OrderLaws.{eq_or_ne}
+use Rattle.lists.proofs.PartLaws.{part_at, part_length}
 use Rattle.lists.proofs.OutsideLaws.{outside_none, outside_then, outside_wider, beyond_at}
 use Rattle.matrix.specs.Matrix.{Matrix, ColumnOf}
 use Rattle.automaton.specs.Form.{alphabet_of, view}
@@ -23,9 +24,23 @@ module _ {f : List ℕ} (M : Matrix) (before : List ℕ) (stride : ℕ) where
       }
 
   module _ (valid : Valid f) (sized : Sized f M before stride) (t : ℕ) (few : t < M.count) where
-    -- its row and the next are inside the memory
+    -- the costs of column t, and its row and the next, are inside their lists
+    pub column_inside : t * M.width + M.width ≤ length M.costs
+    column_inside = let a = mul-le-mul_right {m = t + 1} {n = M.count} M.width (omega arith) in let s = sized.size in omega arith
+
     pub row_inside : t * stride + stride + stride ≤ length before
     row_inside = let a = mul-le-mul_right {m = t + 2} {n = M.count + 1} stride (omega arith) in let r = sized.room in omega arith
+
+    -- column t as a list of its own
+    module _ (a e : ℕ) (at : a ≡ t * M.width) (end : e ≡ a + M.width) where
+      abbrev column : List ℕ
+      column = take (e - a) (drop a M.costs)
+
+      pub column_wide : alphabet_of f < length column
+      column_wide = let c = column_inside in let w = sized.width in let l = part_length M.costs a e (omega arith) in omega arith
+
+      pub column_of : ColumnOf (alphabet_of f) M t column
+      column_of x h = let w = sized.width in sym (part_at M.costs a e 0 x (omega arith) ∙ ap (λ n. get_or M.costs (n + x) 0) at)
 
     module _ (work : List ℕ) (done : RowsFilled f M before work stride (t + 1)) where
       next_row : (n : ℕ) → t + (n + 1) ≡ M.count → Row (view f) M work (t * stride + stride) (t + 1) n
