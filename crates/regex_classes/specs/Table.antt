@@ -1,5 +1,5 @@
 -- A row of the code's table as a class: its name and its ranges; and whether it is the class of a definition.
-use Rattle.std.specs.Prelude.{◌≡◌, List, [], ◌∷◌, Bool, true, false, not, cond, ◌&&◌, ℕ, ◌<◌, Option as Found, Some, None}
+use Rattle.std.specs.Prelude.{◌≡◌, List, [], ◌∷◌, Bool, true, false, not, cond, ◌&&◌, ℕ, ◌<◌, ◌≤◌, length, leb, Option as Found, Some, None}
 use Rattle.std.specs.List.{find, list_any}
 use Rattle.std.specs.Str.{bytes_eq}
 use Rattle.std.proofs.Math.Option.{Option}
@@ -17,8 +17,9 @@ as_range p = range p.0 p.1
 abbrev pub class_among : Class → ℕ → Bool
 class_among c b = list_any (λ s. within (as_range s) b) c.ranges.now
 
--- the row c is the class of this name and these ranges: it has the same bytes
+-- the row c is the class of this name and these ranges: it has the same bytes, and at least one range
 pub record Row (name : List ℕ) (ranges : List Range) (c : Class) : Type 0 where
+  pub some_range : 1 ≤ length c.ranges.now
   pub spells : c.name.now ≡ name
   pub has : (b : ℕ) → b < 256 → class_among c b ≡ among ranges b
 
@@ -27,7 +28,8 @@ abbrev pub equal : Bool → Bool → Bool
 equal a b = cond a b (not b)
 
 unfoldable pub is_row : List ℕ × List Range → Class → Bool
-is_row d c = same_list c.name.now d.0 && all (λ b. equal (class_among c b) (among d.1 b)) (numbers 0 256)
+is_row d c =
+    leb 1 (length c.ranges.now) && (same_list c.name.now d.0 && all (λ b. equal (class_among c b) (among d.1 b)) (numbers 0 256))
 
 -- row by row
 unfoldable pub agrees : List Class → List (List ℕ × List Range) → Bool

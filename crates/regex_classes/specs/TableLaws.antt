@@ -1,9 +1,9 @@
 -- The test of the table, carried to each row, and to the row that is found.
-use Rattle.std.specs.Prelude.{◌≡◌, List, [], ◌∷◌, Bool, true, false, ℕ, Some, cond}
+use Rattle.std.specs.Prelude.{◌≡◌, List, [], ◌∷◌, Bool, true, false, ◌&&◌, ℕ, Some, cond, length, leb}
 use Rattle.std.specs.List.{find}
 use Rattle.std.specs.Str.{bytes_eq}
 use Rattle.std.proofs.Math.Path.{refl, ap}
-use Rattle.std.proofs.Common.{sym, ◌∙◌, arith}
+use Rattle.std.proofs.Common.{sym, ◌∙◌, arith, leb-true}
 use Rattle.lists.specs.Each.{all}
 use Rattle.std.proofs.Math.Option.{some}
 use Rattle.lists.proofs.EachLaws.{all_each}
@@ -31,12 +31,14 @@ same_bytes (x ∷ p) (y ∷ q) = rw (same_bytes p q)
 pub row_tested : (d : List ℕ × List Range) (c : Class) → is_row d c ≡ true → Row d.0 d.1 c
 unfolding is_row
 row_tested d c e =
+    let used = leb 1 (length c.ranges.now) in
     let spelt = same_list c.name.now d.0 in
     let same = all (λ b. equal (class_among c b) (among d.1 b)) (numbers 0 256) in
     let each = all_each (λ b. equal (class_among c b) (among d.1 b)) (λ b. class_among c b ≡ among d.1 b)
-    (λ b h. equal_true (class_among c b) (among d.1 b) h) (numbers 0 256) (and_right spelt same e) in
+    (λ b h. equal_true (class_among c b) (among d.1 b) h) (numbers 0 256) (and_right spelt same (and_right used (spelt && same) e)) in
     record {
-      spells = same_list_true c.name.now d.0 (and_left spelt same e);
+      some_range = leb-true 1 (length c.ranges.now) (and_left used (spelt && same) e);
+      spells = same_list_true c.name.now d.0 (and_left spelt same (and_right used (spelt && same) e));
       has = λ b l. each_among (λ b. class_among c b ≡ among d.1 b) b (numbers 0 256) each (among_numbers 0 256 b (omega arith) (omega arith));
     }
 
