@@ -1,4 +1,5 @@
-// What Decode and Read answer. Judge and Preview answer yes or no, a `bool`; each call answers its refusal in place of these.
+// What Decode and Read answer. Judge answers yes or no, a `bool`, as Preview is to (document 02, T-10); each call answers its refusal in place
+// of these.
 #![tactic(auto)]
 
 // What Decode answers: the price of the path and the length of its word.

@@ -24,7 +24,8 @@ fn put_added(word: &mut [u8], n: usize, a: u8, x: u8) -> usize
     n + 1
 }
 
-// Writes a path's collapse and returns its length.
+// Writes a path's collapse and returns its length. (Like the loop of ctc_spread, over what another letter adds: one loop over a closure that
+// writes lent memory would say of both what `Filling` says of each, and is no plainer.)
 pub fn write_collapse(path: &[u8], word: &mut [u8]) -> usize
     requires { length path.now ≤ length word.old }
     ensures { Wrote (collapse_of path.now) word.old word.new result }

@@ -37,7 +37,7 @@ fn put_spaced(path: &mut [u8], n: usize, a: u8, x: u8) -> usize
     n + 1
 }
 
-// Writes the spread of a word without blanks and returns its length.
+// Writes the spread of a word without blanks and returns its length. (Like the loop of ctc_collapse, which says why they are two.)
 fn write_spread(word: &[u8], path: &mut [u8]) -> usize
     requires { (length (spread_of word.now) ≤ length path.old) × Each (0 <◌) word.now }
     ensures { Wrote (spread_of word.now) path.old path.new result }

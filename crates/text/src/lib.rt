@@ -5,7 +5,7 @@ ghost use Rattle.std.specs.Prelude.{◌≡◌, ◌+◌, get_or, drop};
 ghost use Rattle.text.specs.Text.{one_of};
 ghost use Rattle.text.specs.Places.{until};
 
-// The byte at a place, or 0 past the end.
+// The byte at a place, or 0 past the end. (No `Option`: the definitions of regex_tree, and docs/, read a 0 there.)
 pub fn peek(text: &[u8], at: usize) -> u8
     ensures { result ≡ get_or text.now at 0 }
 {
@@ -26,7 +26,8 @@ fn before(text: &[u8], sign: u8) -> usize
     text.iter().position(|&b| b == sign).unwrap_or(text.len())
 }
 
-// Where the first such sign is, from a place on; past the end if there is none.
+// Where the first such sign is, from a place on; past the end if there is none. (No `Option`: `until` gives a number of bytes, and callers go
+// on from that place.)
 pub fn find(text: &[u8], from: usize, sign: u8) -> usize
     ensures { result ≡ from + until sign (drop from text.now) }
 {
