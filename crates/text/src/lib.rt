@@ -5,7 +5,7 @@ ghost use Rattle.std.specs.Prelude.{◌≡◌, ◌+◌, get_or, drop};
 ghost use Rattle.text.specs.Text.{one_of};
 ghost use Rattle.text.specs.Places.{until};
 
-// The byte at a place, or 0 past the end. (No `Option`: the definitions of regex_tree, and docs/, read a 0 there.)
+// The byte at a place, or 0 past the end. (No `Option`: contracts of the crates above say `get_or`, 0 there.)
 pub fn peek(text: &[u8], at: usize) -> u8
     ensures { result ≡ get_or text.now at 0 }
 {
