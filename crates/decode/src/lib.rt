@@ -52,7 +52,8 @@ pub fn decode_matrix(
 }
 
 // Decode, as `decode_matrix` says, for a caller that has the matrix by its parts: its costs, one column after another, its column width
-// and its column count. No view is in the signature, so a caller's proof need not go statement by statement.
+// and its column count.
+// (Path, word and work stay three lists, as decode_valid says.)
 pub fn decode(
     form: &[u32],
     costs: &[u32],

@@ -29,6 +29,7 @@ fn has_fault(k: usize, matrix: Matrix) -> bool
 }
 
 // The first of refusals 12 to 15 that applies, for a form of l letters over k characters and lent memory of these lengths.
+// (Three lengths: a struct of them would be made at each call, to be taken apart here.)
 #[tactic(auto, unfolding(refusal::specs::Verdict::first_refusal))]
 pub fn check_matrix(
     k: usize,

@@ -14,6 +14,8 @@ use matrix::Matrix;
 use refusal::Refusal;
 
 // Fills the table of costs to go and traces the best path through it; a price of TOP means that there is none.
+// (Path, word and work stay three lists: C lends them apart, and with a struct of three `&mut` each contract would have to say that it still
+// lends the same three.)
 pub fn decode_valid(
     form: Form,
     matrix: Matrix,

@@ -26,6 +26,7 @@ pub fn hand<C: Copy>(answer: Result<C, Refusal>, none: C, handed: &mut C) -> u32
 }
 
 // The number of a call that fills one list, where the caller knows the length.
+// (Not `hand`: no counts are handed back, and an empty array for them would be no plainer.)
 pub fn hand_number(answer: Result<usize, Refusal>) -> u32
     ensures { result ≡ (reported answer).number }
 {

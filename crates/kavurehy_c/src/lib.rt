@@ -1,4 +1,5 @@
 // The calls of `kavurehy`, exported for C and Rust under the same names, and nothing else. A list is passed as a pointer and a length.
+// (The parameters of each call are those of the C interface.)
 #![tactic(auto)]
 
 ghost use Rattle.std.specs.Prelude.{length};

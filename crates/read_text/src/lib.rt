@@ -17,6 +17,7 @@ use read_valid::read_valid;
 use refusal::Refusal;
 
 // Read by a compiled form: the first of refusals 12 to 15 that applies, or the answer past them.
+// (Path, word and work stay three lists, as decode_valid says.)
 #[tactic(auto, unfolding(refusal::specs::Verdict::first_refusal))]
 fn read_form(
     alphabet: &[u8],

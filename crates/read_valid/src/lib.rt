@@ -17,6 +17,7 @@ use read_spelling::write_characters;
 use refusal::Refusal;
 
 // Decodes the matrix by the form, and writes the word as characters.
+// (Path, word and work stay three lists, as decode_valid says.)
 pub fn read_valid(
     alphabet: &[u8],
     form: Form,

@@ -1,5 +1,5 @@
 // The bracket at a place of a text (document 01, "Brackets"; document 02, T-01): where it ends, and whether a byte is a member.
-// A text and a place stay two parameters: docs/ names these functions at a place of the text, and the place may be the text's end or past it.
+// A text and a place stay two parameters: docs/ names `bracket_end` and `bracket_has`, so what these take stays.
 #![tactic(auto)]
 
 ghost use Rattle.std.specs.Prelude.{◌≡◌, true, ◌<◌, ◌≤◌, length, drop};
@@ -27,6 +27,7 @@ fn opening(text: &[u8], at: usize) -> usize
 
 // Where the bracket is closed; past the end if it is not. The loop stays a `while`: where the next sign begins is known only from this one,
 // and an iterator over places would be this same loop in its `next`.
+// (No Option: the loop ends there by itself, and the test of its answer is `e < text.len()`.)
 #[tactic(auto, using(crate::specs::ClosingLaws::after_first, crate::specs::ClosingLaws::after_here, crate::specs::ClosingLaws::after_past, crate::specs::ClosingLaws::after_end, regex_signs::specs::SignsLaws::sign_width_some))]
 fn closing(text: &[u8], first: usize) -> usize
     ensures { (first ≤ result) × (beyond text.now result ≡ after (closed true (drop first text.now))) }

@@ -37,6 +37,7 @@ pub fn copies(n: usize) -> usize
     n.max(1)
 }
 
+// `added`, `repeated` and `closed` take a refusal too and pass it on, as they always did: a `Part` alone would ask more of callers.
 // A part that goes on after n letters.
 pub fn added(n: usize, rest: Result<Part, Refusal>) -> Result<Part, Refusal>
     ensures { result ≡ add n rest }

@@ -1,5 +1,5 @@
 // The set at a place of an expression's text (document 01, "Expression text"): an ordinary character, `.` or a bracket. Each answer is that
-// of crate `regex`'s definition on the text from that place on. The text may have any bytes.
+// of `regex_tree`'s definition on the text from that place on. The text may have any bytes.
 // A text and a place stay two parameters: docs/ names these functions at a place of the text, and the place may be the text's end or past it.
 #![tactic(auto)]
 

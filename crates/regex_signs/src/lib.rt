@@ -1,6 +1,7 @@
 // The signs inside a bracket (document 01, "Brackets"; document 02, T-01): a byte, or a class, `[:`, its name and the nearest `:]`. The
 // text may have any bytes.
-// A text and a place stay two parameters: a struct of them is no plainer, since most functions here take a place at the text's end or past it too.
+// A text and a place stay two parameters: a struct of them is no plainer, since half of the functions here take a place at the text's end
+// or past it too.
 #![tactic(auto)]
 
 ghost use Rattle.std.specs.Prelude.{◌≡◌, true, ◌+◌, ◌<◌, length, get_or, drop, eqb};
@@ -33,6 +34,7 @@ fn ends_class(text: &[u8], at: usize) -> bool
 }
 
 // Where the name that begins here ends: at the nearest `:]`, or past the end if there is none.
+// (No Option: where there is no `:]`, `name` still has a length, up to the text's end.)
 #[tactic(auto, using(crate::specs::SignsLaws::name_here, crate::specs::SignsLaws::name_past, crate::specs::SignsLaws::name_end))]
 fn name_end(text: &[u8], from: usize) -> usize
     ensures { result ≡ from + length (name (drop from text.now)) }
@@ -57,6 +59,7 @@ pub fn class_name(text: &[u8], at: usize) -> &[u8]
 }
 
 // Where the sign that begins here ends; past the end if it is a class without a `:]`.
+// (No Option: `sign_width` is a number there too, and a loop that goes on from that place ends.)
 #[tactic(auto, using(crate::specs::SignsLaws::opens_within, crate::specs::SignsLaws::name_within, crate::specs::SignsLaws::sign_width_class, crate::specs::SignsLaws::sign_width_byte))]
 pub fn sign_end(text: &[u8], at: usize) -> usize
     requires { at < length text.now }

@@ -14,6 +14,7 @@ use std::io::{Read, Write};
 
 // Reads to the end of the input and returns how many bytes came. There is room for one byte more than a sheet may have, so that a byte too
 // many is seen.
+// (A `while`: it counts the bytes that the reader gives. Not `read_full` of `vectors`, which keeps what came before a failed read.)
 fn read_input<R: Read>(stdin: &mut R, buffer: &mut [u8]) -> io::Result<usize>
     requires { most_bytes < length buffer.old }
     ensures { Arrived result buffer.new }

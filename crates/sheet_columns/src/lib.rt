@@ -1,4 +1,5 @@
 // The column lines of a sheet (document 01, "Confidences and the sheet program"): their costs into lent memory, their width and count.
+// `input` and `at` stay two parameters: an answer is a place in the one input that the definitions speak of.
 #![tactic(auto)]
 
 ghost use Rattle.std.specs.Prelude.{◌≤◌, length};
@@ -44,6 +45,7 @@ fn store_column(input: &[u8], at: usize, costs: &mut [u32], m: usize) -> Option<
 }
 
 // Stores the column lines after the first, which is stored already; each must have `width` costs too. Answers how many columns there are.
+// (No `for`, as above.)
 fn store_columns(input: &[u8], at: usize, costs: &mut [u32], width: usize) -> Option<usize>
     requires { (at ≤ length input.now) × (width ≤ 16384) × (16384 ≤ length costs.old) }
     ensures { StoredColumns width input.now at width 1 costs.old costs.new result }

@@ -1,4 +1,5 @@
 // One number of a sheet (document 01, "Confidences and the sheet program"): the cost that is written at a place.
+// `input` and `at` stay two parameters: an answer is a place in the one input that the definitions speak of.
 #![tactic(auto)]
 
 ghost use Rattle.std.specs.Prelude.{◌≡◌, ◌≤◌, length};

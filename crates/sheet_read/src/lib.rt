@@ -11,6 +11,7 @@ use sheet_print::print_answer;
 
 // Calls Read on an alphabet, a text and a matrix, prints its answer and returns the number of bytes. The memory that is lent to Read, of
 // the lengths in document 01, is local.
+// (The matrix by its parts: docs/ names this call, so what it takes stays.)
 pub fn answer_reading(
     alphabet: &[u8],
     text: &[u8],

@@ -17,6 +17,7 @@ pub struct Sheet {
 }
 
 // Parses a sheet and stores its costs in the lent memory. For what is no sheet (refusal 18) that memory may hold anything afterwards.
+// (Not `first_line` of wordlist_lines, which answers two texts: `Scans` speaks of places in the one input.)
 pub fn scan(input: &[u8], costs: &mut [u32]) -> Option<Sheet>
     requires { length costs.old ≡ 16384 }
     ensures { Scans input.now costs.old costs.new result }

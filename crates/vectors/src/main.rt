@@ -39,6 +39,7 @@ impl Form {
 }
 
 // Makes the call of a line with this form; a line of another kind calls nothing.
+// (No enum of the letters: each letter is matched once, here or in `run`.)
 fn call(rt: &impl Print, line: Line, form: &[u32]) -> io::Result<()> {
     match line.kind() {
         b'C' => calls::labels(rt, "collapse", line, kavurehy::kavurehy_collapse)?,
@@ -78,6 +79,7 @@ fn run_all(rt: &impl Print, input: &[u8]) -> io::Result<()> {
 }
 
 // Reads until the buffer is full, the input ends or a read fails, and returns how many bytes came.
+// (Not `read_input` of `sheet`, to which a failed read is an error.)
 fn read_full<R: Read>(stdin: &mut R, buffer: &mut [u8]) -> usize
     ensures { Counts result buffer.new }
 {

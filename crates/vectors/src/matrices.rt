@@ -19,6 +19,7 @@ fn lent(rt: &impl Print, line: Line, path: &[u8], word: &[u8], work: &[u32]) -> 
     last(rt, work, line.room(8, work.len()))
 }
 
+// (The arrays stand here and in `read`: a struct of them would be taken apart for the call, whose parts are those of the C interface.)
 pub fn decode(rt: &impl Print, line: Line, form: &[u32]) -> io::Result<()> {
     let mut costs = [0; 768];
     let mut path = [9; 256];
