@@ -10,7 +10,7 @@ pub fn unite(a: &mut [bool], b: &[bool])
     ensures { Union a.old b.now a.new }
 {
     for (i, &there) in b.iter().enumerate() {
-        a[i] = a[i] || there;
+        a[i] |= there;
     }
 }
 

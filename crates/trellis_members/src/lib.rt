@@ -30,11 +30,9 @@ impl States {
     pub fn new() -> States
         ensures { IsEmpty result }
     {
-        let set = [false; 255];
-        let list = [0; 256];
         States {
-            set,
-            list,
+            set: [false; 255],
+            list: [0; 256],
             count: 0,
         }
     }
@@ -60,7 +58,7 @@ impl States {
         ensures { Marks (JustIf fits u) self.old self.new }
     {
         let added = fits & !self.set[u];
-        self.set[u] = self.set[u] | fits;
+        self.set[u] |= fits;
         self.list[self.count] = u as u8;
         self.count += added as usize;
     }

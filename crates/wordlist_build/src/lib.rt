@@ -113,7 +113,7 @@ impl Trie {
             return;
         }
         for i in 0..self.letters {
-            self.last[i] = self.last[i] || self.heads[i] == self.at;
+            self.last[i] |= self.heads[i] == self.at;
         }
         self.at = 0;
     }
