@@ -33,24 +33,20 @@ pub fn copies_at(text: &[u8], at: usize) -> Copies
     requires { (at ≤ length text.now) × (is_found (counted (drop at text.now)) ≡ true) }
     ensures { result ≡ copies_by text.now (counted (drop at text.now)) }
 {
-    let once = Copies {
-        least: 1,
-        most: 1,
-        onward: false,
-        end: at,
-    };
     if !is_repeated(text, at) {
-        return once;
+        return Copies {
+            least: 1,
+            most: 1,
+            onward: false,
+            end: at,
+        };
     }
-    match repetition(text, at) {
-        Ok(r) => Copies {
-            least: r.least,
-            most: r.most.unwrap_or(copies(r.least)),
-            onward: r.most.is_none(),
-            end: r.end,
-        },
-        // Cannot occur, by the contract.
-        Err(_) => once,
+    let r = repetition(text, at).unwrap();
+    Copies {
+        least: r.least,
+        most: r.most.unwrap_or(copies(r.least)),
+        onward: r.most.is_none(),
+        end: r.end,
     }
 }
 
@@ -77,11 +73,11 @@ impl Source<'_> {
         requires { SetAt self.now.text.now at }
         ensures { result ≡ place self.now.text.now (rest_of (a_set (drop at self.now.text.now))) }
     {
-        // `at` cannot occur, by the contract.
-        set_end(self.text, at).unwrap_or(at)
+        set_end(self.text, at).unwrap()
     }
 
     // Writes the labels of the set that begins at `at`, ascending, from place n on, and returns the next place.
+    // (A list and its next place, no struct of both: `Stored` speaks of the list before and after and of both places, in a private step.)
     fn write_labels(&self, at: usize, labels: &mut [u8], n: usize) -> usize
         requires set_at { SetAt self.now.text.now at }
         requires alphabet_len_bound { (length self.now.alphabet.now ≤ 255)
