@@ -131,3 +131,18 @@ module _ (f : List ℕ) where
 
     pub arcs_part : take (length f - (l + 1)) (drop (l + 1) f) ≡ arc_words f
     arcs_part = take_all (length f - (l + 1)) (drop (l + 1) f) (omega (arith, length-drop (l + 1) f)) ∙ ap (λ n. drop n f) (add-one l ∙ ap suc same)
+
+-- the last two tests by the head and the rest of the list
+module _ (f : List ℕ) (x : ℕ) (r : List ℕ) (parts : f ≡ x ∷ r) (head : is_head x ≡ true) (enough : byte0 x ≤ length r) where
+  pub rest_letters : all (is_letter (byte2 x)) (take (byte0 x) r) ≡ false → valid_form f ≡ false
+  rest_letters t = ap valid_form parts ∙ valid_letters (x ∷ r) head (omega arith) t
+
+  pub rest_arcs :
+      all (is_letter (byte2 x)) (take (byte0 x) r) ≡ true
+      → valid_form f
+      ≡ (all (is_arc (byte0 x)) (take (length r - byte0 x) (drop (byte0 x) r)) && ordered (take (length r - byte0 x) (drop (byte0 x) r)))
+  rest_arcs t =
+      ap valid_form parts
+      ∙ valid_arcs (x ∷ r) head (omega arith) t
+      ∙ ap (λ ws. all (is_arc (byte0 x)) ws && ordered ws)
+      (sym (take_all (length r - byte0 x) (drop (byte0 x) r) (omega (arith, length-drop (byte0 x) r))))

@@ -7,6 +7,7 @@ ghost use Rattle.automaton.specs.Form.{is_head, is_letter, is_arc, ordered, vali
 
 use form_words::Form;
 
+// Is the word a head: of 1 to 127 letters, over 1 to 95 characters, with no unnamed bit?
 fn is_head(w: u32) -> bool
     ensures { result ≡ is_head w }
 {
@@ -25,6 +26,7 @@ fn is_letter(k: u32, w: u32) -> bool
     w == 0x20000000 + w / 0x200 % 2 * 0x200 + w / 0x100 % 2 * 0x100 + x && (1..=k).contains(&x)
 }
 
+// Are the words letters over an alphabet of k characters?
 fn are_letters(k: u32, words: &[u32]) -> bool
     ensures { result ≡ all (is_letter k) words.now }
 {
@@ -48,7 +50,7 @@ fn are_arcs(l: u32, words: &[u32]) -> bool
     let mut pass = true;
     let mut last: u32 = 0;
     for &w in words {
-        pass = pass & is_arc(l, w) & (last < w);
+        pass &= is_arc(l, w) & (last < w);
         last = w;
     }
     pass
@@ -59,16 +61,15 @@ fn are_arcs(l: u32, words: &[u32]) -> bool
 pub fn valid(form: &[u32]) -> bool
     ensures { result ≡ valid_form form.now }
 {
-    if form.is_empty() {
+    let Some((&head, rest)) = form.split_first() else {
         return false;
-    }
-    let head = form[0];
-    let l = (head % 0x100) as usize;
+    };
+    let l = head % 0x100;
     let k = head / 0x10000 % 0x100;
-    if !is_head(head) || form.len() <= l {
+    if !is_head(head) || rest.len() < l as usize {
         return false;
     }
-    are_letters(k, &form[1..l + 1]) && are_arcs(head % 0x100, &form[l + 1..])
+    are_letters(k, &rest[..l as usize]) && are_arcs(l, &rest[l as usize..])
 }
 
 // The list as a form, if it is a valid one.
