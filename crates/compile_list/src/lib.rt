@@ -15,7 +15,8 @@ use refusal::Refusal;
 use wordlist_build::build;
 use wordlist_lines::{are_list_bytes, has_fault, has_strange};
 
-// Which letters follow the letters of this head: those whose parent it is.
+// Which letters follow the letters of this head: those whose parent it is. (Here and below by a `for`: an array's `map` was tried, and its
+// clause gives a call at some state of the closure.)
 fn row_after(parents: &[u8; 127], head: u8) -> [bool; 127]
     ensures { RowAfter 127 parents.now head result }
 {

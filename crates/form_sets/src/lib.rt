@@ -42,7 +42,8 @@ fn mark_targets(form: Form, x: usize, b: usize, e: usize, set: &mut [bool; 128])
     }
 }
 
-// Marks the letters with label x that may follow i.
+// Marks the letters with label x that may follow i. (It walks like trellis_steps' `put_after`, over other values: one walk over a closure
+// would say `Marks (Iterations ..)` of what the closure marks, no plainer.)
 fn mark_after(arcs: &Arcs, x: usize, i: usize, set: &mut [bool; 128])
     requires { (length set.old ≡ 128) × (i ≤ letters_of arcs.now.form.words.now) }
     ensures { Marks (Enters (view arcs.now.form.words.now) x i) set.old set.new }

@@ -20,6 +20,7 @@ fn accepts(form: Form, word: &[u8]) -> bool
     let arcs = Arcs::new(form);
     let mut set = no_letter();
     for &x in word {
+        // In two steps: a call's result is not laid into an array that the call was given.
         let next = advance(&arcs, set, usize::from(x));
         set = next;
     }

@@ -21,6 +21,7 @@ fn price(key: usize, rest: usize) -> u32
 
 // Writes the costs to go of the two states of letter i, by the row of the next column, which is `stride` further on; p is the place of its
 // blanks, and the place before is that on the letter. Returns the least key along its arcs; `before` is that of the letter before it.
+// (Here and below the work and the places in it stay parameters: it is lent mutably, and a struct would be made anew for each row.)
 fn fill_letter(
     offers: &Offers,
     blank: u32,

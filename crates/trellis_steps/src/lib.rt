@@ -95,7 +95,8 @@ impl<'a> Column<'a> {
         }
     }
 
-    // Puts the kept states on letters that may follow letter i, unless their label is `own`.
+    // Puts the kept states on letters that may follow letter i, unless their label is `own`. (It walks like form_sets' `mark_after`, over
+    // other values: one walk over a closure would say `Marks (Iterations ..)` of what the closure puts, no plainer.)
     fn put_after(&self, own: usize, i: usize, to: &mut States)
         requires { i ≤ letters_of (words self.now) }
         ensures { Marks (Kept self.now (Following (graph self.now) own i)) to.old to.new }

@@ -16,7 +16,8 @@ use trellis_costs::last_cost;
 use trellis_offers::Lookups;
 use trellis_row::fill_row;
 
-// The value that means 'impossible': `fill` returns it where there is no path.
+// The value that means 'impossible': `fill` returns it where there is no path. (A number and no Option: `Filled` says that it is the
+// table's first word, and docs/REQUESTS names `fill`.)
 pub use trellis_costs::TOP;
 
 // Writes the last row, at `base`.
@@ -48,7 +49,8 @@ fn fill_columns(lookups: &Lookups, matrix: Matrix, work: &mut [u32], stride: usi
     }
 }
 
-// Looks up in the form what all rows need, and writes them by `fill_columns`.
+// Looks up in the form what all rows need, and writes them by `fill_columns`. (By `arcs.form`, of which `Lookups` speaks: `form` in its place
+// was tried, and the proof did not close.)
 fn fill_rows(form: Form, matrix: Matrix, work: &mut [u32], stride: usize)
     requires { Sized form.words.now (value matrix) work.old stride
         × Row (view form.words.now) (value matrix) work.old (matrix.count * stride) matrix.count 0 }
