@@ -13,12 +13,12 @@ pub fn put_labels(path: &[u8], out: &mut Output)
     ensures same_memory { out.new.memory.ghost_name ≡ out.old.memory.ghost_name }
     ensures stored { Stored (spaced path.now) out.old.len out.old.memory.now out.new.memory.now out.new.len }
 {
-    let Some((first, others)) = path.split_first() else {
+    let Some((&first, others)) = path.split_first() else {
         return;
     };
-    out.put_decimal(u32::from(*first));
-    for x in others {
+    out.put_decimal(u32::from(first));
+    for &x in others {
         out.put_bytes(b" ");
-        out.put_decimal(u32::from(*x));
+        out.put_decimal(u32::from(x));
     }
 }

@@ -14,7 +14,7 @@ pub put_decimal-requires : goal.put_decimal-requires
 put_decimal-requires c =
     let o = c.args.out.now in
     let q = c.in-Some.others.now in
-    let x = c.in-Some.first.now in
+    let x = c.in-Some.field-0-0.now in
     let p = c.args.path.now in
     rw c.from.ensures (front_room (spaced p) (decimal x) (following q) o.memory.now o.len (spaced_parts p q x c.in-Some.ensures.cases.0) c.requires)
 
@@ -22,7 +22,7 @@ pub loop-x-init : goal.loop-x-init
 loop-x-init c =
     let o = c.args.out.now in
     let q = c.in-Some.others.now in
-    let x = c.in-Some.first.now in
+    let x = c.in-Some.field-0-0.now in
     let p = c.args.path.now in
     let d = c.put_decimal.new.self in
     let s = rw c.from.ensures at c.put_decimal.ensures.stored in
@@ -81,7 +81,7 @@ pub returns-clause-stored : goal.returns-clause-stored
 returns-clause-stored c =
     let o = c.args.out.now in
     let q = c.in-Some.others.now in
-    let x = c.in-Some.first.now in
+    let x = c.in-Some.field-0-0.now in
     let p = c.args.path.now in
     let d = c.put_decimal.new.self in
     let l = c.loop-x in
