@@ -13,7 +13,7 @@ fn start(line: &[u8], k: usize) -> usize
     ensures { (result ≤ length line.now) × (field_of (drop result line.now) 0 ≡ field_of line.now k) }
 {
     let mut at = 0;
-    for i in 0..k {
+    for _ in 0..k {
         at = text::find(line, at, b'\t');
         if at == line.len() {
             return at;
@@ -33,6 +33,7 @@ pub fn field(line: &[u8], k: usize) -> &[u8]
 }
 
 // The number with one more digit; 0 after a space, and the cost of a barred label after `-`.
+// (`hexadecimal` is a flag and no enum: it is asked in one place, here.)
 fn longer(v: u32, hexadecimal: bool, b: u8) -> u32
     ensures { result ≡ onward hexadecimal v b }
 {
@@ -42,12 +43,13 @@ fn longer(v: u32, hexadecimal: bool, b: u8) -> u32
         b' ' => 0,
         b'-' => BARRED,
         _ if !hexadecimal => 10 * w + d,
-        65.. => 16 * w + (d + 9) % 16,
+        b'A'.. => 16 * w + (d + 9) % 16,
         _ => 16 * w + d,
     }
 }
 
 // Appends the number v to the list if the byte b ends it and there is room, and returns how many the list has.
+// (A list and its next place, no struct of both: `Stored` speaks of the list before and after and of both places, in a private step.)
 fn push(list: &mut [u32], n: usize, v: u32, b: u8) -> usize
     requires { n ≤ length list.old }
     ensures stored { Stored (take (length list.old - n) (ended b v)) n list.old list.new result }
@@ -65,14 +67,14 @@ pub fn numbers(field: &[u8], hexadecimal: bool, list: &mut [u32]) -> usize
     ensures wrote { Wrote (take (length list.old) (numbers_of hexadecimal field.now)) list.old list.new result }
     ensures counts { Counts result list.new }
 {
-    if field.len() == 0 {
+    if field.is_empty() {
         return 0;
     }
     let mut n = 0;
     let mut v = 0;
-    for b in field {
-        n = push(list, n, v, *b);
-        v = longer(v, hexadecimal, *b);
+    for &b in field {
+        n = push(list, n, v, b);
+        v = longer(v, hexadecimal, b);
     }
     push(list, n, v, b' ')
 }
@@ -97,6 +99,7 @@ pub fn room(field: &[u8], most: usize) -> usize
 }
 
 // Writes the first n numbers as bytes, as many as there is room for, and returns how many.
+// (By index: a zip with `iter_mut` leaves nothing known of what is written.)
 fn narrow(list: &[u32], n: usize, bytes: &mut [u8]) -> usize
     requires { n ≤ length list.now }
     ensures wrote { Wrote (take (length bytes.old) (map low (take n list.now))) bytes.old bytes.new result }

@@ -6,25 +6,25 @@ use Rattle.vectors_fields.proofs.start.Goals as goal
 pub returns-then-at-line : goal.returns-then-at-line
 returns-then-at-line c =
     let s = c.args in
-    let l = c.loop-i in
+    let l = c.loop in
     let find = c.find-at in
     let w = next_within 9 s.line.now l.at l.invariant.0 in
     let e = find.ensures in
     let end = c.if-at-line.true in
-    (omega arith, cut_ends 9 s.line.now l.at find.result s.k l.i e c.loop-i-test.true l.invariant.0 (omega arith) ∙ l.invariant.2)
+    (omega arith, cut_ends 9 s.line.now l.at find.result s.k l.counter e c.loop-test.true l.invariant.0 (omega arith) ∙ l.invariant.2)
 
 pub overflow_add-at : goal.overflow_add-at
 overflow_add-at c =
-    let w = next_within 9 c.args.line.now c.loop-i.at c.loop-i.invariant.0 in
+    let w = next_within 9 c.args.line.now c.loop.at c.loop.invariant.0 in
     let e = c.find-at.ensures in
     omega arith
 
-pub loop-i-preserved : goal.loop-i-preserved
-loop-i-preserved c =
+pub loop-preserved : goal.loop-preserved
+loop-preserved c =
     let s = c.args in
-    let l = c.loop-i in
+    let l = c.loop in
     let find = c.find-at in
     let w = next_within 9 s.line.now l.at l.invariant.0 in
     let e = find.ensures in
     let more = c.if-at-line.false in
-    (omega arith, omega arith, cut_further 9 s.line.now l.at find.result s.k l.i e c.loop-i-test.true (omega arith) ∙ l.invariant.2)
+    (omega arith, omega arith, cut_further 9 s.line.now l.at find.result s.k l.counter e c.loop-test.true (omega arith) ∙ l.invariant.2)
