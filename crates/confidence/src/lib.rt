@@ -19,10 +19,11 @@ fn cost(table: &[u32; 256], c: u8) -> u32
     requires { table.now ≡ all_costs }
     ensures { result ≡ cost_of c }
 {
-    table[c as usize]
+    table[usize::from(c)]
 }
 
-// Writes the cost of each confidence. The table is lent, since a constant array is built anew at each use.
+// Writes the cost of each confidence. The table is lent, since a constant array is built anew at each use
+// (it is `const`, as confidence_table prints it).
 fn write_costs(table: &[u32; 256], confidences: &[u8], costs: &mut [u32]) -> usize
     requires { (table.now ≡ all_costs) × (length confidences.now ≤ length costs.old) }
     ensures { Wrote (map cost_of confidences.now) costs.old costs.new result }

@@ -6,4 +6,4 @@ use Rattle.confidence.proofs.TableLaws.{entry}
 use Rattle.confidence.proofs.cost.Goals as goal
 
 pub returns : goal.returns
-returns c = ap (λ t. get_or t c.args.c 0) c.requires ∙ entry c.args.c (search rules)
+returns c = rw c.from.ensures (ap (λ t. get_or t c.args.c 0) c.requires ∙ entry c.args.c (search rules))
