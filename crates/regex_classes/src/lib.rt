@@ -38,7 +38,7 @@ pub fn is_class(name: &[u8]) -> bool
 fn span_has(span: Span, b: u8) -> bool
     ensures { result ≡ within (as_range span) b }
 {
-    span.0 <= b && b <= span.1
+    (span.0..=span.1).contains(&b)
 }
 
 // Is the byte in this class?
