@@ -114,7 +114,7 @@ impl<'a> Place<'a> {
     fn range_has(self, b: u8) -> bool
         ensures { result ≡ within (range (get_or self.entry.text.now self.entry.at 0) (upto_of (drop self.entry.at self.entry.text.now))) b }
     {
-        self.text[self.at] <= b && b <= self.upto()
+        (self.text[self.at]..=self.upto()).contains(&b)
     }
 
     // Is the byte in the item here?
