@@ -25,10 +25,9 @@ fn put_blanks(column: &Column, from: &States, to: &mut States)
     requires { Within (words column.now) (Has from.now) }
     ensures { Marks (Blanks column.now.costs.now column.now.row.now column.now.left (Has from.now)) to.old to.new }
 {
-    if column.left < column.costs[0] {
+    let Some(left) = column.left.checked_sub(column.costs[0]) else {
         return;
-    }
-    let left = column.left - column.costs[0];
+    };
     for &s in from.listed() {
         let u = (usize::from(s) + 1) / 2 * 2;
         to.put_if(column.row[u] == left, u);
@@ -48,7 +47,8 @@ fn put_lowest(column: &Column, from: &States, near: &mut States)
     }
 }
 
-// The lowest label of the states, if there are any.
+// The lowest label of the states, if there are any. (By a `for`: `map` and `min` were tried, and the proof that the closure may be called
+// on each state did not close.)
 fn lowest(column: &Column, near: &States) -> Option<usize>
     requires { Within (words column.now) (Has near.now) }
     ensures { MatchOption result (IsEmpty near.now) (Lowest (LabelIn (graph column.now) (Has near.now))) }
