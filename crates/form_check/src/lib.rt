@@ -5,7 +5,7 @@ ghost use Rattle.std.specs.Prelude.{◌≡◌, ◌&&◌, true, false, MatchOptio
 ghost use Rattle.lists.specs.Each.{all};
 ghost use Rattle.automaton.specs.Form.{is_head, is_letter, is_arc, ordered, valid_form};
 
-use form_words::Form;
+use form_words::{Form, letters};
 
 // Is the word a head: of 1 to 127 letters, over 1 to 95 characters, with no unnamed bit?
 fn is_head(w: u32) -> bool
@@ -64,12 +64,12 @@ pub fn valid(form: &[u32]) -> bool
     let Some((&head, rest)) = form.split_first() else {
         return false;
     };
-    let l = head % 0x100;
+    let l = letters(form);
     let k = head / 0x10000 % 0x100;
-    if !is_head(head) || rest.len() < l as usize {
+    if !is_head(head) || rest.len() < l {
         return false;
     }
-    are_letters(k, &rest[..l as usize]) && are_arcs(l, &rest[l as usize..])
+    are_letters(k, &rest[..l]) && are_arcs(head % 0x100, &rest[l..])
 }
 
 // The list as a form, if it is a valid one.

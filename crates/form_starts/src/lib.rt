@@ -28,7 +28,7 @@ fn skip_below(form: Form, n: usize, i: usize) -> usize
 }
 
 // Where each letter's arcs start.
-fn arc_starts(form: Form) -> [usize; 129]
+pub fn arc_starts(form: Form) -> [usize; 129]
     ensures { ArcStarts form.entry.words.now result }
 {
     let mut starts = [0; 129];

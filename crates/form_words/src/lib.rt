@@ -6,6 +6,22 @@ ghost use Rattle.automaton.specs.Form.{source as source_of, target as target_of,
 ghost use Rattle.automaton.specs.Valid.{Valid};
 ghost use Rattle.form_words.specs.Unique.{valid-prop};
 
+// L, the number of letters, as the head of any list says it.
+pub fn letters(form: &[u32]) -> usize
+    requires { 0 < length form.now }
+    ensures { result ≡ letters_of form.now }
+{
+    (form[0] % 0x100) as usize
+}
+
+// The label of letter j, as the word at j of any list says it.
+pub fn label(form: &[u32], j: usize) -> usize
+    requires { j < length form.now }
+    ensures { result ≡ label_of form.now j }
+{
+    (form[j] % 0x100) as usize
+}
+
 // The words of a valid form.
 #[derive(Clone, Copy)]
 pub struct Form<'a> {
@@ -33,7 +49,7 @@ impl<'a> Form<'a> {
     pub fn letters(self) -> usize
         ensures { result ≡ letters_of self.entry.words.now }
     {
-        (self.words[0] % 0x100) as usize
+        letters(self.words)
     }
 
     // K, the size of the alphabet.
@@ -48,7 +64,7 @@ impl<'a> Form<'a> {
         requires { j < length self.words.now }
         ensures { result ≡ label_of self.entry.words.now j }
     {
-        (self.words[j] % 0x100) as usize
+        label(self.words, j)
     }
 
     // May letter j be first?

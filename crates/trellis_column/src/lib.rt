@@ -43,7 +43,7 @@ fn put_lowest(column: &Column, from: &States, near: &mut States)
 {
     put_blanks(column, from, near);
     if near.is_empty() {
-        column.put_kept(from, near);
+        column.put_kept(from.listed(), near);
     }
 }
 

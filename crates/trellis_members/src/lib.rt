@@ -2,7 +2,7 @@
 // so that the place after its last member can always be written.
 #![tactic(auto)]
 
-ghost use Rattle.std.specs.Prelude.{◌<◌, List, Bool, MatchBool, ℕ};
+ghost use Rattle.std.specs.Prelude.{◌≡◌, ◌<◌, List, Bool, MatchBool, ℕ};
 ghost use Rattle.lists.specs.Marks.{Has, Marks};
 ghost use Rattle.trellis_members.specs.Members.{Members, Lists, IsEmpty, JustIf};
 
@@ -26,15 +26,19 @@ impl Model for States {
 }
 
 impl States {
+    // The set whose members are the first `count` of the list, each of them once.
+    pub fn from_parts(set: [bool; 255], list: [u8; 256], count: usize) -> States
+        requires { Members set list count }
+        ensures { result ≡ set }
+    {
+        States { set, list, count }
+    }
+
     // No state.
     pub fn new() -> States
         ensures { IsEmpty result }
     {
-        States {
-            set: [false; 255],
-            list: [0; 256],
-            count: 0,
-        }
+        States::from_parts([false; 255], [0; 256], 0)
     }
 
     pub fn is_empty(&self) -> bool

@@ -5,3 +5,4 @@ pub mod LookupsLaws
 pub mod Places
 pub mod PlacesLaws
 pub mod PlacesLoops
+pub mod Unique

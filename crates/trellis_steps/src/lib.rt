@@ -3,7 +3,7 @@
 #![tactic(auto)]
 
 ghost use Rattle.std.specs.Prelude.{◌≡◌, true, ◌↔◌, ◌+◌, ◌*◌, ◌<◌, ◌≤◌, length};
-ghost use Rattle.lists.specs.Marks.{Has, Marks, Iterations};
+ghost use Rattle.lists.specs.Marks.{Marks, Iterations, Listed};
 ghost use Rattle.automaton.specs.Form.{letters_of, alphabet_of, view};
 ghost use Rattle.trellis.specs.Reached.{entering as entering_of, Reached};
 ghost use Rattle.trellis_steps.specs.Steps.{ColumnReady, Within, AddUp};
@@ -11,7 +11,19 @@ ghost use Rattle.trellis_steps.specs.Steps.{Onto, OtherLetter, Led, Following, T
 ghost use Rattle.trellis_steps.specs.Unique.{ready-prop};
 
 use form_starts::Arcs;
+use form_words::label;
 use trellis_members::States;
+
+// The label of every step into state u: the blank, or that of its letter.
+pub fn entering(form: &[u32], u: usize) -> usize
+    requires { (letters_of form.now < length form.now) × (u ≤ 2 * letters_of form.now) }
+    ensures { result ≡ entering_of (view form.now) u }
+{
+    if u % 2 == 0 {
+        return 0;
+    }
+    label(form, (u + 1) / 2)
+}
 
 // A column of the trace: the form with its arcs, the column's costs, the costs to go of the next column, and what is left to pay.
 #[derive(Clone, Copy)]
@@ -26,15 +38,13 @@ pub struct Column<'a> {
 impl<'a> Column<'a> {
     ghost use Rattle.trellis_steps.specs.Kept.{words, graph, Kept, KeptIf};
 
-    // The label of every step into state u: the blank, or that of its letter.
+    // The label of every step into state u of the column's form.
     pub fn entering(&self, u: usize) -> usize
         requires { u ≤ 2 * letters_of (words self.now) }
         ensures { result ≡ entering_of (graph self.now) u }
     {
-        if u % 2 == 0 {
-            return 0;
-        }
-        self.arcs.form.label((u + 1) / 2)
+        let form = self.arcs.form;
+        entering(form.words, u)
     }
 
     // Do the cost of label x and the cost to go of state u add up to what is left?
@@ -121,13 +131,13 @@ impl<'a> Column<'a> {
         self.put_after(own, i, to);
     }
 
-    // Puts the kept states that a step from the states of `from` leads to.
+    // Puts the kept states that a step from the states of the list leads to.
     #[tactic(auto, using(crate::specs::Loops::kept_iterations_none, crate::specs::Loops::kept_iterations_more))]
-    pub fn put_kept(&self, from: &States, to: &mut States)
-        requires { Within (words self.now) (Has from.now) }
-        ensures { Marks (Kept self.now (Reached (graph self.now) (Has from.now))) to.old to.new }
+    pub fn put_kept(&self, from: &[u8], to: &mut States)
+        requires { Within (words self.now) (Listed from.now (length from.now)) }
+        ensures { Marks (Kept self.now (Reached (graph self.now) (Listed from.now (length from.now)))) to.old to.new }
     {
-        for &s in from.listed() {
+        for &s in from {
             self.put_steps(usize::from(s), to);
         }
     }

@@ -5,4 +5,4 @@ use Rattle.trellis_steps.specs.Kept.{graph, Kept}
 use Rattle.trellis_steps.proofs.Column.put_kept.Given as goal
 
 abbrev pub invariant-loop-s : goal.invariant-loop-s
-invariant-loop-s l = Marks (Kept l.self (Iterations (From (graph l.self) l.s-items) 0 l.s-index)) l.initial.to l.to
+invariant-loop-s l = Marks (Kept l.self (Iterations (From (graph l.self) l.from) 0 l.s-index)) l.initial.to l.to
