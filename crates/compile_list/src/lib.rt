@@ -15,27 +15,27 @@ use refusal::Refusal;
 use wordlist_build::build;
 use wordlist_lines::{are_list_bytes, has_fault, has_strange};
 
-// Which letters follow the letters of this head: those whose parent it is. (Here and below by a `for`: an array's `map` was tried, and its
+// Which of the letters follow those of this head: those whose parent it is. (Here and below by a `for`: an array's `map` was tried, and its
 // clause gives a call at some state of the closure.)
-fn row_after(parents: &[u8; 127], head: u8) -> [bool; 127]
-    ensures { RowAfter 127 parents.now head result }
+fn row_after(letters: usize, parents: &[u8; 127], head: u8) -> [bool; 127]
+    requires { letters ≤ 127 }
+    ensures { RowAfter letters parents.now head result }
 {
     let mut row = [false; 127];
-    for (i, &parent) in parents.iter().enumerate() {
+    for (i, &parent) in parents[..letters].iter().enumerate() {
         row[i] = parent == head;
     }
     row
 }
 
-// For each letter those that follow it.
-fn rows_after(parents: &[u8; 127], heads: &[u8; 127]) -> [[bool; 127]; 127]
-    ensures { RowsAfter 127 parents.now heads.now result }
+// For each letter those that follow it, into the rows.
+fn rows_after(letters: usize, parents: &[u8; 127], heads: &[u8; 127], rows: &mut [[bool; 127]; 127])
+    requires { letters ≤ 127 }
+    ensures { RowsAfter letters parents.now heads.now rows.new }
 {
-    let mut rows = [[false; 127]; 127];
-    for (i, &head) in heads.iter().enumerate() {
-        rows[i] = row_after(parents, head);
+    for (i, &head) in heads[..letters].iter().enumerate() {
+        rows[i] = row_after(letters, parents, head);
     }
-    rows
 }
 
 // Writes the form of a list that refusals 1, 2, 3, 21 and 8 do not turn away: its arcs are known, as an array of arrays, before the first
@@ -48,8 +48,9 @@ fn write(alphabet: &[u8], list: &[u8], form: &mut [u32]) -> Result<usize, Refusa
     if 127 < trie.letters {
         return Err(Refusal::Letters);
     }
-    let first = row_after(&trie.parents, 0);
-    let follow = rows_after(&trie.parents, &trie.heads);
+    let first = row_after(trie.letters, &trie.parents, 0);
+    let mut follow = [[false; 127]; 127];
+    rows_after(trie.letters, &trie.parents, &trie.heads, &mut follow);
     let arrays = Arrays {
         alphabet: alphabet.len(),
         letters: trie.letters,

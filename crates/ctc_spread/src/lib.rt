@@ -13,14 +13,19 @@ ghost use Rattle.ctc_spread.specs.Spaced.{spaced};
 use ctc_labels::has_fault;
 use refusal::Refusal;
 
-// How many pairs of equal neighbours a word has.
+// How many pairs of equal neighbours a word has. (By a `for` over places: it compiles to vector code, a chain of `filter` and `count` does
+// not.)
 fn count_pairs(word: &[u8]) -> usize
     ensures { result ≡ pairs word.now }
 {
-    word.iter()
-        .zip(word.iter().skip(1))
-        .filter(|(a, b)| a == b)
-        .count()
+    let mut n = 0;
+    for i in 0..word.len().saturating_sub(1) {
+        let equal = word[i] == word[i + 1];
+        if equal {
+            n += 1;
+        }
+    }
+    n
 }
 
 // Stores letter x, which comes after letter a, at place n of the path, after a blank if they are equal; returns the next place.

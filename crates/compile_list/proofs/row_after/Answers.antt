@@ -1,5 +1,5 @@
 -- `compile_list::row_after` meets its contract: the letters before i are done.
-use Rattle.std.proofs.Common.{false, refl, replicate, arith}
+use Rattle.std.proofs.Common.{false, ap, eqb, replicate, arith, get_or-take}
 use Rattle.lists.proofs.UptoLoops.{upto_none, upto_set}
 use Rattle.compile_list.specs.FollowRows.{Follows}
 use Rattle.compile_list.proofs.row_after.Goals as goal
@@ -13,7 +13,9 @@ bounds-row-i c = let s = c.loop-i.invariant.size in omega arith
 pub loop-i-preserved : goal.loop-i-preserved
 loop-i-preserved c =
     let l = c.loop-i in
-    upto_set false (Follows c.args.parents.now c.args.head) (replicate 127 false) l.i l.row _ (omega arith) l.invariant refl
+    let ps = c.args.parents.now in
+    upto_set false (Follows ps c.args.head) (replicate 127 false) l.i l.row _ (omega arith) l.invariant
+    (ap (λ p. eqb p c.args.head) (get_or-take c.args.letters ps l.i 0 (omega arith)))
 
 pub returns : goal.returns
 returns c =

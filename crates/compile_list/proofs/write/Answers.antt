@@ -6,7 +6,6 @@ use Rattle.refusal.specs.Fills.{reported, Fills}
 use Rattle.refusal.proofs.ReportLaws.{fills_refused}
 use Rattle.wordlist.specs.Words.{words}
 use Rattle.compile_list.specs.Call.{formed}
-use Rattle.compile_list.specs.FollowRows.{row_fewer, rows_fewer}
 use Rattle.compile_list.proofs.WrittenLaws.{too_many, written_form}
 use Rattle.compile_list.proofs.write.Goals as goal
 
@@ -25,7 +24,6 @@ returns c =
     let m = c.args.form.now in
     let t = c.build-trie in
     let f = c.write_form in
-    let first = row_fewer t.result.letters t.result.parents 0 c.row_after-first.result c.if-trie-gt127.false c.row_after-first.ensures in
-    let follow = rows_fewer t.result.letters t.result.parents t.result.heads c.rows_after-follow.result c.if-trie-gt127.false c.rows_after-follow.ensures in
     subst (λ v. Fills v (reported f.result) m f.new.form)
-    (written_form A s c.requires.1 t.result t.ensures (length m) c.if-trie-gt127.false c.row_after-first.result c.rows_after-follow.result first follow) f.ensures
+    (written_form A s c.requires.1 t.result t.ensures (length m) c.if-trie-gt127.false c.row_after-first.result c.rows_after.new.rows c.row_after-first.ensures
+    c.rows_after.ensures) f.ensures

@@ -1,17 +1,20 @@
--- `ctc_spread::count_pairs` meets its contract: what the chain counts are the neighbours that are equal.
-use Rattle.std.proofs.Common.{rules, sym, ◌∙◌, drop, eqb}
-use Rattle.std.specs.List.{zip}
-use Rattle.std.proofs.lemmas.Iterator.{YieldsList-from_slice, YieldsList-from_zip}
-use Rattle.std.proofs.lemmas.Iterator.Adapters.{YieldsList-from_skip}
-use Rattle.std.proofs.lemmas.Iterator.Consumers.{YieldsList-from_filter, count_from_yields_List}
-use Rattle.std.proofs.lemmas.List.Sums.{length-filter}
-use borrow.Author.Tests.{tests}
-use Rattle.ctc_spread.proofs.Loops.{pairs_counted}
+-- `ctc_spread::count_pairs` meets its contract: the pairs counted and those of the rest make the whole.
+use Rattle.std.proofs.Common.{◌+◌, get_or, arith, eq-eqb, ne_eqb}
+use Rattle.ctc_spread.proofs.Loops.{pairs_step, pairs_end}
 use Rattle.ctc_spread.proofs.count_pairs.Goals as goal
+use Rattle.ctc_spread.proofs.count_pairs.Goals.{then-equal, else-equal}
+
+pub loop-i-preserved : goal.loop-i-preserved
+loop-i-preserved c =
+    let w = c.args.word.now in
+    let i = c.loop-i.i in
+    let a = get_or w i 0 in
+    let b = get_or w (i + 1) 0 in
+    let t = pairs_step w i (omega arith) in
+    elim c.if-equal.branch [
+      | then-equal q ↦ let u = rw (eq-eqb a b q.if-equal.true) at t in let e = q.n-is in (omega arith, omega arith)
+      | else-equal q ↦ let u = rw (ne_eqb a b q.if-equal.false) at t in let e = q.n-is in (omega arith, omega arith)
+    ]
 
 pub returns : goal.returns
-returns c =
-    let w = c.args.word.now in
-    count_from_yields_List c.filter.result c.count.result c.count.ensures.ran
-    (YieldsList-from_filter _ (λ p. eqb p.0 p.1) (YieldsList-from_zip (YieldsList-from_slice w (cc)) (YieldsList-from_skip 1 (YieldsList-from_slice w (cc)) (cc))) (cc) (λ x b q k. search (rules, tests)))
-    ∙ length-filter (λ p. eqb p.0 p.1) (zip w (drop 1 w)) ∙ sym (pairs_counted w)
+returns c = let z = pairs_end c.args.word.now c.loop-i.i (omega arith) in omega arith
